@@ -1,0 +1,167 @@
+// Bits of document 01's "The component code": "Bits go high bit first." Reading a bit, a run of ones, a number of n bits and a GR
+// number at a place, and writing them with a pen. Each contract is one equation with a definition of specs/Bits or a record of specs/Pen.
+ghost use mathlib.Core.Path.{_≡_};
+ghost use Prim.Native.Nat.{ℕ, _+_, _*_, _<_, _≤_};
+ghost use lib.ListN.{length, getD, drop, replicate};
+ghost use mathlib.Core.Bool.{true, false};
+ghost use mathlib.Core.List.{_++_, _∷_, []};
+ghost use Rattle.bits.specs.Bits.{odd, val, bitsOf, numBits, grBits, onesOf, numOf, grOf};
+ghost use Rattle.bits.specs.Pen.{Ready, Put, Closed};
+ghost use Rattle.bits.specs.GrLaws.{grLen};
+
+// What reading a number finds: the number and the place of the bit past it, or too few bits.
+pub enum Num {
+    Got(usize, usize),
+    Cut,
+}
+
+// The next byte's place, the bits that wait for it as a number, and how many they are.
+pub struct Pen {
+    pub at: usize,
+    pub acc: usize,
+    pub n: usize,
+}
+
+// The bit at place `at`.
+pub fn bit(s: &[u8], at: usize) -> bool
+    requires { ⌜ at < 8 * length (now s) ⌝ }
+    ensures { λ r. ⌜ r ≡ getD (bitsOf (now (s .entry))) at false ⌝ }
+{
+    (s[at / 8] >> (7 - at % 8)) % 2 == 1
+}
+
+// The bit at place `at`, as a number.
+pub fn digit(s: &[u8], at: usize) -> usize
+    requires { ⌜ at < 8 * length (now s) ⌝ }
+    ensures { λ r. ⌜ r ≡ val (getD (bitsOf (now (s .entry))) at false) ⌝ }
+{
+    ((s[at / 8] >> (7 - at % 8)) % 2) as usize
+}
+
+// The ones from place `from` on, and the place past the zero after them.
+pub fn ones(s: &[u8], from: usize) -> Num
+    requires { ⌜ length (now s) ≤ 65535 ⌝ }
+    ensures { λ r. ⌜ r ≡ onesOf 0 from (drop from (bitsOf (now (s .entry)))) ⌝ }
+{
+    let mut v: usize = 0;
+    let mut at = from;
+    while at < s.len() * 8 {
+        if bit(s, at) {
+            v += 1;
+            at += 1;
+        } else {
+            return Num::Got(v, at + 1);
+        }
+    }
+    Num::Cut
+}
+
+// The k bits from place `from` on, as a number.
+pub fn number(s: &[u8], from: usize, k: usize) -> Num
+    requires { ⌜ (length (now s) ≤ 65535) × (k ≤ 32) ⌝ }
+    ensures { λ r. ⌜ r ≡ numOf k 0 from (drop from (bitsOf (now (s .entry)))) ⌝ }
+{
+    let mut n: usize = 0;
+    let mut at = from;
+    let mut left = k;
+    while 0 < left {
+        if s.len() * 8 <= at {
+            return Num::Cut;
+        }
+        n = n * 2 + digit(s, at);
+        at += 1;
+        left -= 1;
+    }
+    Num::Got(n, at)
+}
+
+// A GR number: v ones, a zero, k bits b; it is v * 2^k + b.
+pub fn golomb(s: &[u8], from: usize, k: usize) -> Num
+    requires { ⌜ (length (now s) ≤ 65535) × (k ≤ 10) ⌝ }
+    ensures { λ r. ⌜ r ≡ grOf k from (bitsOf (now (s .entry))) ⌝ }
+{
+    match ones(s, from) {
+        Num::Cut => Num::Cut,
+        Num::Got(v, at) => match number(s, at, k) {
+            Num::Cut => Num::Cut,
+            Num::Got(b, next) => Num::Got((v << k) + b, next),
+        },
+    }
+}
+
+// Appends one bit.
+pub fn put_bit(out: &mut [u8], p: Pen, b: usize) -> Pen
+    requires { ⌜ Ready (length (now out)) p 1 × (b < 2) ⌝ }
+    ensures { λ r. ⌜ Put (now (out .entry)) p (now (out .exit)) r (odd b ∷ []) ⌝ }
+{
+    let at = p.at;
+    let acc = p.acc * 2 + b;
+    let n = p.n + 1;
+    if n < 8 {
+        return Pen {
+            at: at,
+            acc: acc,
+            n: n,
+        };
+    }
+    out[at] = (acc % 256) as u8;
+    Pen {
+        at: at + 1,
+        acc: 0,
+        n: 0,
+    }
+}
+
+// Appends the k low bits of v.
+pub fn put_bits(out: &mut [u8], p: Pen, k: usize, v: usize) -> Pen
+    requires { ⌜ Ready (length (now out)) p k × (k ≤ 32) ⌝ }
+    ensures { λ r. ⌜ Put (now (out .entry)) p (now (out .exit)) r (numBits k v) ⌝ }
+{
+    let mut q = p;
+    let mut left = k;
+    while 0 < left {
+        left -= 1;
+        q = put_bit(out, q, (v >> left) % 2);
+    }
+    q
+}
+
+// Appends v ones.
+pub fn put_ones(out: &mut [u8], p: Pen, v: usize) -> Pen
+    requires { ⌜ Ready (length (now out)) p v ⌝ }
+    ensures { λ r. ⌜ Put (now (out .entry)) p (now (out .exit)) r (replicate v true) ⌝ }
+{
+    let mut q = p;
+    let mut left = v;
+    while 0 < left {
+        q = put_bit(out, q, 1);
+        left -= 1;
+    }
+    q
+}
+
+// Appends the GR number n.
+pub fn put_gr(out: &mut [u8], p: Pen, k: usize, n: usize) -> Pen
+    requires { ⌜ Ready (length (now out)) p (grLen k n) × (k ≤ 10) ⌝ }
+    ensures { λ r. ⌜ Put (now (out .entry)) p (now (out .exit)) r (grBits k n) ⌝ }
+{
+    let v = n >> k;
+    let low = n % (1usize << k);
+    let q = put_ones(out, p, v);
+    put_bits(out, q, k + 1, low)
+}
+
+// The last byte, filled up with zero bits. The answer is how many bytes there are.
+pub fn finish(out: &mut [u8], p: Pen) -> usize
+    requires { ⌜ Ready (length (now out)) p 0 ⌝ }
+    ensures { λ r. ⌜ Closed (now (out .entry)) p (now (out .exit)) r ⌝ }
+{
+    let at = p.at;
+    let acc = p.acc;
+    let n = p.n;
+    if n == 0 {
+        return at;
+    }
+    out[at] = ((acc << (8 - n)) % 256) as u8;
+    at + 1
+}
