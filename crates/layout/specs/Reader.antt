@@ -1,0 +1,196 @@
+-- A frame as its reader takes it: the first fault, and the tiles.
+use Prim.Native.Nat.{ℕ, zero, suc, _+_, _*_, _-_, _/_, _%_, _<_, _≤_}
+use mathlib.Core.Bool.{Bool, true, false}
+use mathlib.Core.List.{List, [], _∷_, _++_}
+use lib.ListN.{length, getD, take, drop}
+use lib.Dec.{ltb, leb, eqb}
+use Rattle.wire.specs.Le.{le16, le32}
+use Rattle.wire.specs.Row.{_!_⨾_, _⇒_∣_, _⨟_}
+use Rattle.layout.specs.Frame.{Tile}
+
+-- a head on plain numbers: its kind, its size against the layout (a test and its outcome), the room there
+unfoldable pub headJudge : ℕ → ℕ → Bool → ℕ → ℕ → ℕ
+headJudge kind is sizeGood size room =
+    eqb is kind ! 3 ⨾
+    sizeGood ! 4 ⨾
+    leb size room ! 1 ⨾
+    0
+
+-- the size that a block's head says
+unfoldable pub sizeAt : List ℕ → ℕ → ℕ
+sizeAt m at = le32 m (at + 2)
+
+-- head of a block of fixed size, and of one of a least size
+unfoldable pub fixedHead : ℕ → ℕ → List ℕ → ℕ → ℕ
+fixedHead kind size m at =
+    leb 6 (length m - at) ! 1 ⨾
+    headJudge kind (le16 m at) (eqb (sizeAt m at) size) (sizeAt m at) (length m - at)
+
+unfoldable pub leastHead : ℕ → ℕ → List ℕ → ℕ → ℕ
+leastHead kind least m at =
+    leb 6 (length m - at) ! 1 ⨾
+    headJudge kind (le16 m at) (leb least (sizeAt m at)) (sizeAt m at) (length m - at)
+
+unfoldable pub codecJudge : ℕ → ℕ → ℕ
+codecJudge codec channel =
+    eqb codec 1 ! 5 ⨾
+    eqb channel 0 ! 5 ⨾
+    0
+
+unfoldable pub codecFault : List ℕ → ℕ → ℕ
+codecFault m at = codecJudge (getD m (at + 6) 0) (getD m (at + 7) 0)
+
+unfoldable pub beginJudge : ℕ → ℕ
+beginJudge regions = eqb regions 1 ! 5 ⨾ 0
+
+unfoldable pub beginFault : List ℕ → ℕ → ℕ
+beginFault m at = fixedHead 0xCCC4 14 m at ⨟ codecFault m at ⨟ beginJudge (le16 m (at + 12))
+
+-- flags and count against the size
+unfoldable pub regionJudge : ℕ → ℕ → ℕ → ℕ
+regionJudge flags n size =
+    eqb (flags % 2) 1 ! 5 ⨾
+    leb n 256 ! 6 ⨾
+    eqb size (15 + 8 * n) ! 4 ⨾
+    0
+
+unfoldable pub lastJudge : ℕ → ℕ → ℕ
+lastJudge type sets =
+    eqb type 0xCAC1 ! 5 ⨾
+    eqb sets 1 ! 5 ⨾
+    0
+
+unfoldable pub rectCount : List ℕ → ℕ → ℕ
+rectCount m at = le16 m (at + 9)
+
+unfoldable pub regionFault : List ℕ → ℕ → ℕ
+regionFault m at =
+    leastHead 0xCCC6 15 m at ⨟
+    codecFault m at ⨟
+    regionJudge (getD m (at + 8) 0) (rectCount m at) (sizeAt m at) ⨟
+    lastJudge (le16 m (at + (11 + 8 * rectCount m at))) (le16 m (at + (13 + 8 * rectCount m at)))
+
+unfoldable pub propsGood : ℕ → ℕ → Bool
+propsGood et p =
+    eqb (p % 2) 1 ! false ⨾
+    eqb (p / 16 % 4) 1 ! false ⨾
+    eqb (p / 64 % 16) 1 ! false ⨾
+    eqb (p / 1024 % 16) et ! false ⨾
+    eqb (p / 16384) 1
+
+unfoldable pub setJudge : ℕ → ℕ → ℕ → ℕ → ℕ → ℕ → ℕ → ℕ → ℕ → ℕ
+setJudge et size subtype idx props q side n bytes =
+    eqb subtype 0xCAC2 ! 5 ⨾
+    eqb idx 0 ! 5 ⨾
+    propsGood et props ! 5 ⨾
+    eqb side 64 ! 5 ⨾
+    leb n 2048 ! 6 ⨾
+    eqb size (22 + 5 * q + bytes) ! 4 ⨾
+    0
+
+unfoldable pub halvesFault : ℕ → ℕ
+halvesFault b =
+    leb 6 (b % 16) ! 7 ⨾
+    leb 6 (b / 16) ! 7 ⨾
+    leb (b / 16) 15 ! 7 ⨾
+    0
+
+-- k bytes of quantisers
+unfoldable pub quantsFault : List ℕ → ℕ → ℕ → ℕ
+quantsFault m zero at = 0
+quantsFault m (suc k) at = halvesFault (getD m at 0) ⨟ quantsFault m k (at + 1)
+
+-- the counts of a tileset
+unfoldable pub quantCount : List ℕ → ℕ → ℕ
+quantCount m at = getD m (at + 14) 0
+
+unfoldable pub tileCount : List ℕ → ℕ → ℕ
+tileCount m at = le16 m (at + 16)
+
+unfoldable pub dataSize : List ℕ → ℕ → ℕ
+dataSize m at = le32 m (at + 18)
+
+-- the j-th quantiser set of a tileset, five bytes
+unfoldable pub quantAt : List ℕ → ℕ → ℕ → List ℕ
+quantAt m at j = take 5 (drop (at + (22 + 5 * j)) m)
+
+-- the tileset's own data
+unfoldable pub dataOf : List ℕ → ℕ → List ℕ
+dataOf m at = take (dataSize m at) (drop (at + (22 + 5 * quantCount m at)) m)
+
+-- ---- tiles: d is the tileset's own data
+
+-- lengths, indices, place
+unfoldable pub bodyJudge : ℕ → ℕ → ℕ → ℕ → ℕ → ℕ → ℕ → ℕ → ℕ → ℕ → ℕ → ℕ → ℕ
+bodyJudge w h q size ly lcb lcr qy qcb qcr x y =
+    eqb size (19 + ly + lcb + lcr) ! 4 ⨾
+    ltb qy q ! 7 ⨾
+    ltb qcb q ! 7 ⨾
+    ltb qcr q ! 7 ⨾
+    ltb (64 * x) w ! 8 ⨾
+    ltb (64 * y) h ! 8 ⨾
+    0
+
+-- the tile at a place, as the reader takes it
+unfoldable pub tileAt : List ℕ → ℕ → Tile
+tileAt d at = record {
+  qy = getD d (at + 6) 0;
+  qcb = getD d (at + 7) 0;
+  qcr = getD d (at + 8) 0;
+  x = le16 d (at + 9);
+  y = le16 d (at + 11);
+  ys = take (le16 d (at + 13)) (drop (at + 19) d);
+  cbs = take (le16 d (at + 15)) (drop (at + 19 + le16 d (at + 13)) d);
+  crs = take (le16 d (at + 17)) (drop (at + 19 + le16 d (at + 13) + le16 d (at + 15)) d);
+}
+
+-- the codes of a tile, by a judge of a quantiser set's number and a code
+unfoldable pub codesFault : (ℕ → List ℕ → ℕ) → Tile → ℕ
+codesFault judge t = judge (t .qy) (t .ys) ⨟ judge (t .qcb) (t .cbs) ⨟ judge (t .qcr) (t .crs)
+
+unfoldable pub tileFault : (ℕ → List ℕ → ℕ) → ℕ → ℕ → ℕ → List ℕ → ℕ → ℕ
+tileFault judge w h q d at =
+    leastHead 0xCAC3 19 d at ⨟
+    bodyJudge w h q (sizeAt d at) (le16 d (at + 13)) (le16 d (at + 15)) (le16 d (at + 17)) (getD d (at + 6) 0) (getD d (at + 7) 0) (getD d (at + 8) 0)
+    (le16 d (at + 9)) (le16 d (at + 11)) ⨟
+    codesFault judge (tileAt d at)
+
+-- n tiles from a place on; data left after the last is a fault
+unfoldable pub tilesFault : (ℕ → List ℕ → ℕ) → ℕ → ℕ → ℕ → List ℕ → ℕ → ℕ → ℕ
+tilesFault judge w h q d zero at = eqb at (length d) ! 4 ⨾ 0
+tilesFault judge w h q d (suc n) at = tileFault judge w h q d at ⨟ tilesFault judge w h q d n (at + sizeAt d at)
+
+-- the tiles themselves, in message order: what is drawn is a fold over this list
+unfoldable pub tilesIn : List ℕ → ℕ → ℕ → List Tile
+tilesIn d zero at = []
+tilesIn d (suc n) at = tileAt d at ∷ tilesIn d n (at + sizeAt d at)
+
+-- ---- the frame; comp judges a component: mode, quantiser set, code
+
+unfoldable pub setFault : (ℕ → List ℕ → List ℕ → ℕ) → ℕ → ℕ → ℕ → List ℕ → ℕ → ℕ
+setFault comp w h et m at =
+    leastHead 0xCCC7 22 m at ⨟
+    codecFault m at ⨟
+    setJudge et (sizeAt m at) (le16 m (at + 8)) (le16 m (at + 10)) (le16 m (at + 12)) (quantCount m at) (getD m (at + 15) 0) (tileCount m at) (dataSize m at) ⨟
+    quantsFault m (5 * quantCount m at) (at + 22) ⨟
+    tilesFault (λ j code. comp et (quantAt m at j) code) w h (quantCount m at) (dataOf m at) (tileCount m at) 0
+
+unfoldable pub endFault : List ℕ → ℕ → ℕ
+endFault m at = fixedHead 0xCCC5 8 m at ⨟ codecFault m at ⨟ (eqb (length m) (at + 8) ! 4 ⨾ 0)
+
+-- the places of the blocks
+unfoldable pub setPlace : List ℕ → ℕ
+setPlace m = 14 + sizeAt m 14
+
+unfoldable pub endPlace : List ℕ → ℕ
+endPlace m = setPlace m + sizeAt m (setPlace m)
+
+unfoldable pub frameFault : (ℕ → List ℕ → List ℕ → ℕ) → ℕ → ℕ → ℕ → List ℕ → ℕ
+frameFault comp w h et m =
+    beginFault m 0 ⨟
+    regionFault m 14 ⨟
+    setFault comp w h et m (setPlace m) ⨟
+    endFault m (endPlace m)
+
+unfoldable pub frameTiles : List ℕ → List Tile
+frameTiles m = tilesIn (dataOf m (setPlace m)) (tileCount m (setPlace m)) 0
