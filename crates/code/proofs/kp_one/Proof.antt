@@ -1,0 +1,28 @@
+use mathlib.Core.Path.{sym, _∙_}
+use Rattle.code.specs.Steps.{kp-zero, kp-some}
+use borrow.Author.Needs.{needs}
+use Rattle.code.proofs.kp_one.Statement.{statement}
+use Rattle.code.proofs.kp_one.Tie as tie
+use Rattle.code.proofs.kp_one.Reads as reads
+use Rattle.code.proofs.kp_one.Lts as lts
+use Rattle.code.proofs.less.Reads as less-reads
+use Rattle.code.proofs.more.Reads as more-reads
+
+-- src/lib.rt:63:17
+more-requires : tie.Need-more-requires
+more-requires c κs = search needs
+
+-- src/lib.rt:63:38
+less-requires : tie.Need-less-requires
+less-requires c κs = search needs
+
+-- src/lib.rt:59:1
+returns : tie.Need-returns
+returns c = c .more .ensures ∙ sym (kp-zero _ _ (c .before .if1 .taken))
+
+-- src/lib.rt:59:1
+returns-2 : tie.Need-returns-2
+returns-2 c = c .less .ensures ∙ sym (kp-some _ _ (c .before .if1 .left))
+
+pub kp-one-spec : {M : Type 1} → statement M
+kp-one-spec = tie.close (tie.spec more-requires less-requires returns returns-2)

@@ -1,0 +1,9 @@
+pub mod Fold
+pub mod FoldLaws
+pub mod Code
+pub mod CodeLaws
+pub mod Read
+pub mod There
+pub mod Taken
+pub mod Laws
+pub mod Steps
