@@ -1,4 +1,6 @@
--- A frame as its reader takes it: the first fault, and the tiles.
+-- A frame as its reader takes it: the first fault, in 01's order, and the tiles. Numbers are 01's; 0 is none.
+-- 01, Order: "Frame call: .. the blocks in wire order: head (1), kind (3), blockLen against its fixed or least size (4), whole block present (1),
+-- fixed fields (5), counts (6), blockLen against counts (4), then the contents."
 use Prim.Native.Nat.{ℕ, zero, suc, _+_, _*_, _-_, _/_, _%_, _<_, _≤_}
 use mathlib.Core.Bool.{Bool, true, false}
 use mathlib.Core.List.{List, [], _∷_, _++_}
@@ -8,7 +10,7 @@ use Rattle.wire.specs.Le.{le16, le32}
 use Rattle.wire.specs.Row.{_!_⨾_, _⇒_∣_, _⨟_}
 use Rattle.layout.specs.Frame.{Tile}
 
--- a head on plain numbers: its kind, its size against the layout (a test and its outcome), the room there
+-- the kind due, the kind there, whether blockLen fits the fixed or least size, blockLen, the bytes there: kind (3), size (4), whole block present (1)
 unfoldable pub headJudge : ℕ → ℕ → Bool → ℕ → ℕ → ℕ
 headJudge kind is sizeGood size room =
     eqb is kind ! 3 ⨾
@@ -20,17 +22,19 @@ headJudge kind is sizeGood size room =
 unfoldable pub sizeAt : List ℕ → ℕ → ℕ
 sizeAt m at = le32 m (at + 2)
 
--- head of a block of fixed size, and of one of a least size
+-- the head of 6 bytes (1), and what it says, of a block of fixed size (begin, end)
 unfoldable pub fixedHead : ℕ → ℕ → List ℕ → ℕ → ℕ
 fixedHead kind size m at =
     leb 6 (length m - at) ! 1 ⨾
     headJudge kind (le16 m at) (eqb (sizeAt m at) size) (sizeAt m at) (length m - at)
 
+-- the same of a block of a least size (region, tileset, tile)
 unfoldable pub leastHead : ℕ → ℕ → List ℕ → ℕ → ℕ
 leastHead kind least m at =
     leb 6 (length m - at) ! 1 ⨾
     headJudge kind (le16 m at) (leb least (sizeAt m at)) (sizeAt m at) (length m - at)
 
+-- "Blocks marked * go on with codecId 1 and channelId: .. 0"
 unfoldable pub codecJudge : ℕ → ℕ → ℕ
 codecJudge codec channel =
     eqb codec 1 ! 5 ⨾
@@ -40,13 +44,14 @@ codecJudge codec channel =
 unfoldable pub codecFault : List ℕ → ℕ → ℕ
 codecFault m at = codecJudge (getD m (at + 6) 0) (getD m (at + 7) 0)
 
+-- frame begin: frameIdx 4 (any), numRegions 2 = 1
 unfoldable pub beginJudge : ℕ → ℕ
 beginJudge regions = eqb regions 1 ! 5 ⨾ 0
 
 unfoldable pub beginFault : List ℕ → ℕ → ℕ
 beginFault m at = fixedHead 0xCCC4 14 m at ⨟ codecFault m at ⨟ beginJudge (le16 m (at + 12))
 
--- flags and count against the size
+-- region: "flags 1 (low bit 1)" (5), over 256 rectangles (6), 15 + 8n (4)
 unfoldable pub regionJudge : ℕ → ℕ → ℕ → ℕ
 regionJudge flags n size =
     eqb (flags % 2) 1 ! 5 ⨾
@@ -54,12 +59,14 @@ regionJudge flags n size =
     eqb size (15 + 8 * n) ! 4 ⨾
     0
 
+-- "A region's type and tilesets fields come last of it (5)"
 unfoldable pub lastJudge : ℕ → ℕ → ℕ
 lastJudge type sets =
     eqb type 0xCAC1 ! 5 ⨾
     eqb sets 1 ! 5 ⨾
     0
 
+-- n, the number of rectangles; they stand from place 11 of the block on, 8 bytes each
 unfoldable pub rectCount : List ℕ → ℕ → ℕ
 rectCount m at = le16 m (at + 9)
 
@@ -70,6 +77,7 @@ regionFault m at =
     regionJudge (getD m (at + 8) 0) (rectCount m at) (sizeAt m at) ⨟
     lastJudge (le16 m (at + (11 + 8 * rectCount m at))) (le16 m (at + (13 + 8 * rectCount m at)))
 
+-- "Tileset: lt 1 = 1, flags 3, cct 2 = 1, xft 4 = 1, et 4 as in the context, qt 2 = 1", from the low bit; flags are not judged
 unfoldable pub propsGood : ℕ → ℕ → Bool
 propsGood et p =
     eqb (p % 2) 1 ! false ⨾
@@ -78,6 +86,7 @@ propsGood et p =
     eqb (p / 1024 % 16) et ! false ⨾
     eqb (p / 16384) 1
 
+-- fixed fields of a tileset in wire order (5), over 2,048 tiles (6), 22 + 5q + data as whole numbers (4)
 unfoldable pub setJudge : ℕ → ℕ → ℕ → ℕ → ℕ → ℕ → ℕ → ℕ → ℕ → ℕ
 setJudge et size subtype idx props q side n bytes =
     eqb subtype 0xCAC2 ! 5 ⨾
@@ -88,6 +97,7 @@ setJudge et size subtype idx props q side n bytes =
     eqb size (22 + 5 * q + bytes) ! 4 ⨾
     0
 
+-- a byte of two quantisers: each 6 to 15 (7)
 unfoldable pub halvesFault : ℕ → ℕ
 halvesFault b =
     leb 6 (b % 16) ! 7 ⨾
@@ -120,7 +130,7 @@ dataOf m at = take (dataSize m at) (drop (at + (22 + 5 * quantCount m at)) m)
 
 -- ---- tiles: d is the tileset's own data
 
--- lengths, indices, place
+-- "blockLen against its lengths (4), indices (7), place (8)"
 unfoldable pub bodyJudge : ℕ → ℕ → ℕ → ℕ → ℕ → ℕ → ℕ → ℕ → ℕ → ℕ → ℕ → ℕ → ℕ
 bodyJudge w h q size ly lcb lcr qy qcb qcr x y =
     eqb size (19 + ly + lcb + lcr) ! 4 ⨾
@@ -144,10 +154,11 @@ tileAt d at = record {
   crs = take (le16 d (at + 17)) (drop (at + 19 + le16 d (at + 13) + le16 d (at + 15)) d);
 }
 
--- the codes of a tile, by a judge of a quantiser set's number and a code
+-- "then Y, Cb, Cr": the codes of a tile, by a judge of a quantiser set's number and a code
 unfoldable pub codesFault : (ℕ → List ℕ → ℕ) → Tile → ℕ
 codesFault judge t = judge (t .qy) (t .ys) ⨟ judge (t .qcb) (t .cbs) ⨟ judge (t .qcr) (t .crs)
 
+-- "then each tile: head, kind, least size 19 and presence in the same order, where only the tileset's own data counts as there"
 unfoldable pub tileFault : (ℕ → List ℕ → ℕ) → ℕ → ℕ → ℕ → List ℕ → ℕ → ℕ
 tileFault judge w h q d at =
     leastHead 0xCAC3 19 d at ⨟
@@ -155,7 +166,7 @@ tileFault judge w h q d at =
     (le16 d (at + 9)) (le16 d (at + 11)) ⨟
     codesFault judge (tileAt d at)
 
--- n tiles from a place on; data left after the last is a fault
+-- n tiles from a place on; "data left after the last tile is 4"
 unfoldable pub tilesFault : (ℕ → List ℕ → ℕ) → ℕ → ℕ → ℕ → List ℕ → ℕ → ℕ → ℕ
 tilesFault judge w h q d zero at = eqb at (length d) ! 4 ⨾ 0
 tilesFault judge w h q d (suc n) at = tileFault judge w h q d at ⨟ tilesFault judge w h q d n (at + sizeAt d at)
@@ -167,6 +178,7 @@ tilesIn d (suc n) at = tileAt d at ∷ tilesIn d n (at + sizeAt d at)
 
 -- ---- the frame; comp judges a component: mode, quantiser set, code
 
+-- the tileset: its head, its fields, "quantisers (7), then each tile"
 unfoldable pub setFault : (ℕ → List ℕ → List ℕ → ℕ) → ℕ → ℕ → ℕ → List ℕ → ℕ → ℕ
 setFault comp w h et m at =
     leastHead 0xCCC7 22 m at ⨟
@@ -175,6 +187,7 @@ setFault comp w h et m at =
     quantsFault m (5 * quantCount m at) (at + 22) ⨟
     tilesFault (λ j code. comp et (quantAt m at j) code) w h (quantCount m at) (dataOf m at) (tileCount m at) 0
 
+-- frame end, "and nothing after" (4)
 unfoldable pub endFault : List ℕ → ℕ → ℕ
 endFault m at = fixedHead 0xCCC5 8 m at ⨟ codecFault m at ⨟ (eqb (length m) (at + 8) ! 4 ⨾ 0)
 
@@ -185,6 +198,7 @@ setPlace m = 14 + sizeAt m 14
 unfoldable pub endPlace : List ℕ → ℕ
 endPlace m = setPlace m + sizeAt m (setPlace m)
 
+-- "A frame is begin, region, tileset, end, and nothing after."
 unfoldable pub frameFault : (ℕ → List ℕ → List ℕ → ℕ) → ℕ → ℕ → ℕ → List ℕ → ℕ
 frameFault comp w h et m =
     beginFault m 0 ⨟
@@ -192,5 +206,6 @@ frameFault comp w h et m =
     setFault comp w h et m (setPlace m) ⨟
     endFault m (endPlace m)
 
+-- the tiles of a frame, in message order
 unfoldable pub frameTiles : List ℕ → List Tile
 frameTiles m = tilesIn (dataOf m (setPlace m)) (tileCount m (setPlace m)) 0
