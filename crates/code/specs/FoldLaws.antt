@@ -1,9 +1,12 @@
 -- Laws of folding, and the forms that the code of folded and unfolded has.
 use Prim.Native.Nat.{ℕ, zero, suc, _+_, _*_, _-_, _/_, _%_, _≤_, _<_, _^_}
-use mathlib.Core.Path.{_≡_, refl, sym, ap, _∙_}
+use mathlib.Core.Path.{_≡_, refl, sym, ap, ap₂, subst, _∙_}
+use mathlib.Core.List.{List, [], _∷_, map}
+use lib.ListN.{getD, List·getD-map}
+use Rattle.code.specs.Code.{InRange}
 use mathlib.Core.Bool.{Bool, true, false}
 use native.Mathlib.Omega.{arith}
-use lib.IntN.{ℤ, pos, negsuc, _-ℤ_, _+ℤ_, negℤ, subℕ}
+use lib.IntN.{ℤ, pos, negsuc, natAbs, _-ℤ_, _+ℤ_, negℤ, subℕ}
 use lib.Dec.{eqb}
 use mir.Syntax.{w32}
 use lib.Signed.{ltZ}
@@ -32,6 +35,37 @@ pub unfold-fold : (z : ℤ) → unfoldZ (foldZ z) ≡ z
 unfolding foldZ
 unfold-fold (pos n) = unfold-even (n * 2) (omega arith) ∙ ap pos (omega arith)
 unfold-fold (negsuc n) = unfold-odd (n * 2 + 1) (λ e. omega arith) ∙ ap negsuc (omega arith)
+
+-- ---- lists
+
+pub map-unfold : (zs : List ℤ) → map unfoldZ (map foldZ zs) ≡ zs
+map-unfold [] = refl
+map-unfold (z ∷ zs) = ap₂ (λ (y : ℤ) (t : List ℤ). y ∷ t) (unfold-fold z) (map-unfold zs)
+
+pub map-fold : (xs : List ℕ) → map foldZ (map unfoldZ xs) ≡ xs
+map-fold [] = refl
+map-fold (x ∷ xs) = ap₂ (λ (y : ℕ) (t : List ℕ). y ∷ t) (fold-unfold x) (map-fold xs)
+
+pub fold-at : (zs : List ℤ) (i : ℕ) → getD (map foldZ zs) i 0 ≡ foldZ (getD zs i (pos 0))
+unfolding foldZ
+fold-at zs i = List·getD-map foldZ zs i (pos 0)
+
+-- from -32,767 to 32,767 is folded from 0 to 65,534; -32,768 is folded 65,535
+pub near-fold : (z : ℤ) → natAbs z ≤ 32767 → foldZ z ≤ 65534
+unfolding foldZ
+near-fold (pos n) h = omega arith
+near-fold (negsuc n) h = omega arith
+
+pub fold-near : (z : ℤ) → foldZ z ≤ 65534 → natAbs z ≤ 32767
+unfolding foldZ
+fold-near (pos n) h = omega arith
+fold-near (negsuc n) h = omega arith
+
+pub range-fold : (zs : List ℤ) → ((i : ℕ) → natAbs (getD zs i (pos 0)) ≤ 32767) → InRange (map foldZ zs)
+range-fold zs h i = subst (λ (n : ℕ). n ≤ 65534) (sym (fold-at zs i)) (near-fold (getD zs i (pos 0)) (h i))
+
+pub fold-range : (zs : List ℤ) → InRange (map foldZ zs) → (i : ℕ) → natAbs (getD zs i (pos 0)) ≤ 32767
+fold-range zs h i = fold-near (getD zs i (pos 0)) (subst (λ (n : ℕ). n ≤ 65534) (fold-at zs i) (h i))
 
 -- -1 - n
 pub minus : (n : ℕ) → negsuc 0 -ℤ pos n ≡ negsuc n

@@ -2,8 +2,7 @@
 use Prim.Native.Nat.{ℕ, zero, suc, _+_, _*_, _-_, _/_, _%_, _^_, _≤_, _<_, min}
 use mathlib.Core.Path.{_≡_, refl, sym, ap, _∙_}
 use native.Mathlib.Omega.{arith}
-use native.Mathlib.Nat.{pow-suc, mod-eq-of-lt}
-use lib.Pow.{pow-mono}
+use native.Mathlib.Nat.{pow-suc}
 use mathlib.Core.Bool.{Bool, true, false}
 use mathlib.Core.List.{List}
 use lib.ListN.{drop}
@@ -176,10 +175,6 @@ run-over kp krp left z s g next h l = rw (le-ltb 32766 g h, le-leb left z l)
 
 pub run-one : (kp krp left z s g next q r : ℕ) → g ≤ 32766 → z < left → q ≡ kp - 6 → r ≡ krAfter krp g → judgeRun kp krp left z s g next ≡ One z (2 * (g + 1) - s) (st next q r)
 run-one kp krp left z s g next q r h l p t = rw (le-ltb 32766 g h, lt-leb left z l, p, t)
-
--- a shift of 1 by at most 10
-pub shift-one : (k : ℕ) → k ≤ 10 → 1 * 2 ^ k % 2 ^ 64 ≡ 2 ^ k
-shift-one k h = let p : 2 ^ k ≤ 1024 = pow-mono {j = 10} h in let e : 1 * 2 ^ k ≡ 2 ^ k = omega arith in rw e (mod-eq-of-lt (omega arith))
 
 -- an element by its mode
 pub elem-low-two : (kp krp left at : ℕ) (B : List Bool) → kp < 8 → elemOf true kp krp left at B ≡ twoElem kp krp left B (grOf (krp / 8) at B)

@@ -9,7 +9,7 @@ ghost use lib.Signed.{mag};
 ghost use Rattle.bits.specs.Bits.{bitsOf, grOf, numOf};
 ghost use Rattle.code.specs.Fold.{foldZ, unfoldZ};
 ghost use Rattle.code.specs.Code.{krAfter, kpOne, kpTwo, up, size};
-ghost use Rattle.code.specs.Read.{oneElem, twoElem, judgeTwo, judgeRun, runFirst, runElem, elemOf};
+ghost use Rattle.code.specs.Read.{refusalNumber, oneElem, twoElem, judgeTwo, judgeRun, runFirst, runElem, elemOf};
 use bits::Num;
 
 // Where a walk through a code stands: the place of the next bit, and the two running parameters.
@@ -40,6 +40,17 @@ pub enum Element {
     One(usize, usize, State),
     Two(usize, usize, State),
     Refused(Refusal),
+}
+
+// 01's number of a refusal.
+pub fn refusal_number(r: Refusal) -> u8
+    ensures { λ n. ⌜ n ≡ refusalNumber r ⌝ }
+{
+    match r {
+        Refusal::Cut => 1,
+        Refusal::Range => 9,
+        Refusal::Overrun => 10,
+    }
 }
 
 // "Even is g/2, odd is -(g+1)/2."

@@ -3,7 +3,8 @@ use native.Mathlib.Omega.{arith}
 use denote.Ref.{now}
 use Prim.Native.Nat.{_/_}
 use Rattle.bits.specs.Bits.{bitsOf}
-use Rattle.code.specs.Steps.{run-cut, run-full, run-some, shift-one}
+use Rattle.code.specs.Steps.{run-cut, run-full, run-some}
+use Rattle.bits.specs.GrLaws.{shift-one}
 use borrow.Author.Needs.{needs}
 use Rattle.code.proofs.run.Statement.{statement}
 use Rattle.code.proofs.run.Tie as tie
