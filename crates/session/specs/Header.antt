@@ -1,0 +1,151 @@
+-- The session record and what a header call answers, in 01's order.
+use Prim.Native.Nat.{ℕ, _+_, _*_, _/_, _%_}
+use mathlib.Core.List.{List, [], _∷_}
+use mathlib.Core.Bool.{Bool, true, false}
+use lib.ListN.{length, getD}
+use lib.Dec.{ltb, leb, eqb}
+use Rattle.wire.specs.Le.{le16, le32}
+use Rattle.wire.specs.Row.{_!_⨾_, _⇒_∣_, _⨟_}
+use Rattle.session.specs.declared.Session.{Session}
+use Rattle.session.specs.declared.HeaderAnswer.{HeaderAnswer}
+
+-- ---- the record: "how many headers are in, width, height, mode (et), all 0 when fresh"
+
+-- "width 1 to 4,096, height 1 to 2,048"
+unfoldable pub sizeGood : ℕ → ℕ → Bool
+sizeGood w h =
+    leb 1 w ! false ⨾
+    leb w 4096 ! false ⨾
+    leb 1 h ! false ⨾
+    leb h 2048
+
+-- "et is 1 (RLGR1) or 4 (RLGR3)"
+unfoldable pub modeGood : ℕ → Bool
+modeGood et = eqb et 1 ⇒ true ∣ eqb et 4
+
+-- could calls have made this record?  "A record that no calls could have made answers 12 wherever one is judged, but takes a good sync"
+unfoldable pub made : ℕ → ℕ → ℕ → ℕ → Bool
+made headers w h mode =
+    ltb headers 3 ⇒ (eqb w 0 ! false ⨾ eqb h 0 ! false ⨾ eqb mode 0) ∣
+    sizeGood w h ! false ⨾
+    eqb headers 3 ⇒ eqb mode 0 ∣
+    eqb headers 4 ! false ⨾
+    modeGood mode
+
+-- all four headers are in: "a frame before all four headers" is 12, and so is a record that no calls could have made
+unfoldable pub ready : Session → Bool
+ready s =
+    eqb (s .headers) 4 ! false ⨾
+    made (s .headers) (s .width) (s .height) (s .mode)
+
+-- "Headers come in table order; a good sync is always due": a sync by its type alone, any other if it is the next of a record that calls could have made
+unfoldable pub due : Session → ℕ → Bool
+due s t =
+    eqb t 0xCCC0 ⇒ true ∣
+    made (s .headers) (s .width) (s .height) (s .mode) ! false ⨾
+    eqb t (0xCCC0 + s .headers)
+
+-- ---- "Blocks": the bytes of a type, and the fields of each block as numbers, in wire order (5)
+
+unfoldable pub sizeOf : ℕ → ℕ
+sizeOf t =
+    eqb t 0xCCC1 ⇒ 10 ∣
+    eqb t 0xCCC3 ⇒ 13 ∣
+    12
+
+-- "magic CACCACCA, version 0100"
+unfoldable pub syncJudge : ℕ → ℕ → ℕ
+syncJudge magic version =
+    eqb magic 0xCACCACCA ! 5 ⨾
+    eqb version 0x0100 ! 5 ⨾
+    0
+
+-- "count 1, codec 1, version 0100"
+unfoldable pub versionsJudge : ℕ → ℕ → ℕ → ℕ
+versionsJudge count codec version =
+    eqb count 1 ! 5 ⨾
+    eqb codec 1 ! 5 ⨾
+    eqb version 0x0100 ! 5 ⨾
+    0
+
+-- "count 1, id 0, width 1 to 4,096, height 1 to 2,048"
+unfoldable pub channelsJudge : ℕ → ℕ → ℕ → ℕ → ℕ
+channelsJudge count id w h =
+    eqb count 1 ! 5 ⨾
+    eqb id 0 ! 5 ⨾
+    sizeGood w h ! 5 ⨾
+    0
+
+-- "Context properties from the low bit: flags 3, cct 2 = 1, xft 4 = 1, et 4, qt 2 = 1, one spare"; "Flags and spare aren't judged"
+unfoldable pub etOf : ℕ → ℕ
+etOf p = p / 512 % 16
+
+unfoldable pub propertiesGood : ℕ → Bool
+propertiesGood p =
+    eqb (p / 8 % 4) 1 ! false ⨾
+    eqb (p / 32 % 16) 1 ! false ⨾
+    modeGood (etOf p) ! false ⨾
+    eqb (p / 8192 % 4) 1
+
+-- "codecId 1 and channelId: 0xFF in the context", "ctxId 0, tileSize 2 bytes = 64, properties 2"
+unfoldable pub contextJudge : ℕ → ℕ → ℕ → ℕ → ℕ → ℕ
+contextJudge codec channel context side p =
+    eqb codec 1 ! 5 ⨾
+    eqb channel 0xFF ! 5 ⨾
+    eqb context 0 ! 5 ⨾
+    eqb side 64 ! 5 ⨾
+    propertiesGood p ! 5 ⨾
+    0
+
+-- the same judges on a block that is whole: where each field stands
+unfoldable pub syncFault : List ℕ → ℕ
+syncFault m = syncJudge (le32 m 6) (le16 m 10)
+
+unfoldable pub versionsFault : List ℕ → ℕ
+versionsFault m = versionsJudge (getD m 6 0) (getD m 7 0) (le16 m 8)
+
+unfoldable pub channelsFault : List ℕ → ℕ
+channelsFault m = channelsJudge (getD m 6 0) (getD m 7 0) (le16 m 8) (le16 m 10)
+
+unfoldable pub contextFault : List ℕ → ℕ
+contextFault m = contextJudge (getD m 6 0) (getD m 7 0) (getD m 8 0) (le16 m 9) (le16 m 11)
+
+unfoldable pub fieldFault : List ℕ → ℕ → ℕ
+fieldFault m t =
+    eqb t 0xCCC0 ⇒ syncFault m ∣
+    eqb t 0xCCC1 ⇒ versionsFault m ∣
+    eqb t 0xCCC2 ⇒ channelsFault m ∣
+    contextFault m
+
+-- ---- "Header call: head of 6 bytes (1), type CCC0 to CCC3 (3), due (12), length (4), whole block present (1), fields in wire order (5),
+-- then bytes after it (4)"
+
+unfoldable pub headJudge : Session → ℕ → ℕ → ℕ → ℕ
+headJudge s t size len =
+    leb 0xCCC0 t ! 3 ⨾
+    leb t 0xCCC3 ! 3 ⨾
+    due s t ! 12 ⨾
+    eqb size (sizeOf t) ! 4 ⨾
+    leb size len ! 1 ⨾
+    0
+
+unfoldable pub headerFault : Session → List ℕ → ℕ
+headerFault s m =
+    leb 6 (length m) ! 1 ⨾
+    headJudge s (le16 m 0) (le32 m 2) (length m) ⨟
+    fieldFault m (le16 m 0) ⨟
+    (eqb (length m) (le32 m 2) ! 4 ⨾ 0)
+
+-- the record after a good block; a sync "starts the session over (record 1, 0, 0, 0)"
+unfoldable pub recordAfter : Session → List ℕ → Session
+recordAfter s m =
+    eqb (le16 m 0) 0xCCC0 ⇒ (record { headers = 1; width = 0; height = 0; mode = 0 }) ∣
+    eqb (le16 m 0) 0xCCC1 ⇒ (record { headers = 2; width = s .width; height = s .height; mode = s .mode }) ∣
+    eqb (le16 m 0) 0xCCC2 ⇒ (record { headers = 3; width = le16 m 8; height = le16 m 10; mode = 0 }) ∣
+    (record { headers = 4; width = s .width; height = s .height; mode = etOf (le16 m 11) })
+
+-- what the call answers; "A refused header or frame changes neither record nor picture"
+unfoldable pub headerOf : Session → List ℕ → HeaderAnswer
+headerOf s m =
+    eqb (headerFault s m) 0 ⇒ (record { number = 0; session = recordAfter s m }) ∣
+    (record { number = headerFault s m; session = s })

@@ -1,0 +1,344 @@
+// The session record and the header call of document 01: "What the panel takes and gives" (the record), "Order. Header call", and
+// "Blocks" (sync, versions, channels, context); 001, 2.2.2.2. The record is taken and given by value.
+ghost use mathlib.Core.Path.{_≡_};
+ghost use Prim.Native.Nat.{_+_, _≤_, _<_};
+ghost use lib.ListN.{length};
+ghost use Rattle.session.specs.Header.{sizeGood, modeGood, made, ready, due, sizeOf, syncJudge, versionsJudge, channelsJudge, propertiesGood, contextJudge, etOf, syncFault, versionsFault, channelsFault, contextFault, fieldFault, headJudge, headerFault, recordAfter, headerOf};
+ghost use Rattle.session.specs.HeaderLaws.{Good};
+
+// How many headers are in, width, height, mode (et); all 0 when fresh.
+pub struct Session {
+    pub headers: u8,
+    pub width: u16,
+    pub height: u16,
+    pub mode: u8,
+}
+
+// 01's number, and the record after the call.
+pub struct HeaderAnswer {
+    pub number: u8,
+    pub session: Session,
+}
+
+// Is the size one that 01 allows?
+pub fn is_size(w: usize, h: usize) -> bool
+    ensures { λ r. ⌜ r ≡ sizeGood w h ⌝ }
+{
+    if w < 1 {
+        return false;
+    }
+    if 4096 < w {
+        return false;
+    }
+    if h < 1 {
+        return false;
+    }
+    h <= 2048
+}
+
+// Is the mode RLGR1 or RLGR3?
+pub fn is_mode(et: usize) -> bool
+    ensures { λ r. ⌜ r ≡ modeGood et ⌝ }
+{
+    if et != 1 {
+        return et == 4;
+    }
+    true
+}
+
+fn is_made(headers: usize, w: usize, h: usize, mode: usize) -> bool
+    ensures { λ r. ⌜ r ≡ made headers w h mode ⌝ }
+{
+    if headers < 3 {
+        if w != 0 {
+            return false;
+        }
+        if h != 0 {
+            return false;
+        }
+        return mode == 0;
+    }
+    if is_size(w, h) {
+        if headers == 3 {
+            return mode == 0;
+        }
+        if headers != 4 {
+            return false;
+        }
+        return is_mode(mode);
+    }
+    false
+}
+
+// Is this a record that calls could have made, with all four headers in?
+pub fn is_ready(s: Session) -> bool
+    ensures { λ r. ⌜ r ≡ ready s ⌝ }
+{
+    if s.headers != 4 {
+        return false;
+    }
+    is_made(
+        s.headers as usize,
+        s.width as usize,
+        s.height as usize,
+        s.mode as usize,
+    )
+}
+
+fn is_due(s: Session, t: usize) -> bool
+    ensures { λ r. ⌜ r ≡ due s t ⌝ }
+{
+    if t == 0xCCC0 {
+        return true;
+    }
+    if is_made(
+        s.headers as usize,
+        s.width as usize,
+        s.height as usize,
+        s.mode as usize,
+    ) {
+        return t == 0xCCC0 + s.headers as usize;
+    }
+    false
+}
+
+fn size_of(t: usize) -> usize
+    ensures { λ r. ⌜ (r ≡ sizeOf t) × (10 ≤ r) ⌝ }
+{
+    if t == 0xCCC1 {
+        return 10;
+    }
+    if t == 0xCCC3 {
+        return 13;
+    }
+    12
+}
+
+fn sync_judge(magic: usize, version: usize) -> u8
+    ensures { λ r. ⌜ r ≡ syncJudge magic version ⌝ }
+{
+    if magic != 0xCACCACCA {
+        return 5;
+    }
+    if version != 0x0100 {
+        return 5;
+    }
+    0
+}
+
+fn versions_judge(count: u8, codec: u8, version: usize) -> u8
+    ensures { λ r. ⌜ r ≡ versionsJudge count codec version ⌝ }
+{
+    if count != 1 {
+        return 5;
+    }
+    if codec != 1 {
+        return 5;
+    }
+    if version != 0x0100 {
+        return 5;
+    }
+    0
+}
+
+fn channels_judge(count: u8, id: u8, w: usize, h: usize) -> u8
+    ensures { λ r. ⌜ r ≡ channelsJudge count id w h ⌝ }
+{
+    if count != 1 {
+        return 5;
+    }
+    if id != 0 {
+        return 5;
+    }
+    if is_size(w, h) {
+        return 0;
+    }
+    5
+}
+
+fn et_of(p: usize) -> usize
+    ensures { λ r. ⌜ (r ≡ etOf p) × (r < 16) ⌝ }
+{
+    p / 512 % 16
+}
+
+fn properties_good(p: usize) -> bool
+    ensures { λ r. ⌜ r ≡ propertiesGood p ⌝ }
+{
+    if p / 8 % 4 != 1 {
+        return false;
+    }
+    if p / 32 % 16 != 1 {
+        return false;
+    }
+    if is_mode(et_of(p)) {
+        return p / 8192 % 4 == 1;
+    }
+    false
+}
+
+fn context_judge(codec: u8, channel: u8, context: u8, side: usize, p: usize) -> u8
+    ensures { λ r. ⌜ r ≡ contextJudge codec channel context side p ⌝ }
+{
+    if codec != 1 {
+        return 5;
+    }
+    if channel != 0xFF {
+        return 5;
+    }
+    if context != 0 {
+        return 5;
+    }
+    if side != 64 {
+        return 5;
+    }
+    if properties_good(p) {
+        return 0;
+    }
+    5
+}
+
+fn sync_fault(m: &[u8]) -> u8
+    requires { ⌜ 12 ≤ length (now m) ⌝ }
+    ensures { λ r. ⌜ r ≡ syncFault (now (m .entry)) ⌝ }
+{
+    sync_judge(wire::le32_at(m, 6), wire::le16_at(m, 10))
+}
+
+fn versions_fault(m: &[u8]) -> u8
+    requires { ⌜ 10 ≤ length (now m) ⌝ }
+    ensures { λ r. ⌜ r ≡ versionsFault (now (m .entry)) ⌝ }
+{
+    versions_judge(m[6], m[7], wire::le16_at(m, 8))
+}
+
+fn channels_fault(m: &[u8]) -> u8
+    requires { ⌜ 12 ≤ length (now m) ⌝ }
+    ensures { λ r. ⌜ r ≡ channelsFault (now (m .entry)) ⌝ }
+{
+    channels_judge(m[6], m[7], wire::le16_at(m, 8), wire::le16_at(m, 10))
+}
+
+fn context_fault(m: &[u8]) -> u8
+    requires { ⌜ 13 ≤ length (now m) ⌝ }
+    ensures { λ r. ⌜ r ≡ contextFault (now (m .entry)) ⌝ }
+{
+    context_judge(m[6], m[7], m[8], wire::le16_at(m, 9), wire::le16_at(m, 11))
+}
+
+// The fields of a whole block of a known type.
+fn field_fault(m: &[u8], t: usize) -> u8
+    requires { ⌜ (0xCCC0 ≤ t) × (t ≤ 0xCCC3) × (sizeOf t ≤ length (now m)) ⌝ }
+    ensures { λ r. ⌜ r ≡ fieldFault (now (m .entry)) t ⌝ }
+{
+    if t == 0xCCC0 {
+        return sync_fault(m);
+    }
+    if t == 0xCCC1 {
+        return versions_fault(m);
+    }
+    if t == 0xCCC2 {
+        return channels_fault(m);
+    }
+    context_fault(m)
+}
+
+// Type (3), due (12), length (4), whole block present (1).
+fn head_judge(s: Session, t: usize, size: usize, len: usize) -> u8
+    ensures { λ r. ⌜ r ≡ headJudge s t size len ⌝ }
+{
+    if t < 0xCCC0 {
+        return 3;
+    }
+    if 0xCCC3 < t {
+        return 3;
+    }
+    if is_due(s, t) {
+        if size != size_of(t) {
+            return 4;
+        }
+        if len < size {
+            return 1;
+        }
+        return 0;
+    }
+    12
+}
+
+// The first fault of the message, in 01's order.
+fn header_fault(s: Session, m: &[u8]) -> u8
+    ensures { λ r. ⌜ r ≡ headerFault s (now (m .entry)) ⌝ }
+{
+    if m.len() < 6 {
+        return 1;
+    }
+    let t = wire::le16_at(m, 0);
+    let size = wire::le32_at(m, 2);
+    let n = head_judge(s, t, size, m.len());
+    if n != 0 {
+        return n;
+    }
+    let f = field_fault(m, t);
+    if f != 0 {
+        return f;
+    }
+    if m.len() != size {
+        return 4;
+    }
+    0
+}
+
+// The record after a header in which nothing is wrong.
+fn record_after(s: Session, m: &[u8]) -> Session
+    requires { ⌜ Good s (now m) ⌝ }
+    ensures { λ r. ⌜ r ≡ recordAfter s (now (m .entry)) ⌝ }
+{
+    let t = wire::le16_at(m, 0);
+    if t == 0xCCC0 {
+        return Session {
+            headers: 1,
+            width: 0,
+            height: 0,
+            mode: 0,
+        };
+    }
+    if t == 0xCCC1 {
+        return Session {
+            headers: 2,
+            width: s.width,
+            height: s.height,
+            mode: s.mode,
+        };
+    }
+    if t == 0xCCC2 {
+        return Session {
+            headers: 3,
+            width: wire::le16_at(m, 8) as u16,
+            height: wire::le16_at(m, 10) as u16,
+            mode: 0,
+        };
+    }
+    Session {
+        headers: 4,
+        width: s.width,
+        height: s.height,
+        mode: et_of(wire::le16_at(m, 11)) as u8,
+    }
+}
+
+// The header call: 01's number, and the record; a refused header leaves the record as it was.
+pub fn take_header(s: Session, m: &[u8]) -> HeaderAnswer
+    ensures { λ r. ⌜ r ≡ headerOf s (now (m .entry)) ⌝ }
+{
+    let n = header_fault(s, m);
+    if n != 0 {
+        return HeaderAnswer {
+            number: n,
+            session: s,
+        };
+    }
+    HeaderAnswer {
+        number: 0,
+        session: record_after(s, m),
+    }
+}
