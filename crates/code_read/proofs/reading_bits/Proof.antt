@@ -1,0 +1,38 @@
+use mathlib.Core.Path.{ap, sym}
+use Rattle.code_read.specs.Read.{readingBits}
+use borrow.Author.Needs.{needs}
+use Rattle.code_read.proofs.reading_bits.Statement.{statement}
+use Rattle.code_read.proofs.reading_bits.Tie as tie
+use Rattle.code_read.proofs.reading_bits.Reads as reads
+use Rattle.code_read.proofs.reading_bits.Lts as lts
+
+-- src/lib.rt:40:23
+enum-known-r : tie.Need-enum-known-r
+enum-known-r c = search needs
+
+-- src/lib.rt:41:23
+enum-known-r-2 : tie.Need-enum-known-r-2
+enum-known-r-2 c = search needs
+
+-- src/lib.rt:42:26
+enum-known-r-3 : tie.Need-enum-known-r-3
+enum-known-r-3 c = search needs
+
+-- src/lib.rt:36:1
+returns : tie.Need-returns
+unfolding readingBits
+returns c = sym (ap readingBits (c .before .r .given .1))
+
+-- src/lib.rt:36:1
+returns-2 : tie.Need-returns-2
+unfolding readingBits
+returns-2 c = sym (ap readingBits (c .before .r2 .given .1))
+
+-- src/lib.rt:36:1
+returns-3 : tie.Need-returns-3
+unfolding readingBits
+returns-3 c = sym (ap readingBits (c .before .r3 .given .1))
+
+pub reading-bits-spec : {M : Type 1} → statement M
+reading-bits-spec =
+    tie.close (tie.spec enum-known-r enum-known-r-2 enum-known-r-3 returns returns-2 returns-3)

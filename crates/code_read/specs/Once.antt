@@ -1,0 +1,159 @@
+-- One code for one list: 01's demands on the component reader, for both modes and every input. `code mode zs` is the code of the list zs.
+use Prim.Native.Nat.{ℕ, zero, suc, _+_, _*_, _≤_, _<_}
+use mathlib.Core.Path.{_≡_, refl, sym, ap, subst, _∙_}
+use mathlib.Core.Bool.{Bool, true, false}
+use mathlib.Core.List.{List, [], _∷_, _++_, map, append-nil}
+use native.Mathlib.Omega.{arith}
+use lib.Dec.{ltb, leb, eqb}
+use borrow.Author.Tests.{lt-ltb, le-leb, ltb-true, eq-eqb}
+use lib.IntN.{ℤ, pos, natAbs}
+use lib.ListN.{length, drop, getD, replicate, length-map, length-replicate}
+use lib.Seq.{drop-at}
+use Rattle.wire.specs.Row.{_!_⨾_}
+use Rattle.wire.specs.RowLaws.{held, passes, fails}
+use Rattle.bits.specs.Bits.{bitsOf}
+use Rattle.bits.specs.Bytes.{Written, Bytes, written-once}
+use Rattle.code.specs.Fold.{foldZ, unfoldZ}
+use Rattle.code.specs.FoldLaws.{map-unfold, map-fold, range-fold, fold-range}
+use Rattle.code.specs.Code.{codeOf, InRange}
+use Rattle.code.specs.Read.{whole, readList}
+use Rattle.code.specs.Laws.{read-back, prefix-free, Taken}
+use Rattle.code_read.specs.Read.{readingNumber, readingBits, noOnes, clean, endReading, endList, codeReading, codeList, isMode, shellFault, afterShell, reading, readFault, readBits, decoded, readInto, ComponentRead}
+use Rattle.code_read.specs.ReadLaws.{Accepted, accepted, accepted-list, accepted-taken, Passed, passed, read-number, into-decoded, shell-goes}
+use Rattle.code_read.specs.declared.Reading.{Reading}
+use Rattle.code_read.specs.declared.Reading.the-variants.{Done, Tail, Refused}
+
+-- the code of a list of signed numbers, by the mode's number (4 is RLGR3)
+abbrev pub code : ℕ → List ℤ → List Bool
+code mode zs = codeOf (eqb mode 4) (map foldZ zs)
+
+-- 4,096 numbers from -32,767 to 32,767
+pub record Listed (zs : List ℤ) : Type 0 where
+  pub len : length zs ≡ 4096
+  pub range : (i : ℕ) → natAbs (getD zs i (pos 0)) ≤ 32767
+
+-- a call that gets to its code: the mode is one of the two, the list has 4,096 places, the bytes are at most 65,535
+pub record Call (mode : ℕ) (s : List ℕ) (before : List ℤ) : Type 0 where
+  pub allowed : isMode mode ≡ true
+  pub room : length before ≡ 4096
+  pub small : length s ≤ 65535
+
+-- ---- bits of which none is 1
+
+no-ones : (bs : List Bool) → noOnes bs ≡ true → bs ≡ replicate (length bs) false
+unfolding noOnes
+no-ones [] h = refl
+no-ones (true ∷ bs) h = let z : _≡_ {A = ℕ} 0 1 = cc in absurd (omega arith)
+no-ones (false ∷ bs) h = ap (λ (l : List Bool). false ∷ l) (no-ones bs h)
+
+ones-no : (n : ℕ) → noOnes (replicate n false) ≡ true
+unfolding noOnes
+ones-no zero = refl
+ones-no (suc n) = ones-no n
+
+clean-is : (bs : List Bool) → clean bs ≡ true → (length bs < 8) × (bs ≡ replicate (length bs) false)
+unfolding clean
+clean-is bs h =
+    let e = held (ltb (length bs) 8) false (noOnes bs) true (λ q. let z : _≡_ {A = ℕ} 0 1 = cc in omega arith) (sym h) in
+    (ltb-true (length bs) 8 (e .0), no-ones bs (sym (e .1)))
+
+is-clean : (pad : ℕ) → pad < 8 → clean (replicate pad false) ≡ true
+unfolding clean
+is-clean pad h = sym (passes _ _ _ _ (lt-ltb (length (replicate pad false)) 8 (omega (arith, length-replicate pad false))) (sym (ones-no pad)))
+
+-- ---- (b) any bits behind a code: the reader reports that code's length, and the tail decides between 0 and 11
+
+module _ (mode : ℕ) (s : List ℕ) (before zs : List ℤ) (c : Call mode s before) (l : Listed zs) (rest : List Bool) (e : bitsOf s ≡ code mode zs ++ rest) where
+  shell-zero : shellFault mode (length before) (length s) ≡ 0
+  unfolding shellFault
+  shell-zero = sym (passes _ _ _ _ (c .allowed) (passes _ _ _ _ (eq-eqb (length before) 4096 (c .room)) (passes _ _ _ _ (le-leb (length s) 65535 (c .small)) refl)))
+
+  walked : readList (eqb mode 4) 4096 (bitsOf s) ≡ whole (map foldZ zs) (length (code mode zs))
+  walked =
+      let n : 4096 ≡ length (map foldZ zs) = sym (length-map zs foldZ ∙ l .len) in
+      ap (λ (k : ℕ). readList (eqb mode 4) k (bitsOf s)) n ∙ ap (λ (b : List Bool). readList (eqb mode 4) (length (map foldZ zs)) b) e ∙ read-back (eqb mode 4) (map foldZ zs) rest (range-fold zs (l .range))
+
+  tail-is : clean (drop (length (code mode zs)) (bitsOf s)) ≡ clean rest
+  tail-is = ap (λ (b : List Bool). clean (drop (length (code mode zs)) b)) e ∙ ap clean (drop-at (code mode zs) rest (length (code mode zs)) refl)
+
+  pub behind : reading mode (length before) s ≡ (clean rest ! Tail (length (code mode zs)) ⨾ Done (length (code mode zs)))
+  unfolding reading codeReading endReading
+  behind =
+      sym (shell-goes (shellFault mode (length before) (length s)) (codeReading (eqb mode 4) s) shell-zero) ∙ ap (endReading (bitsOf s)) walked ∙
+      ap (λ (b : Bool). b ! Tail (length (code mode zs)) ⨾ Done (length (code mode zs))) tail-is
+
+  pub behind-bits : readBits mode (length before) s ≡ length (code mode zs)
+  unfolding readBits readingBits _!_⨾_
+  behind-bits = ap readingBits behind ∙ go (clean rest)
+    where
+      go : (b : Bool) → readingBits (b ! Tail (length (code mode zs)) ⨾ Done (length (code mode zs))) ≡ length (code mode zs)
+      go true = refl
+      go false = refl
+
+  pub behind-number : readFault mode (length before) s ≡ (clean rest ! 11 ⨾ 0)
+  unfolding readFault readingNumber _!_⨾_
+  behind-number = ap readingNumber behind ∙ go (clean rest)
+    where
+      go : (b : Bool) → readingNumber (b ! Tail (length (code mode zs)) ⨾ Done (length (code mode zs))) ≡ (b ! 11 ⨾ 0)
+      go true = refl
+      go false = refl
+
+  -- and the list is zs, unless there is a tail
+  pub behind-list : clean rest ≡ true → readInto mode s before ≡ zs
+  unfolding readInto decoded codeList endList
+  behind-list t =
+      sym (passes _ _ _ _ (eq-eqb _ 0 shell-zero) refl) ∙ ap (endList (bitsOf s)) walked ∙ sym (passes _ _ _ _ (tail-is ∙ t) refl) ∙ map-unfold zs
+
+-- ---- (a) done with the list zs exactly if zs is 4,096 numbers in range and the bytes are its code, filled up
+
+pub record Exactly (mode : ℕ) (s : List ℕ) (before zs : List ℤ) : Type 0 where
+  pub call : Call mode s before
+  pub list : Listed zs
+  pub bytes : Written s (code mode zs)
+
+pub exactly-answers : (mode : ℕ) (s : List ℕ) (before zs : List ℤ) → Exactly mode s before zs → (reading mode (length before) s ≡ Done (length (code mode zs))) × (readInto mode s before ≡ zs)
+exactly-answers mode s before zs e =
+    let k = is-clean (e .bytes .pad) (e .bytes .few) in (
+      behind mode s before zs (e .call) (e .list) (replicate (e .bytes .pad) false) (e .bytes .bits) ∙ sym (passes _ _ _ _ k refl),
+      behind-list mode s before zs (e .call) (e .list) (replicate (e .bytes .pad) false) (e .bytes .bits) k,
+    )
+
+pub answers-exactly : (mode : ℕ) (s : List ℕ) (before zs : List ℤ) → readFault mode (length before) s ≡ 0 → readInto mode s before ≡ zs → Exactly mode s before zs
+answers-exactly mode s before zs f r =
+    let a = accepted mode (length before) s (sym f) in
+    let p = passed mode (length before) (length s) (a .shell) in
+    let z : zs ≡ map unfoldZ (a .xs) = sym r ∙ into-decoded mode s before (sym f) ∙ accepted-list mode (length before) s a in
+    go (a .xs) (a .at) z (accepted-taken mode (length before) s a) (clean-is (drop (a .at) (bitsOf s)) (a .tail)) (record { allowed = p .known; room = p .full; small = p .small })
+  where
+    go : (xs : List ℕ) (at : ℕ) → zs ≡ map unfoldZ xs → Taken (eqb mode 4) 4096 (bitsOf s) xs at → (length (drop at (bitsOf s)) < 8) × (drop at (bitsOf s) ≡ replicate (length (drop at (bitsOf s))) false) → Call mode s before → Exactly mode s before zs
+    go xs at z t k c =
+        let x : xs ≡ map foldZ zs = sym (map-fold xs) ∙ ap (map foldZ) (sym z) in
+        record {
+          call = c;
+          list = record { len = ap length z ∙ length-map xs unfoldZ ∙ t .len; range = fold-range zs (subst InRange x (t .range)) };
+          bytes = record { pad = length (drop at (bitsOf s)); few = k .0; bits = t .bits ∙ ap (λ (b : List Bool). codeOf (eqb mode 4) xs ++ b) (k .1) ∙ ap (λ (y : List ℕ). codeOf (eqb mode 4) y ++ replicate (length (drop at (bitsOf s))) false) x };
+        }
+
+-- the same of any reader that keeps the promise
+module _ (mode : ℕ) (s : List ℕ) (before after : List ℤ) (r : Reading) (p : ComponentRead mode s before after r) where
+  pub done-if : (zs : List ℤ) → Exactly mode s before zs → (r ≡ Done (length (code mode zs))) × (after ≡ zs)
+  done-if zs e = let a = exactly-answers mode s before zs e in (p .answer ∙ a .0, p .list ∙ a .1)
+
+  pub done-only-if : readingNumber r ≡ 0 → Exactly mode s before after
+  done-only-if e = answers-exactly mode s before after (sym (read-number mode s before after r p) ∙ e) (sym (p .list))
+
+-- ---- (c) one code for one list, and one list of bytes for one code
+
+-- if one list's code is the start of another's, they are the same list
+pub start-once : (mode : ℕ) (xs ys : List ℤ) (r : List Bool) → Listed xs → Listed ys → code mode xs ++ r ≡ code mode ys → xs ≡ ys
+start-once mode xs ys r p q e =
+    let l : length (map foldZ xs) ≡ length (map foldZ ys) = length-map xs foldZ ∙ p .len ∙ sym (length-map ys foldZ ∙ q .len) in
+    let f : map foldZ xs ≡ map foldZ ys = prefix-free (eqb mode 4) (map foldZ xs) (map foldZ ys) r [] l (range-fold xs (p .range)) (range-fold ys (q .range)) (e ∙ sym (append-nil (code mode ys))) in
+    sym (map-unfold xs) ∙ ap (map unfoldZ) f ∙ map-unfold ys
+
+pub bytes-once : (mode : ℕ) (s t : List ℕ) (zs : List ℤ) → Bytes s → Bytes t → Written s (code mode zs) → Written t (code mode zs) → s ≡ t
+bytes-once mode s t zs = written-once s t (code mode zs)
+
+-- ---- (d) two answers, and two lists, that meet the promise for the same input are equal
+pub read-once : (mode : ℕ) (s : List ℕ) (before a b : List ℤ) (r q : Reading) → ComponentRead mode s before a r → ComponentRead mode s before b q → (r ≡ q) × (a ≡ b)
+read-once mode s before a b r q x y = (x .answer ∙ sym (y .answer), x .list ∙ sym (y .list))
