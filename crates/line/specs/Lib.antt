@@ -1,0 +1,5 @@
+pub mod Line
+pub mod LineLaws
+pub mod Rows
+pub mod More
+pub mod Cases

@@ -1,0 +1,4 @@
+pub mod Tile
+pub mod ColumnLaws
+pub mod LevelLaws
+pub mod TileLaws
