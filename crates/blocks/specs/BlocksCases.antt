@@ -1,0 +1,34 @@
+-- Document 01, "Cases on both sides": "tileset 5051 .. RLGR3; .. 4451 .. RLGR1", and "quantiser 5 and 16 never pass".
+use Prim.Native.Nat.{ℕ, _/_, _%_, _+_, _≤_, _<_}
+use mathlib.Core.Path.{_≡_, refl}
+use mathlib.Core.Bool.{true, false}
+use native.Mathlib.Omega.{arith}
+use lib.Dec.{leb, eqb}
+use Rattle.wire.specs.Row.{_!_⨾_}
+use Rattle.wire.specs.RowLaws.{rows}
+use Rattle.layout.specs.Frame.{propsOf}
+use Rattle.layout.specs.Reader.{propsGood, halvesFault}
+
+-- a tileset's properties, read and written
+pub record PropsCases : Type 0 where
+  pub three : propsGood 4 0x5051 ≡ true
+  pub one : propsGood 1 0x4451 ≡ true
+  pub three-written : propsOf 4 ≡ 0x5051
+  pub one-written : propsOf 1 ≡ 0x4451
+
+pub props-cases : PropsCases
+unfolding propsGood propsOf _!_⨾_
+props-cases = record { three = refl; one = refl; three-written = refl; one-written = refl }
+
+-- a quantiser of 5 in either half, and one of 16, is a fault whatever stands beside it
+pub low-five : (b : ℕ) → b % 16 ≡ 5 → 7 ≡ halvesFault b
+unfolding halvesFault
+low-five b e = let l : b % 16 < 6 = omega arith in search rows
+
+pub high-five : (b : ℕ) → 6 ≤ b % 16 → b / 16 ≡ 5 → 7 ≡ halvesFault b
+unfolding halvesFault
+high-five b l e = let g : b / 16 < 6 = omega arith in search rows
+
+pub high-sixteen : (b : ℕ) → 6 ≤ b % 16 → b / 16 ≡ 16 → 7 ≡ halvesFault b
+unfolding halvesFault
+high-sixteen b l e = let g : 15 < b / 16 = omega arith in let k : 6 ≤ b / 16 = omega arith in search rows
