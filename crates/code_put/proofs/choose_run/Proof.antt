@@ -1,0 +1,72 @@
+use Prim.Native.Nat.{ℕ, _+_, _-_, _*_, _/_, _%_, _^_, _≤_, _<_}
+use mathlib.Core.Path.{_≡_, refl, sym, _∙_, ap}
+use mathlib.Core.List.{List, map}
+use native.Mathlib.Omega.{arith}
+use lib.IntN.{ℤ, pos}
+use lib.ListN.{length, drop, getD, length-map}
+use Rattle.code.specs.Fold.{foldZ}
+use lib.ListN.{length-drop}
+use Rattle.bits.specs.GrLaws.{shift-one}
+use Rattle.code.specs.CodeLaws.{item-full, item-run}
+use Rattle.code_put.specs.ItemLaws.{at-drop}
+use borrow.Author.Needs.{needs}
+use Rattle.code_put.proofs.choose_run.Statement.{statement}
+use Rattle.code_put.proofs.choose_run.Tie as tie
+use Rattle.code_put.proofs.choose_run.Reads as reads
+use Rattle.code_put.proofs.choose_run.Lts as lts
+use Rattle.code_put.proofs.folded_at.Reads as folded-at-reads
+use Rattle.code_put.proofs.zeros_from.Reads as zeros-from-reads
+
+-- src/lib.rt:48:9
+zeros-from-requires : tie.Need-zeros-from-requires
+zeros-from-requires c κs = search needs
+
+-- src/lib.rt:49:16
+shl-full : tie.Need-shl-full
+shl-full c = search needs
+
+-- src/lib.rt:50:16
+sub-left : tie.Need-sub-left
+sub-left c = search needs
+
+-- src/lib.rt:52:9
+returns : tie.Need-returns
+returns c =
+    let a = c .before .before .args in
+    sym (item-full (a .two) (a .kp) (drop (a .i) (map foldZ (a .xs .now))) (omega (arith, c .before .before .pre .3)) (omega (arith, shift-one (a .kp / 8) (omega (arith, c .before .before .pre .4)), c .before .zeros-from .ensures, c .if1 .taken)))
+
+-- src/lib.rt:55:9
+returns-2 : tie.Need-returns-2
+returns-2 c =
+    let a = c .before .before .before .args in
+    let xs = a .xs .now in
+    sym (item-full (a .two) (a .kp) (drop (a .i) (map foldZ xs)) (omega (arith, c .before .before .before .pre .3)) (omega (arith, length-drop (a .i) (map foldZ xs), length-map xs foldZ, c .before .before .zeros-from .ensures, c .if2 .taken)))
+
+-- src/lib.rt:57:27
+add-folded-at : tie.Need-add-folded-at
+add-folded-at c = search needs
+
+-- src/lib.rt:57:9
+folded-at-requires : tie.Need-folded-at-requires
+folded-at-requires c κs = search needs
+
+-- src/lib.rt:44:1
+returns-3 : tie.Need-returns-3
+returns-3 c =
+    let a = c .before .before .before .before .args in
+    let xs = a .xs .now in
+    let z = c .before .before .before .zeros-from .result in
+    sym (item-run (a .two) (a .kp) (drop (a .i) (map foldZ xs)) (omega (arith, c .before .before .before .before .pre .3)) z _ (c .before .before .before .zeros-from .ensures) (at-drop (map foldZ xs) (a .i) z (a .i + z) refl ∙ sym (c .folded-at .ensures)) (omega (arith, shift-one (a .kp / 8) (omega (arith, c .before .before .before .before .pre .4)), c .before .before .if1 .left)) (omega (arith, length-drop (a .i) (map foldZ xs), length-map xs foldZ, c .before .if2 .left)))
+
+pub choose-run-spec : {M : Type 1} → statement M
+choose-run-spec =
+    tie.close
+    (tie.spec
+    zeros-from-requires
+    shl-full
+    sub-left
+    returns
+    returns-2
+    add-folded-at
+    folded-at-requires
+    returns-3)

@@ -1,0 +1,28 @@
+use mathlib.Core.Path.{_∙_}
+use Rattle.code_put.specs.Signed.{read-mag, read-fold}
+use borrow.Author.Needs.{needs}
+use Rattle.code_put.proofs.folded_at.Statement.{statement}
+use Rattle.code_put.proofs.folded_at.Tie as tie
+use Rattle.code_put.proofs.folded_at.Reads as reads
+use Rattle.code_put.proofs.folded_at.Lts as lts
+use Rattle.code.proofs.folded.Reads as folded-reads
+
+-- src/lib.rt:22:18
+mul-folded : tie.Need-mul-folded
+mul-folded c = search needs
+
+-- src/lib.rt:22:18
+shared-slice-copy-out-folded : tie.Need-shared-slice-copy-out-folded
+shared-slice-copy-out-folded c = search needs
+
+-- src/lib.rt:22:5
+folded-requires : tie.Need-folded-requires
+folded-requires c κs = read-mag (c .before .args .xs .now) (c .before .args .i) (c .before .pre .1)
+
+-- src/lib.rt:18:1
+returns : tie.Need-returns
+returns c = c .folded .ensures ∙ read-fold (c .before .before .args .xs .now) (c .before .before .args .i) (c .before .before .pre .1)
+
+pub folded-at-spec : {M : Type 1} → statement M
+folded-at-spec =
+    tie.close (tie.spec mul-folded shared-slice-copy-out-folded folded-requires returns)

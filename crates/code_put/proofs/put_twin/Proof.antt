@@ -1,0 +1,59 @@
+use Prim.Native.Nat.{ℕ, _+_, _-_, _*_, _/_, _%_, _^_, _≤_}
+use mathlib.Core.Path.{_≡_, refl, sym, _∙_, ap}
+use mathlib.Core.List.{List, [], _∷_, _++_}
+use native.Mathlib.Omega.{arith}
+use lib.ListN.{length}
+use Rattle.bits.specs.Bits.{grBits}
+use Rattle.bits.specs.Here.{length-grBits}
+use Rattle.bits.specs.PenLaws.{put-more, ready-after}
+use Rattle.code.specs.Code.{pairBits, size}
+use Rattle.code.specs.Steps.{size-fit}
+use Rattle.code_put.specs.ItemLaws.{pair-length, pair-parts, ready-less}
+use Rattle.bits.specs.GrLaws.{grLen}
+use borrow.Author.Needs.{needs}
+use Rattle.code_put.proofs.put_twin.Statement.{statement}
+use Rattle.code_put.proofs.put_twin.Tie as tie
+use Rattle.code_put.proofs.put_twin.Reads as reads
+use Rattle.code_put.proofs.put_twin.Lts as lts
+use Rattle.code.proofs.bit_size.Reads as bit-size-reads
+use Rattle.bits.proofs.put_gr.Reads as put-gr-reads
+use Rattle.bits.proofs.put_bits.Reads as put-bits-reads
+
+-- src/lib.rt:108:13
+add-g : tie.Need-add-g
+add-g c = search needs
+
+-- src/lib.rt:109:9
+bit-size-requires : tie.Need-bit-size-requires
+bit-size-requires c κs = search needs
+
+-- src/lib.rt:110:9
+put-gr-requires : tie.Need-put-gr-requires
+put-gr-requires c κs = let s = c .before .before .before in let a = s .args in (ready-less _ _ (length (pairBits (a .krp) (a .a) (a .b))) _ (s .pre .0) (omega (arith, pair-length (a .krp) (a .a) (a .b))), omega (arith, s .pre .1))
+
+-- src/lib.rt:111:5
+put-bits-requires : tie.Need-put-bits-requires
+put-bits-requires c κs =
+    let s = c .before .before .before .before .before .before .before in
+    let a = s .args in
+    let g = c .before .before .before .put-gr in
+    let n = c .before .before .before .before .before .bit-size in
+    let f : size (a .a + a .b) ≤ 17 = size-fit (a .a + a .b) 17 (omega (arith, s .pre .2, s .pre .3)) in
+    (ready-after (a .out .now) (g .last .0) (a .p) (g .result) (length (pairBits (a .krp) (a .a) (a .b))) (n .result) (grBits (a .krp / 8) (a .a + a .b)) (s .pre .0) (g .ensures) (omega (arith, pair-length (a .krp) (a .a) (a .b), n .ensures, length-grBits (a .krp / 8) (a .a + a .b))), omega (arith, f, n .ensures))
+
+-- src/lib.rt:104:1
+same-length : tie.Need-same-length
+same-length c = search needs
+
+-- src/lib.rt:104:1
+returns : tie.Need-returns
+returns c =
+    let a = c .before .before .before .before .before .before .before .before .before .before .args in
+    let g = c .before .before .before .before .before .before .put-gr in
+    let b = c .before .before .put-bits in
+    rw (← pair-parts (a .krp) (a .a) (a .b) (c .before .before .before .before .before .before .before .before .bit-size .result) (c .before .before .before .before .before .before .before .before .bit-size .ensures)) (put-more (a .out .now) (g .last .0) (b .last .0) (a .p) (g .result) (b .result) _ _ (g .ensures) (b .ensures))
+
+pub put-twin-spec : {M : Type 1} → statement M
+put-twin-spec =
+    tie.close
+    (tie.spec add-g bit-size-requires put-gr-requires put-bits-requires same-length returns)

@@ -1,0 +1,4 @@
+pub mod Signed
+pub mod ItemLaws
+pub mod Going
+pub mod Writing
