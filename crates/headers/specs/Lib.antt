@@ -1,0 +1,4 @@
+pub mod Wrote
+pub mod Headers
+pub mod HeadersLaws
+pub mod ReadBack
