@@ -1,0 +1,5 @@
+pub mod Forth
+pub mod ForthLaws
+pub mod Holds
+pub mod ColumnLaws
+pub mod RowLaws
