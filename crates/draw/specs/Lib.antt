@@ -1,3 +1,5 @@
 pub mod Draw
 pub mod DrawLaws
 pub mod Pixels
+pub mod Shown
+pub mod ShownLaws
