@@ -37,17 +37,21 @@ partStart d at k =
     eqb k 1 ⇒ at + 19 + le16 d (at + 13) ∣
     at + 19 + le16 d (at + 13) + le16 d (at + 15)
 
--- what a checked tile has
-pub record TileGood (w h q : ℕ) (d : List ℕ) (at : ℕ) : Type 0 where
+-- what a tile has that was found whole: its codes lie in it
+pub record TileWhole (d : List ℕ) (at : ℕ) : Type 0 where
   pub there : at + sizeAt d at ≤ length d
   pub lengths : sizeAt d at ≡ 19 + le16 d (at + 13) + le16 d (at + 15) + le16 d (at + 17)
-  pub y-index : getD d (at + 6) 0 < q
-  pub cb-index : getD d (at + 7) 0 < q
-  pub cr-index : getD d (at + 8) 0 < q
 
--- and what it has whose codes were checked too, by a judge of a quantiser set's number and a code
-pub record TileSound (judge : ℕ → List ℕ → ℕ) (w h q : ℕ) (d : List ℕ) (at : ℕ) : Type 0 where
-  pub good : TileGood w h q d at
+-- and one that was checked up to its codes, with q quantiser sets
+pub record TileGood (q : ℕ) (d : List ℕ) (at : ℕ) : Type 0 where
+  pub whole : TileWhole d at
+  pub y-index : tileAt d at .qy < q
+  pub cb-index : tileAt d at .qcb < q
+  pub cr-index : tileAt d at .qcr < q
+
+-- and one whose codes were checked too, by a judge of a quantiser set's number and a code
+pub record TileSound (judge : ℕ → List ℕ → ℕ) (q : ℕ) (d : List ℕ) (at : ℕ) : Type 0 where
+  pub good : TileGood q d at
   pub y : 0 ≡ judge (tileAt d at .qy) (tileAt d at .ys)
   pub cb : 0 ≡ judge (tileAt d at .qcb) (tileAt d at .cbs)
   pub cr : 0 ≡ judge (tileAt d at .qcr) (tileAt d at .crs)

@@ -11,13 +11,13 @@ use Rattle.wire.specs.Row.{_!_⨾_, _⇒_∣_, _⨟_}
 use Rattle.wire.specs.RowLaws.{held, both, stops, goes-on}
 use Rattle.layout.specs.Reader.{leastHead, bodyJudge, sizeAt, tileAt, codesFault, tileFault, tilesFault}
 use Rattle.blocks.specs.BlocksLaws.{least-good, then-assoc}
-use Rattle.tiles.specs.Tiles.{tileFields, tileFront, codeOf, indexOf, partStart, TileGood, TileSound}
+use Rattle.tiles.specs.Tiles.{tileFields, tileFront, codeOf, indexOf, partStart, TileWhole, TileGood, TileSound}
 
 not-0 : (k : ℕ) → 0 ≡ suc k → ⊥
 not-0 k e = omega arith
 
-pub tile-good : (w h q : ℕ) (d : List ℕ) (at : ℕ) → at ≤ length d → 0 ≡ tileFront w h q d at → TileGood w h q d at
-unfolding tileFront tileFields bodyJudge
+pub tile-good : (w h q : ℕ) (d : List ℕ) (at : ℕ) → at ≤ length d → 0 ≡ tileFront w h q d at → TileGood q d at
+unfolding tileFront tileFields bodyJudge tileAt
 tile-good w h q d at l e =
     let p = both (leastHead 0xCAC3 19 d at) _ e in
     let a = held _ _ _ _ (not-0 3) (p .1) in
@@ -25,20 +25,19 @@ tile-good w h q d at l e =
     let c = held _ _ _ _ (not-0 6) (b .1) in
     let f = held _ _ _ _ (not-0 6) (c .1) in
     record {
-      there = least-good d at l 0xCAC3 19 (p .0) .1;
-      lengths = eqb-true _ _ (a .0);
+      whole = record { there = least-good d at l 0xCAC3 19 (p .0) .1; lengths = eqb-true _ _ (a .0) };
       y-index = ltb-true _ _ (b .0);
       cb-index = ltb-true _ _ (c .0);
       cr-index = ltb-true _ _ (f .0);
     }
 
 -- the part of a code lies in the tile
-pub part-fits : (w h q : ℕ) (d : List ℕ) (at k : ℕ) → TileGood w h q d at → k < 3 → partStart d at k + le16 d (at + (13 + 2 * k)) ≤ length d
+pub part-fits : (d : List ℕ) (at k : ℕ) → TileWhole d at → k < 3 → partStart d at k + le16 d (at + (13 + 2 * k)) ≤ length d
 unfolding partStart _⇒_∣_
-part-fits w h q d at zero g l = omega (arith, g .there, g .lengths)
-part-fits w h q d at (suc zero) g l = omega (arith, g .there, g .lengths)
-part-fits w h q d at (suc (suc zero)) g l = omega (arith, g .there, g .lengths)
-part-fits w h q d at (suc (suc (suc k))) g l = absurd (omega arith)
+part-fits d at zero g l = omega (arith, g .there, g .lengths)
+part-fits d at (suc zero) g l = omega (arith, g .there, g .lengths)
+part-fits d at (suc (suc zero)) g l = omega (arith, g .there, g .lengths)
+part-fits d at (suc (suc (suc k))) g l = absurd (omega arith)
 
 -- and it is the tile's own code
 pub part-is : (d : List ℕ) (at k : ℕ) → k < 3 → take (le16 d (at + (13 + 2 * k))) (drop (partStart d at k) d) ≡ codeOf (tileAt d at) k
@@ -55,11 +54,20 @@ index-is d at (suc zero) l = refl
 index-is d at (suc (suc zero)) l = refl
 index-is d at (suc (suc (suc k))) l = absurd (omega arith)
 
-pub index-below : (w h q : ℕ) (d : List ℕ) (at k : ℕ) → TileGood w h q d at → k < 3 → getD d (at + (6 + k)) 0 < q
-index-below w h q d at zero g l = g .y-index
-index-below w h q d at (suc zero) g l = g .cb-index
-index-below w h q d at (suc (suc zero)) g l = g .cr-index
-index-below w h q d at (suc (suc (suc k))) g l = absurd (omega arith)
+pub index-below : (q : ℕ) (d : List ℕ) (at k : ℕ) → TileGood q d at → k < 3 → indexOf (tileAt d at) k < q
+unfolding indexOf
+index-below q d at zero g l = g .y-index
+index-below q d at (suc zero) g l = g .cb-index
+index-below q d at (suc (suc zero)) g l = g .cr-index
+index-below q d at (suc (suc (suc k))) g l = absurd (omega arith)
+
+-- a sound tile's component by number
+pub sound-part : (judge : ℕ → List ℕ → ℕ) (q : ℕ) (d : List ℕ) (at k : ℕ) → TileSound judge q d at → k < 3 → 0 ≡ judge (indexOf (tileAt d at) k) (codeOf (tileAt d at) k)
+unfolding indexOf codeOf
+sound-part judge q d at zero s l = s .y
+sound-part judge q d at (suc zero) s l = s .cb
+sound-part judge q d at (suc (suc zero)) s l = s .cr
+sound-part judge q d at (suc (suc (suc k))) s l = absurd (omega arith)
 
 -- of three numbers the first that is not 0, by what the calls answered
 module _ (f g r a b c : ℕ) (ea : f ≡ a) where
@@ -78,7 +86,7 @@ module _ (judge : ℕ → List ℕ → ℕ) (w h q : ℕ) (d : List ℕ) where
   unfolding tileFault tileFront tileFields
   tile-goes-on at = then-assoc (leastHead 0xCAC3 19 d at) (tileFields w h q d at) (codesFault judge (tileAt d at))
 
-  pub tile-sound : (at : ℕ) → at ≤ length d → 0 ≡ tileFault judge w h q d at → TileSound judge w h q d at
+  pub tile-sound : (at : ℕ) → at ≤ length d → 0 ≡ tileFault judge w h q d at → TileSound judge q d at
   unfolding codesFault
   tile-sound at l e =
       let a = both (tileFront w h q d at) (codesFault judge (tileAt d at)) (e ∙ tile-goes-on at) in
@@ -103,7 +111,7 @@ module _ (judge : ℕ → List ℕ → ℕ) (w h q : ℕ) (d : List ℕ) where
   walk-ends n i at x l e = let z : n - i ≡ 0 = omega arith in rw z e
 
   -- a walk without a fault: the tile at its head is sound, and nothing is wrong in the rest
-  pub walk-sound : (n i at : ℕ) → i < n → at ≤ length d → 0 ≡ tilesFault judge w h q d (n - i) at → TileSound judge w h q d at × (0 ≡ tilesFault judge w h q d (n - (i + 1)) (at + sizeAt d at))
+  pub walk-sound : (n i at : ℕ) → i < n → at ≤ length d → 0 ≡ tilesFault judge w h q d (n - i) at → TileSound judge q d at × (0 ≡ tilesFault judge w h q d (n - (i + 1)) (at + sizeAt d at))
   unfolding tilesFault
   walk-sound n i at l m e =
       let b = both _ _ (subst (λ (k : ℕ). 0 ≡ tilesFault judge w h q d k at) (left n i l) e) in

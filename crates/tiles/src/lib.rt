@@ -4,7 +4,7 @@ ghost use mathlib.Core.Path.{_≡_};
 ghost use Prim.Native.Nat.{ℕ, _+_, _*_, _≤_, _<_};
 ghost use lib.ListN.{length};
 ghost use Rattle.layout.specs.Reader.{bodyJudge, tileAt};
-ghost use Rattle.tiles.specs.Tiles.{tileFields, tileFront, partStart, codeOf, indexOf, TileGood};
+ghost use Rattle.tiles.specs.Tiles.{tileFields, tileFront, partStart, codeOf, indexOf, TileWhole};
 
 // the lengths against the size, the indices, the place
 fn body_judge(
@@ -90,8 +90,8 @@ fn part_start(d: &[u8], at: usize, k: usize) -> usize
 }
 
 // The Y, Cb or Cr code (k = 0, 1, 2) of a checked tile, as that part of the message itself.
-pub fn code_part(w: usize, h: usize, q: usize, d: &[u8], at: usize, k: usize) -> &[u8]
-    requires { ⌜ TileGood w h q (now d) at × (k < 3) ⌝ }
+pub fn code_part(d: &[u8], at: usize, k: usize) -> &[u8]
+    requires { ⌜ TileWhole (now d) at × (k < 3) ⌝ }
     ensures { λ r. ⌜ now r ≡ codeOf (tileAt (now (d .entry)) at) k ⌝ }
 {
     let n = wire::le16_at(d, at + (13 + 2 * k));
@@ -100,9 +100,9 @@ pub fn code_part(w: usize, h: usize, q: usize, d: &[u8], at: usize, k: usize) ->
 }
 
 // The number of the quantiser set of Y, Cb or Cr (k = 0, 1, 2) of a checked tile.
-pub fn quant_index(w: usize, h: usize, q: usize, d: &[u8], at: usize, k: usize) -> usize
-    requires { ⌜ TileGood w h q (now d) at × (k < 3) ⌝ }
-    ensures { λ r. ⌜ (r ≡ indexOf (tileAt (now (d .entry)) at) k) × (r < q) ⌝ }
+pub fn quant_index(d: &[u8], at: usize, k: usize) -> usize
+    requires { ⌜ TileWhole (now d) at × (k < 3) ⌝ }
+    ensures { λ r. ⌜ r ≡ indexOf (tileAt (now (d .entry)) at) k ⌝ }
 {
     wire::byte_at(d, at + (6 + k))
 }

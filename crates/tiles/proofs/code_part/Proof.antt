@@ -33,7 +33,7 @@ part-start-requires c κs = search needs
 
 -- src/lib.rt:99:11
 add-result : tie.Need-add-result
-add-result c = omega (arith, part-fits _ _ _ (now (c .before .before .before .args .d)) (c .before .before .before .args .at) (c .before .before .before .args .k) (c .before .before .before .pre .0) (c .before .before .before .pre .1), c .before .le16-at .ensures .0, c .part-start .ensures)
+add-result c = omega (arith, part-fits (now (c .before .before .before .args .d)) (c .before .before .before .args .at) (c .before .before .before .args .k) (c .before .before .before .pre .0) (c .before .before .before .pre .1), c .before .le16-at .ensures .0, c .part-start .ensures)
 
 -- src/lib.rt:99:5
 sub-result : tie.Need-sub-result
@@ -45,7 +45,7 @@ part-result-start c = search needs
 
 -- src/lib.rt:99:5
 part-result-end : tie.Need-part-result-end
-part-result-end c = omega (arith, part-fits _ _ _ (now (c .before .before .before .args .d)) (c .before .before .before .args .at) (c .before .before .before .args .k) (c .before .before .before .pre .0) (c .before .before .before .pre .1), c .before .le16-at .ensures .0, c .part-start .ensures)
+part-result-end c = omega (arith, part-fits (now (c .before .before .before .args .d)) (c .before .before .before .args .at) (c .before .before .before .args .k) (c .before .before .before .pre .0) (c .before .before .before .pre .1), c .before .le16-at .ensures .0, c .part-start .ensures)
 
 -- src/lib.rt:93:1
 returns : tie.Need-returns

@@ -1,7 +1,7 @@
 use mathlib.Core.Path.{_≡_, refl, ap, sym, _∙_}
 use native.Mathlib.Omega.{arith}
 use denote.Ref.{now}
-use Rattle.tiles.specs.TilesLaws.{index-is, index-below}
+use Rattle.tiles.specs.TilesLaws.{index-is}
 use borrow.Author.Needs.{needs}
 use Rattle.tiles.proofs.quant_index.Statement.{statement}
 use Rattle.tiles.proofs.quant_index.Tie as tie
@@ -23,7 +23,7 @@ byte-at-requires c κs = search needs
 
 -- src/lib.rt:103:1
 returns : tie.Need-returns
-returns c = (c .byte-at .ensures .0 ∙ index-is _ _ (c .before .before .args .k) (c .before .before .pre .1), let l = index-below _ _ _ _ _ (c .before .before .args .k) (c .before .before .pre .0) (c .before .before .pre .1) in omega (arith, c .byte-at .ensures .0))
+returns c = c .byte-at .ensures .0 ∙ index-is _ _ (c .before .before .args .k) (c .before .before .pre .1)
 
 pub quant-index-spec : {M : Type 1} → statement M
 quant-index-spec = tie.close (tie.spec add-byte-at add-byte-at-2 byte-at-requires returns)
