@@ -92,9 +92,10 @@ readInto mode s before = eqb (shellFault mode (length before) (length s)) 0 ! be
 
 -- ---- what the functions promise
 
+-- the code alone: on a refusal nothing is said of the list, which the call clears
 pub record CodeRead (two : Bool) (s : List ℕ) (after : List ℤ) (r : Reading) : Type 0 where
   pub answer : r ≡ codeReading two s
-  pub list : after ≡ codeList two s
+  pub list : readingNumber r ≡ 0 → after ≡ codeList two s
 
 pub record ComponentRead (mode : ℕ) (s : List ℕ) (before after : List ℤ) (r : Reading) : Type 0 where
   pub answer : r ≡ reading mode (length before) s

@@ -83,6 +83,12 @@ filled-whole : (w : Walked) (out : List ℤ) (f : Filled) (at : ℕ) → Fills w
 filled-whole (whole xs a) out f at h g = (xs, cc (h .1), h .0)
 filled-whole (bad m) out f at h g = let z : _≡_ {A = ℕ} 0 1 = cc in absurd (omega arith)
 
+refusal-some : (q : Refusal) → 0 ≡ refusalNumber q → ⊥
+unfolding refusalNumber
+refusal-some Short e = omega arith
+refusal-some Range e = omega arith
+refusal-some Overrun e = omega arith
+
 module _ (two : Bool) (s : List ℕ) (n : ℕ) (len : n ≡ 4096) (out : List ℤ) (f : Filled) (h : Fills (readList two n (bitsOf s)) out f) where
   bad-is : (q : Refusal) → f ≡ Bad q → readList two 4096 (bitsOf s) ≡ bad q
   bad-is q g = ap (λ (k : ℕ). readList two k (bitsOf s)) (sym len) ∙ filled-bad (readList two n (bitsOf s)) out f q h g
@@ -96,12 +102,11 @@ module _ (two : Bool) (s : List ℕ) (n : ℕ) (len : n ≡ 4096) (out : List �
       let t = taken two 4096 (bitsOf s) (w .0) at (w .1) in
       omega (arith, ap length (t .bits), t .place, length-append (codeOf two (w .0)) (drop at (bitsOf s)), length-bitsOf s)
 
-  -- refused, and the list cleared again
-  pub code-bad : (q : Refusal) (m : ℕ) (after : List ℤ) → f ≡ Bad q → m ≡ refusalNumber q → after ≡ replicate 4096 (pos 0) → CodeRead two s after (Refused m)
-  unfolding codeReading codeList endReading endList
-  code-bad q m after g p a = record {
+  pub code-bad : (q : Refusal) (m : ℕ) → f ≡ Bad q → m ≡ refusalNumber q → CodeRead two s out (Refused m)
+  unfolding codeReading endReading readingNumber
+  code-bad q m g p = record {
     answer = ap Refused p ∙ sym (ap (endReading (bitsOf s)) (bad-is q g));
-    list = a ∙ sym (ap (endList (bitsOf s)) (bad-is q g));
+    list = λ z. absurd (refusal-some q (sym z ∙ p));
   }
 
   pub code-done : (at : ℕ) → f ≡ Whole at → clean (drop at (bitsOf s)) ≡ true → CodeRead two s out (Done at)
@@ -110,17 +115,16 @@ module _ (two : Bool) (s : List ℕ) (n : ℕ) (len : n ≡ 4096) (out : List �
       let w = whole-is at g in
       record {
         answer = passes _ _ _ _ p refl ∙ sym (ap (endReading (bitsOf s)) (w .1));
-        list = passes _ _ _ _ p (w .2) ∙ sym (ap (endList (bitsOf s)) (w .1));
+        list = λ z. passes _ _ _ _ p (w .2) ∙ sym (ap (endList (bitsOf s)) (w .1));
       }
 
-  -- a tail, and the list cleared again
-  pub code-tail : (at : ℕ) (after : List ℤ) → f ≡ Whole at → clean (drop at (bitsOf s)) ≡ false → after ≡ replicate 4096 (pos 0) → CodeRead two s after (Tail at)
-  unfolding codeReading codeList endReading endList
-  code-tail at after g p a =
+  pub code-tail : (at : ℕ) → f ≡ Whole at → clean (drop at (bitsOf s)) ≡ false → CodeRead two s out (Tail at)
+  unfolding codeReading endReading readingNumber
+  code-tail at g p =
       let w = whole-is at g in
       record {
         answer = fails _ _ _ _ p refl ∙ sym (ap (endReading (bitsOf s)) (w .1));
-        list = fails _ _ _ _ p a ∙ sym (ap (endList (bitsOf s)) (w .1));
+        list = λ z. absurd (omega arith);
       }
 
 -- ---- the call
@@ -137,6 +141,20 @@ passed mode n len e =
     let b = held (eqb n 4096) 2 _ 0 (λ z. omega arith) (a .1) in
     let d = held (leb len 65535) 6 _ 0 (λ z. omega arith) (b .1) in
     record { known = a .0; full = eqb-true n 4096 (b .0); small = leb-true len 65535 (d .0) }
+
+-- a code that is not taken leaves zeros
+end-zeros : (B : List Bool) (w : Walked) → (readingNumber (endReading B w) ≡ 0 → ⊥) → endList B w ≡ replicate 4096 (pos 0)
+unfolding endReading endList readingNumber _!_⨾_
+end-zeros B (bad q) h = refl
+end-zeros B (whole xs at) h = go (clean (drop at B)) h
+  where
+    go : (b : Bool) → (readingNumber (b ! Tail at ⨾ Done at) ≡ 0 → ⊥) → (b ! replicate 4096 (pos 0) ⨾ map unfoldZ xs) ≡ replicate 4096 (pos 0)
+    go true h = absurd (h refl)
+    go false h = refl
+
+refused-zeros : (two : Bool) (s : List ℕ) → (readingNumber (codeReading two s) ≡ 0 → ⊥) → codeList two s ≡ replicate 4096 (pos 0)
+unfolding codeReading codeList
+refused-zeros two s h = end-zeros (bitsOf s) (readList two 4096 (bitsOf s)) h
 
 shell-stops : (f : ℕ) (r : Reading) → (f ≡ 0 → ⊥) → Refused f ≡ afterShell f r
 unfolding afterShell
@@ -156,12 +174,20 @@ module _ (mode : ℕ) (s : List ℕ) (before : List ℤ) (f : ℕ) (e : f ≡ sh
     list = fails _ _ _ _ (ne-eqb _ 0 (λ z. h (e ∙ z))) refl;
   }
 
-  pub shell-passed : f ≡ 0 → (after : List ℤ) (r : Reading) → CodeRead (eqb mode 4) s after r → ComponentRead mode s before after r
-  unfolding reading readInto decoded
-  shell-passed z after r c = record {
-    answer = c .answer ∙ shell-goes (shellFault mode (length before) (length s)) (codeReading (eqb mode 4) s) (sym e ∙ z);
-    list = passes _ _ _ _ (eq-eqb _ 0 (sym e ∙ z)) (c .list);
-  }
+  module _ (z : f ≡ 0) (mid after : List ℤ) (r : Reading) (c : CodeRead (eqb mode 4) s mid r) where
+    answer-is : r ≡ reading mode (length before) s
+    unfolding reading
+    answer-is = c .answer ∙ shell-goes (shellFault mode (length before) (length s)) (codeReading (eqb mode 4) s) (sym e ∙ z)
+
+    -- the code was taken
+    pub code-taken : readingNumber r ≡ 0 → ComponentRead mode s before mid r
+    unfolding readInto decoded
+    code-taken h = record { answer = answer-is; list = passes _ _ _ _ (eq-eqb _ 0 (sym e ∙ z)) (c .list h) }
+
+    -- it was refused, and the list cleared again
+    pub code-refused : (readingNumber r ≡ 0 → ⊥) → after ≡ replicate 4096 (pos 0) → ComponentRead mode s before after r
+    unfolding readInto decoded
+    code-refused h a = record { answer = answer-is; list = passes _ _ _ _ (eq-eqb _ 0 (sym e ∙ z)) (a ∙ sym (refused-zeros (eqb mode 4) s (λ q. h (ap readingNumber (c .answer) ∙ q)))) }
 
 -- the number and the bits of what the reader answers
 pub read-number : (mode : ℕ) (s : List ℕ) (before after : List ℤ) (r : Reading) → ComponentRead mode s before after r → readingNumber r ≡ readFault mode (length before) s
@@ -186,12 +212,6 @@ number-split : (f : ℕ) (r : Reading) → 0 ≡ readingNumber (afterShell f r) 
 unfolding afterShell readingNumber
 number-split zero r e = (refl, e)
 number-split (suc f) r e = absurd (omega arith)
-
-refusal-some : (q : Refusal) → 0 ≡ refusalNumber q → ⊥
-unfolding refusalNumber
-refusal-some Short e = omega arith
-refusal-some Range e = omega arith
-refusal-some Overrun e = omega arith
 
 walk-split : (B : List Bool) (w : Walked) → 0 ≡ readingNumber (endReading B w) → (xs : List ℕ) × (at : ℕ) × (w ≡ whole xs at) × (clean (drop at B) ≡ true)
 unfolding endReading readingNumber _!_⨾_

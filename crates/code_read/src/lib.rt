@@ -152,22 +152,17 @@ fn shell_judge(mode: u8, n: usize, len: usize) -> u8
     0
 }
 
-// A code and its tail, into a list of 4,096.
+// A code and its tail, into a list of 4,096 zeros.
 fn read_code(two: bool, s: &[u8], list: &mut [i32]) -> Reading
-    requires { ⌜ (length (now s) ≤ 65535) × (length (now list) ≡ 4096) ⌝ }
+    requires { ⌜ (length (now s) ≤ 65535) × (length (now list) ≡ 4096) × (now list ≡ replicate 4096 (pos 0)) ⌝ }
     ensures { λ r. ⌜ CodeRead two (now (s .entry)) (now (list .exit)) r ⌝ }
 {
-    whole::clear(list);
     match fill(s, two, list) {
-        Filled::Bad(r) => {
-            whole::clear(list);
-            Reading::Refused(code::refusal_number(r))
-        }
+        Filled::Bad(r) => Reading::Refused(code::refusal_number(r)),
         Filled::Whole(at) => {
             if clean_tail(s, at) {
                 return Reading::Done(at);
             }
-            whole::clear(list);
             Reading::Tail(at)
         }
     }
@@ -181,5 +176,12 @@ pub fn read_component(mode: u8, s: &[u8], list: &mut [i32]) -> Reading
     if fault != 0 {
         return Reading::Refused(fault);
     }
-    read_code(mode == 4, s, list)
+    whole::clear(list);
+    let r = read_code(mode == 4, s, list);
+    let number = reading_number(r);
+    if number != 0 {
+        whole::clear(list);
+        return r;
+    }
+    r
 }

@@ -12,7 +12,7 @@ use Rattle.code.proofs.kr_after.Reads as kr-after-reads
 
 -- src/lib.rt:119:9
 returns : tie.Need-returns
-returns c = sym (let a = c .before .args in judge-above (a .c .kp) (a .c .krp) (a .left) (a .g) (a .a) (a .next) (c .if1 .taken))
+returns c = sym (let a = c .before .args in judge-above (a .c .kp) (a .c .krp) (a .left) (a .g) (a .a) (a .next) (omega arith))
 
 -- src/lib.rt:123:9
 returns-2 : tie.Need-returns-2

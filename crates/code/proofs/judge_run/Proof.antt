@@ -13,7 +13,7 @@ use Rattle.code.proofs.less.Reads as less-reads
 
 -- src/lib.rt:165:9
 returns : tie.Need-returns
-returns c = sym (let a = c .before .args in run-wide (a .c .kp) (a .c .krp) (a .left) (a .z) (a .sign) (a .g) (a .next) (c .if1 .taken))
+returns c = sym (let a = c .before .args in run-wide (a .c .kp) (a .c .krp) (a .left) (a .z) (a .sign) (a .g) (a .next) (omega arith))
 
 -- src/lib.rt:168:9
 returns-2 : tie.Need-returns-2

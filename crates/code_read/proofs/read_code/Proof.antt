@@ -13,47 +13,34 @@ use Rattle.code_read.proofs.read_code.Lts as lts
 use Rattle.code.proofs.refusal_number.Reads as refusal-number-reads
 use Rattle.code_read.proofs.clean_tail.Reads as clean-tail-reads
 use Rattle.code_read.proofs.fill.Reads as fill-reads
-use Rattle.whole.proofs.clear.Reads as clear-reads
 
--- src/lib.rt:160:5
-clear-requires : tie.Need-clear-requires
-clear-requires c κs = search needs
-
--- src/lib.rt:161:11
+-- src/lib.rt:160:11
 fill-requires : tie.Need-fill-requires
-fill-requires c κs = (c .before .before .before .before .before .pre .0, omega (arith, c .before .before .clear .kept .0, c .before .before .before .before .before .pre .1), c .before .before .clear .ensures ∙ ap (λ (k : ℕ). replicate k (pos 0)) (sym (c .before .before .clear .kept .0)))
+fill-requires c κs = (c .before .before .pre .0, omega arith, c .before .before .pre .2 ∙ ap (λ (k : ℕ). replicate k (pos 0)) (sym (c .before .before .pre .1)))
 
--- src/lib.rt:162:21
+-- src/lib.rt:161:21
 enum-known-r : tie.Need-enum-known-r
 enum-known-r c = search needs
 
--- src/lib.rt:163:13
-clear-requires-2 : tie.Need-clear-requires-2
-clear-requires-2 c κs = search needs
-
--- src/lib.rt:164:30
+-- src/lib.rt:161:44
 refusal-number-requires : tie.Need-refusal-number-requires
 refusal-number-requires c κs = search needs
 
--- src/lib.rt:166:23
+-- src/lib.rt:162:23
 enum-known-at : tie.Need-enum-known-at
 enum-known-at c = search needs
 
--- src/lib.rt:167:16
+-- src/lib.rt:163:16
 clean-tail-requires : tie.Need-clean-tail-requires
-clean-tail-requires c κs = (c .before .before .before .before .before .before .before .before .before .before .pre .0, whole-fits (c .before .before .before .before .before .before .before .before .before .before .args .two) (now (c .before .before .before .before .before .before .before .before .before .before .args .s)) (length (c .before .before .before .before .before .before .before .clear .last .0)) (c .before .before .before .before .before .before .before .clear .kept .0 ∙ c .before .before .before .before .before .before .before .before .before .before .pre .1) (c .before .before .before .before .fill .last .1 .1 .0) (c .before .before .before .before .fill .result) (c .before .before .before .before .fill .ensures) _ (c .before .at .given .1))
+clean-tail-requires c κs = (c .before .before .before .before .before .before .before .pre .0, whole-fits (c .before .before .before .before .before .before .before .args .two) (now (c .before .before .before .before .before .before .before .args .s)) (length (now (c .before .before .before .before .before .before .before .args .list))) (c .before .before .before .before .before .before .before .pre .1) (c .before .before .before .before .fill .last .1 .1 .0) (c .before .before .before .before .fill .result) (c .before .before .before .before .fill .ensures) _ (c .before .at .given .1))
 
--- src/lib.rt:168:17
+-- src/lib.rt:164:17
 same-length : tie.Need-same-length
 same-length c = search needs
 
--- src/lib.rt:168:17
+-- src/lib.rt:164:17
 returns : tie.Need-returns
-returns c = code-done (c .before .before .before .before .before .before .before .before .before .before .before .before .args .two) (now (c .before .before .before .before .before .before .before .before .before .before .before .before .args .s)) (length (c .before .before .before .before .before .before .before .before .before .clear .last .0)) (c .before .before .before .before .before .before .before .before .before .clear .kept .0 ∙ c .before .before .before .before .before .before .before .before .before .before .before .before .pre .1) (c .before .before .before .before .before .before .fill .last .1 .1 .0) (c .before .before .before .before .before .before .fill .result) (c .before .before .before .before .before .before .fill .ensures) _ (c .before .before .before .at .given .1) (sym (c .before .clean-tail .ensures) ∙ c .if1 .taken)
-
--- src/lib.rt:170:13
-clear-requires-3 : tie.Need-clear-requires-3
-clear-requires-3 c κs = search needs
+returns c = code-done (c .before .before .before .before .before .before .before .before .before .args .two) (now (c .before .before .before .before .before .before .before .before .before .args .s)) (length (now (c .before .before .before .before .before .before .before .before .before .args .list))) (c .before .before .before .before .before .before .before .before .before .pre .1) (c .before .before .before .before .before .before .fill .last .1 .1 .0) (c .before .before .before .before .before .before .fill .result) (c .before .before .before .before .before .before .fill .ensures) _ (c .before .before .before .at .given .1) (sym (c .before .clean-tail .ensures) ∙ c .if1 .taken)
 
 -- src/lib.rt:156:1
 same-length-2 : tie.Need-same-length-2
@@ -61,7 +48,7 @@ same-length-2 c = search needs
 
 -- src/lib.rt:156:1
 returns-2 : tie.Need-returns-2
-returns-2 c = code-bad (c .before .before .before .before .before .before .before .before .before .before .before .before .before .before .args .two) (now (c .before .before .before .before .before .before .before .before .before .before .before .before .before .before .args .s)) (length (c .before .before .before .before .before .before .before .before .before .before .before .clear .last .0)) (c .before .before .before .before .before .before .before .before .before .before .before .clear .kept .0 ∙ c .before .before .before .before .before .before .before .before .before .before .before .before .before .before .pre .1) (c .before .before .before .before .before .before .before .before .fill .last .1 .1 .0) (c .before .before .before .before .before .before .before .before .fill .result) (c .before .before .before .before .before .before .before .before .fill .ensures) _ _ _ (c .before .before .before .before .before .r .given .1) (c .refusal-number .ensures) (c .before .before .clear2 .ensures ∙ ap (λ (k : ℕ). replicate k (pos 0)) (c .before .before .before .before .before .before .before .before .fill .kept .1 .1 .0 ∙ c .before .before .before .before .before .before .before .before .before .before .before .clear .kept .0 ∙ c .before .before .before .before .before .before .before .before .before .before .before .before .before .before .pre .1))
+returns-2 c = code-bad (c .before .before .before .before .before .before .before .before .args .two) (now (c .before .before .before .before .before .before .before .before .args .s)) (length (now (c .before .before .before .before .before .before .before .before .args .list))) (c .before .before .before .before .before .before .before .before .pre .1) (c .before .before .before .before .before .fill .last .1 .1 .0) (c .before .before .before .before .before .fill .result) (c .before .before .before .before .before .fill .ensures) _ _ (c .before .before .r .given .1) (c .refusal-number .ensures)
 
 -- src/lib.rt:156:1
 same-length-3 : tie.Need-same-length-3
@@ -69,22 +56,19 @@ same-length-3 c = search needs
 
 -- src/lib.rt:156:1
 returns-3 : tie.Need-returns-3
-returns-3 c = code-tail (c .before .before .before .before .before .before .before .before .before .before .before .before .before .before .before .args .two) (now (c .before .before .before .before .before .before .before .before .before .before .before .before .before .before .before .args .s)) (length (c .before .before .before .before .before .before .before .before .before .before .before .before .clear .last .0)) (c .before .before .before .before .before .before .before .before .before .before .before .before .clear .kept .0 ∙ c .before .before .before .before .before .before .before .before .before .before .before .before .before .before .before .pre .1) (c .before .before .before .before .before .before .before .before .before .fill .last .1 .1 .0) (c .before .before .before .before .before .before .before .before .before .fill .result) (c .before .before .before .before .before .before .before .before .before .fill .ensures) _ _ (c .before .before .before .before .before .before .at .given .1) (sym (c .before .before .before .before .clean-tail .ensures) ∙ c .before .before .before .if1 .left) (c .before .clear3 .ensures ∙ ap (λ (k : ℕ). replicate k (pos 0)) (c .before .before .before .before .before .before .before .before .before .fill .kept .1 .1 .0 ∙ c .before .before .before .before .before .before .before .before .before .before .before .before .clear .kept .0 ∙ c .before .before .before .before .before .before .before .before .before .before .before .before .before .before .before .pre .1))
+returns-3 c = code-tail (c .before .before .before .before .before .before .before .before .before .args .two) (now (c .before .before .before .before .before .before .before .before .before .args .s)) (length (now (c .before .before .before .before .before .before .before .before .before .args .list))) (c .before .before .before .before .before .before .before .before .before .pre .1) (c .before .before .before .before .before .before .fill .last .1 .1 .0) (c .before .before .before .before .before .before .fill .result) (c .before .before .before .before .before .before .fill .ensures) _ (c .before .before .before .at .given .1) (sym (c .before .clean-tail .ensures) ∙ c .if1 .left)
 
 pub read-code-spec : {M : Type 1} → statement M
 read-code-spec =
     tie.close
     (tie.spec
-    clear-requires
     fill-requires
     enum-known-r
-    clear-requires-2
     refusal-number-requires
     enum-known-at
     clean-tail-requires
     same-length
     returns
-    clear-requires-3
     same-length-2
     returns-2
     same-length-3

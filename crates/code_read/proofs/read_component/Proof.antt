@@ -1,35 +1,70 @@
 use denote.Ref.{now}
-use lib.ListN.{length}
+use lib.IntN.{pos}
+use lib.ListN.{length, replicate}
+use Prim.Native.Nat.{ℕ}
 use mathlib.Core.Path.{_≡_, refl, sym, ap, _∙_}
-use Rattle.code_read.specs.ReadLaws.{Passed, passed, shell-refused, shell-passed}
+use Rattle.code_read.specs.ReadLaws.{Passed, passed, shell-refused, code-refused, code-taken}
 use borrow.Author.Needs.{needs}
 use Rattle.code_read.proofs.read_component.Statement.{statement}
 use Rattle.code_read.proofs.read_component.Tie as tie
 use Rattle.code_read.proofs.read_component.Reads as reads
 use Rattle.code_read.proofs.read_component.Lts as lts
 use Rattle.code_read.proofs.read_code.Reads as read-code-reads
+use Rattle.code_read.proofs.reading_number.Reads as reading-number-reads
 use Rattle.code_read.proofs.shell_judge.Reads as shell-judge-reads
+use Rattle.whole.proofs.clear.Reads as clear-reads
 
--- src/lib.rt:180:9
+-- src/lib.rt:175:9
 shell-judge-requires : tie.Need-shell-judge-requires
 shell-judge-requires c κs = search needs
 
--- src/lib.rt:182:9
+-- src/lib.rt:177:9
 returns : tie.Need-returns
 returns c = shell-refused (c .before .before .before .args .mode) (now (c .before .before .before .args .s)) (now (c .before .before .before .args .list)) (c .before .shell-judge .result) (c .before .shell-judge .ensures) (c .if1 .taken)
 
--- src/lib.rt:184:5
-read-code-requires : tie.Need-read-code-requires
-read-code-requires c κs = let p = passed (c .before .before .before .before .args .mode) (length (now (c .before .before .before .before .args .list))) (length (now (c .before .before .before .before .args .s))) (sym (c .before .if1 .left) ∙ c .before .before .shell-judge .ensures) in (p .small, p .full)
+-- src/lib.rt:179:5
+clear-requires : tie.Need-clear-requires
+clear-requires c κs = search needs
 
--- src/lib.rt:177:1
+-- src/lib.rt:180:9
+read-code-requires : tie.Need-read-code-requires
+read-code-requires c κs = let p = passed (c .before .before .before .before .before .before .before .args .mode) (length (now (c .before .before .before .before .before .before .before .args .list))) (length (now (c .before .before .before .before .before .before .before .args .s))) (sym (c .before .before .before .before .if1 .left) ∙ c .before .before .before .before .before .shell-judge .ensures) in (p .small, c .before .before .clear .kept .0 ∙ p .full, c .before .before .clear .ensures ∙ ap (λ (k : ℕ). replicate k (pos 0)) (p .full))
+
+-- src/lib.rt:181:9
+reading-number-requires : tie.Need-reading-number-requires
+reading-number-requires c κs = search needs
+
+-- src/lib.rt:183:9
+clear-requires-2 : tie.Need-clear-requires-2
+clear-requires-2 c κs = search needs
+
+-- src/lib.rt:184:9
 same-length : tie.Need-same-length
 same-length c = search needs
 
--- src/lib.rt:177:1
+-- src/lib.rt:184:9
 returns-2 : tie.Need-returns-2
-returns-2 c = shell-passed (c .before .before .before .before .before .before .args .mode) (now (c .before .before .before .before .before .before .args .s)) (now (c .before .before .before .before .before .before .args .list)) (c .before .before .before .before .shell-judge .result) (c .before .before .before .before .shell-judge .ensures) (c .before .before .before .if1 .left) (c .before .read-code .last .1 .1 .0) (c .before .read-code .result) (c .before .read-code .ensures)
+returns-2 c = let p = passed (c .before .before .before .before .before .before .before .before .before .before .before .before .before .before .args .mode) (length (now (c .before .before .before .before .before .before .before .before .before .before .before .before .before .before .args .list))) (length (now (c .before .before .before .before .before .before .before .before .before .before .before .before .before .before .args .s))) (sym (c .before .before .before .before .before .before .before .before .before .before .before .if1 .left) ∙ c .before .before .before .before .before .before .before .before .before .before .before .before .shell-judge .ensures) in code-refused (c .before .before .before .before .before .before .before .before .before .before .before .before .before .before .args .mode) (now (c .before .before .before .before .before .before .before .before .before .before .before .before .before .before .args .s)) (now (c .before .before .before .before .before .before .before .before .before .before .before .before .before .before .args .list)) (c .before .before .before .before .before .before .before .before .before .before .before .before .shell-judge .result) (c .before .before .before .before .before .before .before .before .before .before .before .before .shell-judge .ensures) (c .before .before .before .before .before .before .before .before .before .before .before .if1 .left) (c .before .before .before .before .before .before .read-code .last .1 .1 .0) _ (c .before .before .before .before .before .before .read-code .result) (c .before .before .before .before .before .before .read-code .ensures) (λ z. c .before .before .before .if2 .taken (c .before .before .before .before .reading-number .ensures ∙ z)) (c .before .clear2 .ensures ∙ ap (λ (k : ℕ). replicate k (pos 0)) (c .before .before .before .before .before .before .read-code .kept .1 .1 .0 ∙ c .before .before .before .before .before .before .before .before .before .clear .kept .0 ∙ p .full))
+
+-- src/lib.rt:172:1
+same-length-2 : tie.Need-same-length-2
+same-length-2 c = search needs
+
+-- src/lib.rt:172:1
+returns-3 : tie.Need-returns-3
+returns-3 c = code-taken (c .before .before .before .before .before .before .before .before .before .before .before .args .mode) (now (c .before .before .before .before .before .before .before .before .before .before .before .args .s)) (now (c .before .before .before .before .before .before .before .before .before .before .before .args .list)) (c .before .before .before .before .before .before .before .before .before .shell-judge .result) (c .before .before .before .before .before .before .before .before .before .shell-judge .ensures) (c .before .before .before .before .before .before .before .before .if1 .left) (c .before .before .before .read-code .last .1 .1 .0) (c .before .before .before .read-code .last .1 .1 .0) (c .before .before .before .read-code .result) (c .before .before .before .read-code .ensures) (sym (c .before .reading-number .ensures) ∙ c .if2 .left)
 
 pub read-component-spec : {M : Type 1} → statement M
 read-component-spec =
-    tie.close (tie.spec shell-judge-requires returns read-code-requires same-length returns-2)
+    tie.close
+    (tie.spec
+    shell-judge-requires
+    returns
+    clear-requires
+    read-code-requires
+    reading-number-requires
+    clear-requires-2
+    same-length
+    returns-2
+    same-length-2
+    returns-3)
