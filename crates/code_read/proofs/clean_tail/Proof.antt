@@ -18,7 +18,7 @@ sub-left c = search needs
 
 -- src/lib.rt:19:9
 returns : tie.Need-returns
-returns c = tail-long (now (c .before .before .args .s)) (c .before .before .args .at) (c .before .before .pre .1) (c .if1 .taken)
+returns c = tail-long (now (c .before .before .args .s)) (c .before .before .args .at) (c .before .before .pre .1) (omega arith)
 
 -- src/lib.rt:21:11
 number-requires : tie.Need-number-requires
