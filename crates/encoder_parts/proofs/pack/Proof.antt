@@ -1,0 +1,44 @@
+use native.Mathlib.Omega.{arith}
+use Rattle.layout.specs.ReadBack.{quant-at}
+use denote.Ref.{now}
+use Prim.Native.Nat.{_+_}
+use borrow.Author.Needs.{needs}
+use Rattle.encoder_parts.proofs.pack.Statement.{statement}
+use Rattle.encoder_parts.proofs.pack.Tie as tie
+use Rattle.encoder_parts.proofs.pack.Reads as reads
+use Rattle.encoder_parts.proofs.pack.Lts as lts
+
+-- src/lib.rt:87:5
+shared-slice-read-result : tie.Need-shared-slice-read-result
+shared-slice-read-result c = search needs
+
+-- src/lib.rt:87:19
+add-result : tie.Need-add-result
+add-result c = search needs
+
+-- src/lib.rt:87:17
+shared-slice-read-result-2 : tie.Need-shared-slice-read-result-2
+shared-slice-read-result-2 c = search needs
+
+-- src/lib.rt:87:12
+mul-result : tie.Need-mul-result
+mul-result c = omega (arith, quant-at (now (c .before .before .args .q)) (c .before .before .pre .2) (c .before .before .args .k + 1) (c .before .before .pre .1))
+
+-- src/lib.rt:87:5
+add-result-2 : tie.Need-add-result-2
+add-result-2 c = omega (arith, quant-at (now (c .before .before .args .q)) (c .before .before .pre .2) (c .before .before .args .k) (omega (arith, c .before .before .pre .1)), quant-at (now (c .before .before .args .q)) (c .before .before .pre .2) (c .before .before .args .k + 1) (c .before .before .pre .1))
+
+-- src/lib.rt:83:1
+returns : tie.Need-returns
+returns c = search needs
+
+pub pack-spec : {M : Type 1} → statement M
+pack-spec =
+    tie.close
+    (tie.spec
+    shared-slice-read-result
+    add-result
+    shared-slice-read-result-2
+    mul-result
+    add-result-2
+    returns)

@@ -1,0 +1,93 @@
+use mathlib.Core.Path.{refl, ap, sym, _∙_}
+use native.Mathlib.Omega.{arith}
+use Rattle.wire.specs.Le.{bytes16, bytes32, patch}
+use Rattle.wire.specs.LeLaws.{patch-next}
+use Rattle.encoder_parts.specs.Parts.{headOf}
+use borrow.Author.Needs.{needs}
+use Rattle.encoder_parts.proofs.put_head.Statement.{statement}
+use Rattle.encoder_parts.proofs.put_head.Tie as tie
+use Rattle.encoder_parts.proofs.put_head.Reads as reads
+use Rattle.encoder_parts.proofs.put_head.Lts as lts
+use Rattle.wire.proofs.open_block.Reads as open-block-reads
+use Rattle.wire.proofs.put16_at.Reads as put16-at-reads
+use Rattle.wire.proofs.put8_at.Reads as put8-at-reads
+use Rattle.wire.proofs.put_two16.Reads as put-two16-reads
+use Rattle.wire.proofs.put_two8.Reads as put-two8-reads
+
+-- src/lib.rt:16:5
+open-block-requires : tie.Need-open-block-requires
+open-block-requires c κs = search needs
+
+-- src/lib.rt:17:25
+add-put-two8 : tie.Need-add-put-two8
+add-put-two8 c = search needs
+
+-- src/lib.rt:17:5
+put-two8-requires : tie.Need-put-two8-requires
+put-two8-requires c κs = search needs
+
+-- src/lib.rt:18:24
+add-put8-at : tie.Need-add-put8-at
+add-put8-at c = search needs
+
+-- src/lib.rt:18:5
+put8-at-requires : tie.Need-put8-at-requires
+put8-at-requires c κs = search needs
+
+-- src/lib.rt:19:26
+add-put-two16 : tie.Need-add-put-two16
+add-put-two16 c = search needs
+
+-- src/lib.rt:19:5
+put-two16-requires : tie.Need-put-two16-requires
+put-two16-requires c κs = search needs
+
+-- src/lib.rt:20:26
+add-put-two16-2 : tie.Need-add-put-two16-2
+add-put-two16-2 c = search needs
+
+-- src/lib.rt:20:5
+put-two16-requires-2 : tie.Need-put-two16-requires-2
+put-two16-requires-2 c κs = search needs
+
+-- src/lib.rt:21:25
+add-put16-at : tie.Need-add-put16-at
+add-put16-at c = search needs
+
+-- src/lib.rt:21:5
+put16-at-requires : tie.Need-put16-at-requires
+put16-at-requires c κs = search needs
+
+-- src/lib.rt:12:1
+same-length : tie.Need-same-length
+same-length c = search needs
+
+-- src/lib.rt:12:1
+returns : tie.Need-returns
+unfolding bytes16 bytes32 headOf
+returns c =
+    let w1 = c .before .before .before .before .before .before .before .before .before .before .before .before .before .before .before .before .before .before .before .before .before .before .open-block .ensures in
+    let w2 = patch-next _ _ _ _ _ _ _ w1 (c .before .before .before .before .before .before .before .before .before .before .before .before .before .before .before .before .before .before .put-two8 .ensures) refl (omega arith) in
+    let w3 = patch-next _ _ _ _ _ _ _ w2 (c .before .before .before .before .before .before .before .before .before .before .before .before .before .before .put8-at .ensures) refl (omega arith) in
+    let w4 = patch-next _ _ _ _ _ _ _ w3 (c .before .before .before .before .before .before .before .before .before .before .put-two16 .ensures) refl (omega arith) in
+    let w5 = patch-next _ _ _ _ _ _ _ w4 (c .before .before .before .before .before .before .put-two162 .ensures) refl (omega arith) in
+    let w6 = patch-next _ _ _ _ _ _ _ w5 (c .before .before .put16-at .ensures) refl (omega arith) in
+    w6
+
+pub put-head-spec : {M : Type 1} → statement M
+put-head-spec =
+    tie.close
+    (tie.spec
+    open-block-requires
+    add-put-two8
+    put-two8-requires
+    add-put8-at
+    put8-at-requires
+    add-put-two16
+    put-two16-requires
+    add-put-two16-2
+    put-two16-requires-2
+    add-put16-at
+    put16-at-requires
+    same-length
+    returns)
