@@ -9,6 +9,7 @@ use borrow.Author.Tests.{lt-ltb, le-leb, ltb-true, eq-eqb}
 use lib.IntN.{ℤ, pos, natAbs}
 use lib.ListN.{length, drop, getD, replicate, length-map, length-replicate}
 use lib.Seq.{drop-at}
+use Rattle.whole.specs.Tab.{AllNear}
 use Rattle.wire.specs.Row.{_!_⨾_}
 use Rattle.wire.specs.RowLaws.{held, passes, fails}
 use Rattle.bits.specs.Bits.{bitsOf}
@@ -133,6 +134,18 @@ answers-exactly mode s before zs f r =
           list = record { len = ap length z ∙ length-map xs unfoldZ ∙ t .len; range = fold-range zs (subst InRange x (t .range)) };
           bytes = record { pad = length (drop at (bitsOf s)); few = k .0; bits = t .bits ∙ ap (λ (b : List Bool). codeOf (eqb mode 4) xs ++ b) (k .1) ∙ ap (λ (y : List ℕ). codeOf (eqb mode 4) y ++ replicate (length (drop at (bitsOf s))) false) x };
         }
+
+-- the bytes of a list's code are read as that list: what a frame's reader makes of a frame that our writer wrote
+pub written-decoded : (mode : ℕ) (s : List ℕ) (zs : List ℤ) → isMode mode ≡ true → length s ≤ 65535 → Listed zs → Written s (code mode zs) → (readFault mode 4096 s ≡ 0) × (decoded mode s ≡ zs)
+unfolding readFault readingNumber
+written-decoded mode s zs m h l w =
+    let a = exactly-answers mode s zs zs (record { call = record { allowed = m; room = l .len; small = h }; list = l; bytes = w }) in
+    let f : readFault mode (length zs) s ≡ 0 = ap readingNumber (a .0) in
+    (ap (λ (n : ℕ). readFault mode n s) (sym (l .len)) ∙ f, sym (into-decoded mode s zs (sym f)) ∙ a .1)
+
+-- 4,096 numbers within 32,767, in the form of the crate whole
+pub near-listed : (zs : List ℤ) → length zs ≡ 4096 → AllNear 32767 zs → Listed zs
+near-listed zs l a = record { len = l; range = λ i. a .all i .near }
 
 -- the same of any reader that keeps the promise
 module _ (mode : ℕ) (s : List ℕ) (before after : List ℤ) (r : Reading) (p : ComponentRead mode s before after r) where
