@@ -10,7 +10,8 @@ use lib.Seq.{getD-set-other}
 use borrow.Author.Count.{below-more}
 use Rattle.whole.specs.Put.{put-new, put-old}
 use Rattle.whole.specs.Tab.{at, grid, length-grid, row-in}
-use Rattle.forth.specs.Forth.{highAt, lowAt, lowRow, highRow}
+use Rattle.halves.specs.Halves.{highAt, lowAt}
+use Rattle.forth.specs.Forth.{lowRow, highRow}
 use Rattle.forth.specs.Holds.{holds-grid, holds-append, holds-all}
 
 -- column x of rows of w numbers, and what is to stand in its low and its high half

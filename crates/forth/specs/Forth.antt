@@ -1,26 +1,10 @@
--- The way forth (01, "Bands and the wavelet"; 001, 3.1.8.1.4): floors throughout.
+-- The way forth of one component's tile (01, "Bands and the wavelet"; 001, 3.1.8.1.4).
 use mathlib.Core.List.{List, _++_}
-use Prim.Native.Nat.{ℕ, _+_, _*_, _-_, min}
-use lib.IntN.{ℤ, _+ℤ_, _-ℤ_}
+use Prim.Native.Nat.{ℕ, _+_, _*_}
+use lib.IntN.{ℤ}
 use lib.ListN.{take, drop}
 use Rattle.whole.specs.Tab.{at, grid}
-use Rattle.line.specs.Line.{halfZ}
-
--- "H[n] = floor((x[2n+1] - floor((x[2n] + x[2n+2])/2))/2)": o is x[2n+1], e is x[2n], f is x[2n+2]
-abbrev pub highZ : ℤ → ℤ → ℤ → ℤ
-highZ o e f = halfZ (o -ℤ halfZ (e +ℤ f))
-
--- "L[n] = x[2n] + floor((H[n-1] + H[n])/2)": e is x[2n], g is H[n-1], h is H[n]
-abbrev pub lowZ : ℤ → ℤ → ℤ → ℤ
-lowZ e g h = e +ℤ halfZ (g +ℤ h)
-
--- H[n] of a line x of 2N numbers. "x past the end is the last even x"
-unfoldable pub highAt : ℕ → (ℕ → ℤ) → ℕ → ℤ
-highAt N x n = highZ (x (2 * n + 1)) (x (2 * n)) (x (2 * min (n + 1) (N - 1)))
-
--- L[n]. "H[-1] is H[0]": 0 - 1 is 0 here
-unfoldable pub lowAt : ℕ → (ℕ → ℤ) → ℕ → ℤ
-lowAt N x n = lowZ (x (2 * n)) (highAt N x (n - 1)) (highAt N x n)
+use Rattle.halves.specs.Halves.{highAt, lowAt}
 
 -- "columns first": place x of row r of the low and of the high half, from 2N rows of 2N
 abbrev pub lowRow : ℕ → (ℕ → ℤ) → ℕ → ℕ → ℤ

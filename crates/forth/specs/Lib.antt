@@ -2,4 +2,4 @@ pub mod Forth
 pub mod ForthLaws
 pub mod Holds
 pub mod ColumnLaws
-pub mod RowLaws
+pub mod LevelLaws

@@ -4,27 +4,9 @@ ghost use mathlib.Core.Path.{_≡_};
 ghost use mathlib.Core.List.{_++_};
 ghost use Prim.Native.Nat.{ℕ, _+_, _-_, _*_, min, _<_, _≤_};
 ghost use lib.ListN.{length};
-ghost use Rattle.whole.specs.Near.{Near};
 ghost use Rattle.whole.specs.Tab.{at, grid, AllNear};
-ghost use Rattle.forth.specs.Forth.{highZ, lowZ, lowRow, highRow, levelForth, forthFrom, tileForth};
+ghost use Rattle.forth.specs.Forth.{lowRow, highRow, levelForth, forthFrom, tileForth};
 ghost use Rattle.forth.specs.ColumnLaws.{Two};
-ghost use Rattle.forth.specs.RowLaws.{Apart, from, Split, Bands};
-
-// H[n]: o is x[2n+1], e is x[2n], f is x[2n+2].
-fn high(o: i32, e: i32, f: i32) -> i32
-    requires { ⌜ Near 268435456 o × Near 268435456 e × Near 268435456 f ⌝ }
-    ensures { λ r. ⌜ r ≡ highZ o e f ⌝ }
-{
-    (o - ((e + f) >> 1)) >> 1
-}
-
-// L[n]: e is x[2n], g is H[n-1], h is H[n].
-fn low(e: i32, g: i32, h: i32) -> i32
-    requires { ⌜ Near 268435456 e × Near 268435456 g × Near 268435456 h ⌝ }
-    ensures { λ r. ⌜ r ≡ lowZ e g h ⌝ }
-{
-    e + ((g + h) >> 1)
-}
 
 // Rows r and n + r of the column pass, L and H, from the source alone: a is the row of H before r, b and z are the even places after a and r.
 fn pair(src: &[i32], dst: &mut [i32], n: usize, w: usize, r: usize, a: usize, b: usize, z: usize)
@@ -42,9 +24,9 @@ fn pair(src: &[i32], dst: &mut [i32], n: usize, w: usize, r: usize, a: usize, b:
     let h = (n + r) * w;
     let mut c = 0;
     while c < w {
-        let g = high(src[k + c], src[i + c], src[m + c]);
-        let t = high(src[o + c], src[e + c], src[f + c]);
-        let v = low(src[e + c], g, t);
+        let g = halves::high(src[k + c], src[i + c], src[m + c]);
+        let t = halves::high(src[o + c], src[e + c], src[f + c]);
+        let v = halves::low(src[e + c], g, t);
         dst[l + c] = v;
         dst[h + c] = t;
         c += 1;
@@ -65,42 +47,6 @@ fn columns(src: &[i32], dst: &mut [i32], n: usize, w: usize)
     pair(src, dst, n, w, r, r - 1, r, r);
 }
 
-// One row of 2n numbers from place s on, into its low half at l and its high half at h. One loop that carries the H before.
-fn row(src: &[i32], dst: &mut [i32], n: usize, s: usize, l: usize, h: usize)
-    requires { ⌜ (2 ≤ n) × (s + 2 * n ≤ length (now src)) × (length (now src) ≤ 4096) × (l + n ≤ length (now dst)) × (h + n ≤ length (now dst)) × (length (now dst) ≤ 4096) ⌝ }
-    requires { ⌜ Apart n l h × AllNear 268435456 (now src) ⌝ }
-    ensures { λ u. ⌜ Split n (from (now (src .entry)) s) l h n (now (dst .entry)) (now (dst .exit)) ⌝ }
-{
-    let last = n - 1;
-    let mut g = high(src[s + 1], src[s], src[s + 2]);
-    let mut j = 0;
-    while j < last {
-        let v = high(src[s + (2 * j + 1)], src[s + 2 * j], src[s + (2 * j + 2)]);
-        let u = low(src[s + 2 * j], g, v);
-        dst[h + j] = v;
-        dst[l + j] = u;
-        g = v;
-        j += 1;
-    }
-    let v = high(src[s + (2 * j + 1)], src[s + 2 * j], src[s + 2 * j]);
-    let u = low(src[s + 2 * j], g, v);
-    dst[h + j] = v;
-    dst[l + j] = u;
-}
-
-// All rows of one half of the column pass, from place s on, into the band of their low halves at l and of their high halves at h.
-fn rows(src: &[i32], dst: &mut [i32], n: usize, w: usize, s: usize, l: usize, h: usize)
-    requires { ⌜ (2 ≤ n) × (n ≤ 32) × (w ≡ 2 * n) × (s + n * w ≤ length (now src)) × (length (now src) ≤ 4096) × (l + n * n ≤ length (now dst)) × (h + n * n ≤ length (now dst)) × (length (now dst) ≤ 4096) ⌝ }
-    requires { ⌜ Apart (n * n) l h × AllNear 268435456 (now src) ⌝ }
-    ensures { λ u. ⌜ Bands n w s (now (src .entry)) l h n (now (dst .entry)) (now (dst .exit)) ⌝ }
-{
-    let mut r = 0;
-    while r < n {
-        row(src, dst, n, s + r * w, l + r * n, h + r * n);
-        r += 1;
-    }
-}
-
 // One level: the low rows give LL and HL, the high rows LH and HH.
 fn level_forth(region: &mut [i32], tmp: &mut [i32], n: usize, w: usize)
     requires { ⌜ (2 ≤ n) × (n ≤ 32) × (length (now region) ≡ 4 * (n * n)) × (length (now tmp) ≡ 4 * (n * n)) × AllNear 134217728 (now region) × (w ≡ 2 * n) ⌝ }
@@ -108,11 +54,11 @@ fn level_forth(region: &mut [i32], tmp: &mut [i32], n: usize, w: usize)
 {
     let q = n * n;
     columns(region, tmp, n, w);
-    rows(tmp, region, n, w, 0, 3 * q, 0);
-    rows(tmp, region, n, w, n * w, q, 2 * q);
+    halves::rows(tmp, region, n, w, 0, 3 * q, 0);
+    halves::rows(tmp, region, n, w, n * w, q, 2 * q);
 }
 
-// One level on the end of the list, from place a on.
+// One level on the end of the list, from place a on: the LL of the level before.
 fn level_from(work: &mut [i32], tmp: &mut [i32], a: usize, n: usize, w: usize)
     requires { ⌜ (2 ≤ n) × (n ≤ 32) × (length (now work) ≡ a + 4 * (n * n)) × (length (now work) ≡ 4096) × (length (now tmp) ≡ 4096) × AllNear 134217728 (now work) × (w ≡ 2 * n) ⌝ }
     ensures { λ r. ⌜ now (work .exit) ≡ forthFrom a n (now (work .entry)) ⌝ }

@@ -7,7 +7,8 @@ use lib.ListN.{length}
 use Rattle.whole.specs.Tab.{AllNear}
 use Rattle.line.specs.More.{all-wide}
 use Rattle.forth.specs.ForthLaws.{passed-near}
-use Rattle.forth.specs.RowLaws.{Apart, Size, size, bands-as, level-is}
+use Rattle.halves.specs.RowLaws.{Apart, bands-as}
+use Rattle.forth.specs.LevelLaws.{Size, size, level-is}
 use Rattle.forth.proofs.level_forth.Statement.{statement}
 use Rattle.forth.proofs.level_forth.Tie as tie
 

@@ -6,8 +6,8 @@ use lib.ListN.{length, length-set}
 use mir.Syntax.{w32}
 use Rattle.whole.specs.Near.{Near, back, back-near, back-ok}
 use Rattle.whole.specs.Tab.{at}
-use Rattle.forth.specs.Forth.{highAt}
-use Rattle.forth.specs.ForthLaws.{high-step, low-step, high-near}
+use Rattle.halves.specs.Halves.{highAt}
+use Rattle.halves.specs.HalvesLaws.{high-step, low-step, high-near}
 use Rattle.forth.specs.ColumnLaws.{colOf, Low, High, Two, two-start, two-put, two-whole, Room, room}
 use Rattle.forth.proofs.pair.Statement.{statement}
 use Rattle.forth.proofs.pair.Tie as tie

@@ -1,10 +1,10 @@
--- `forth::low` meets its contract.
+-- `halves::low` meets its contract.
 use mir.Syntax.{w32}
 use lib.IntN.{_+ℤ_}
 use Rattle.whole.specs.Calc.{Calc, fits, val, arg, add, half}
-use Rattle.forth.specs.Forth.{lowZ}
-use Rattle.forth.proofs.low.Statement.{statement}
-use Rattle.forth.proofs.low.Tie as tie
+use Rattle.halves.specs.Halves.{lowZ}
+use Rattle.halves.proofs.low.Statement.{statement}
+use Rattle.halves.proofs.low.Tie as tie
 
 abbrev sum : (c : tie.Start) → Calc w32 (c .args .g +ℤ c .args .h)
 sum c = add (arg w32 (c .pre .1) tt) (arg w32 (c .pre .2) tt) tt

@@ -1,12 +1,12 @@
--- `forth::rows` meets its contract. Invariant: the first r rows of both bands are done.
+-- `halves::rows` meets its contract. Invariant: the first r rows of both bands are done.
 use Prim.Native.Nat.{ℕ, _≤_, _<_, _*_, _-_, _+_}
 use mathlib.Core.Path.{_≡_, _∙_}
 use native.Mathlib.Omega.{arith}
 use lib.ListN.{length}
 use Rattle.whole.specs.Tab.{row-in}
-use Rattle.forth.specs.RowLaws.{Bands, bands-start, bands-turn, bands-whole, row-apart}
-use Rattle.forth.proofs.rows.Statement.{statement}
-use Rattle.forth.proofs.rows.Tie as tie
+use Rattle.halves.specs.RowLaws.{Bands, bands-start, bands-turn, bands-whole, row-apart}
+use Rattle.halves.proofs.rows.Statement.{statement}
+use Rattle.halves.proofs.rows.Tie as tie
 
 abbrev Inv-loop : tie.InvT-loop
 Inv-loop src dst₀ n w s l h r₀ dst r = (r ≤ n) × Bands n w s src l h r dst₀ dst

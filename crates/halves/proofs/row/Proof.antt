@@ -1,4 +1,4 @@
--- `forth::row` meets its contract. Invariant: the first j numbers of both halves are done, and g is the H before.
+-- `halves::row` meets its contract. Invariant: the first j numbers of both halves are done, and g is the H before.
 use Prim.Native.Nat.{ℕ, _≤_, _<_, _*_, _-_, _+_, min}
 use mathlib.Core.Path.{_≡_, _∙_, ap, sym, refl, subst}
 use native.Mathlib.Omega.{arith}
@@ -7,11 +7,11 @@ use mir.Syntax.{w32}
 use mir.Val.{toZ, ofZ}
 use Rattle.whole.specs.Near.{Near, back, back-near, back-ok}
 use Rattle.whole.specs.Tab.{at}
-use Rattle.forth.specs.Forth.{highAt}
-use Rattle.forth.specs.ForthLaws.{high-step, low-step, high-near}
-use Rattle.forth.specs.RowLaws.{from, Split, split-start, split-put, split-whole}
-use Rattle.forth.proofs.row.Statement.{statement}
-use Rattle.forth.proofs.row.Tie as tie
+use Rattle.halves.specs.Halves.{highAt}
+use Rattle.halves.specs.HalvesLaws.{high-step, low-step, high-near}
+use Rattle.halves.specs.RowLaws.{from, Split, split-start, split-put, split-whole}
+use Rattle.halves.proofs.row.Statement.{statement}
+use Rattle.halves.proofs.row.Tie as tie
 
 abbrev Inv-loop : tie.InvT-loop
 Inv-loop src dst₀ n s l h last g₀ j₀ dst g j =

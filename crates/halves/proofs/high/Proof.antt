@@ -1,10 +1,10 @@
--- `forth::high` meets its contract.
+-- `halves::high` meets its contract.
 use mir.Syntax.{w32}
 use lib.IntN.{_+ℤ_}
 use Rattle.whole.specs.Calc.{Calc, fits, val, arg, add, sub, half}
-use Rattle.forth.specs.Forth.{highZ}
-use Rattle.forth.proofs.high.Statement.{statement}
-use Rattle.forth.proofs.high.Tie as tie
+use Rattle.halves.specs.Halves.{highZ}
+use Rattle.halves.proofs.high.Statement.{statement}
+use Rattle.halves.proofs.high.Tie as tie
 
 abbrev sum : (c : tie.Start) → Calc w32 (c .args .e +ℤ c .args .f)
 sum c = add (arg w32 (c .pre .1) tt) (arg w32 (c .pre .2) tt) tt
