@@ -1,9 +1,8 @@
-use Prim.Native.Nat.{ℕ, _+_, _-_, _*_, _/_, _%_, _^_, _≤_, _<_}
-use mathlib.Core.Path.{_≡_, refl, sym, _∙_, ap}
-use mathlib.Core.List.{List, map}
+use Prim.Native.Nat.{_+_}
+use mathlib.Core.Path.{refl, sym, _∙_}
+use mathlib.Core.List.{map}
 use native.Mathlib.Omega.{arith}
-use lib.IntN.{ℤ, pos}
-use lib.ListN.{length, drop, getD, length-map}
+use lib.ListN.{drop, length-map}
 use Rattle.code.specs.Fold.{foldZ}
 use Rattle.code.specs.CodeLaws.{item-twin, item-single}
 use Rattle.code_put.specs.ItemLaws.{at-drop, none-past}

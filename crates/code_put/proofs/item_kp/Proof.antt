@@ -1,6 +1,4 @@
-use Prim.Native.Nat.{ℕ, _+_, _-_, _*_, _/_, _%_, _^_, _≤_}
-use mathlib.Core.Path.{_≡_, refl, sym, _∙_, ap}
-use native.Mathlib.Omega.{arith}
+use mathlib.Core.Path.{sym, _∙_}
 use Rattle.code_put.specs.ItemLaws.{kp-full, kp-single, kp-twin, kp-run}
 use borrow.Author.Needs.{needs}
 use Rattle.code_put.proofs.item_kp.Statement.{statement}

@@ -1,13 +1,7 @@
-use Prim.Native.Nat.{ℕ, _+_, _-_, _*_, _/_, _%_, _^_, _≤_, _<_}
-use mathlib.Core.Path.{_≡_, refl, sym, _∙_, ap}
-use mathlib.Core.List.{List, map}
+use Prim.Native.Nat.{_+_, _-_, _/_}
+use mathlib.Core.Path.{sym, _∙_}
 use native.Mathlib.Omega.{arith}
-use lib.IntN.{ℤ, pos}
-use lib.ListN.{length, drop, getD, length-map}
-use Rattle.code.specs.Fold.{foldZ}
-use Rattle.bits.specs.GrLaws.{grLen}
-use Rattle.code.specs.Code.{size, itemBits}
-use Rattle.code_put.specs.ItemLaws.{SmallItem, small-single, small-twin, small-run, size-full, size-single, size-twin, size-run, gr-few, pair-few}
+use Rattle.code_put.specs.ItemLaws.{small-single, small-twin, small-run, size-full, size-single, size-twin, size-run, gr-few, pair-few}
 use borrow.Author.Needs.{needs}
 use Rattle.code_put.proofs.item_size.Statement.{statement}
 use Rattle.code_put.proofs.item_size.Tie as tie

@@ -1,8 +1,5 @@
-use Prim.Native.Nat.{ℕ, _+_, _-_, _*_, _/_, _%_, _^_, _≤_}
-use mathlib.Core.Path.{_≡_, refl, sym, _∙_, ap}
-use mathlib.Core.List.{List, [], _∷_, _++_}
+use mathlib.Core.Path.{refl}
 use native.Mathlib.Omega.{arith}
-use lib.ListN.{length}
 use Rattle.bits.specs.Here.{length-grBits}
 use Rattle.code_put.specs.ItemLaws.{is-full, is-single, is-twin, is-run, small-twin, small-run, item-ready}
 use Rattle.code.specs.Code.{itemBits}

@@ -1,6 +1,4 @@
-use Prim.Native.Nat.{ℕ, _+_, _-_, _*_, _/_, _%_, _^_, _≤_}
-use mathlib.Core.Path.{_≡_, refl, sym, _∙_, ap}
-use mathlib.Core.List.{List, [], _∷_, _++_}
+use Prim.Native.Nat.{_+_, _/_, _≤_}
 use native.Mathlib.Omega.{arith}
 use lib.ListN.{length}
 use Rattle.bits.specs.Bits.{grBits}
@@ -9,7 +7,6 @@ use Rattle.bits.specs.PenLaws.{put-more, ready-after}
 use Rattle.code.specs.Code.{pairBits, size}
 use Rattle.code.specs.Steps.{size-fit}
 use Rattle.code_put.specs.ItemLaws.{pair-length, pair-parts, ready-less}
-use Rattle.bits.specs.GrLaws.{grLen}
 use borrow.Author.Needs.{needs}
 use Rattle.code_put.proofs.put_twin.Statement.{statement}
 use Rattle.code_put.proofs.put_twin.Tie as tie

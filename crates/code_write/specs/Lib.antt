@@ -1,0 +1,5 @@
+pub mod Pack
+pub mod PackLaws
+pub mod Write
+pub mod WriteLaws
+pub mod Once

@@ -1,0 +1,88 @@
+-- The component writer: what it answers and what it leaves, for every input. 01, "Numbers the fitter sees" and "Component writer: 2, 9, 6, 13."
+use Prim.Native.Nat.{ℕ, zero, suc}
+use mathlib.Core.Path.{_≡_}
+use mathlib.Core.Bool.{Bool, true, false}
+use mathlib.Core.List.{List, [], _∷_}
+use lib.Dec.{leb, eqb}
+use lib.IntN.{ℤ, natAbs}
+use lib.ListN.{length}
+use Rattle.wire.specs.Row.{_!_⨾_, _⨟_}
+use Rattle.wire.specs.Le.{written}
+use Rattle.code_read.specs.Read.{isMode}
+use Rattle.code_read.specs.Once.{code}
+use Rattle.code_write.specs.Pack.{packed}
+use Rattle.code_write.specs.declared.Writing.{Writing}
+use Rattle.code_write.specs.declared.Writing.the-variants.{Done, Refused}
+use Rattle.code_write.specs.declared.Sized.{Sized}
+
+-- ---- the answer: 01's number, and its value
+
+unfoldable pub writingNumber : Writing → ℕ
+writingNumber (Done length) = 0
+writingNumber (Refused number) = number
+
+-- "when done they say the length in bytes, refused 0"
+unfoldable pub writingLength : Writing → ℕ
+writingLength (Done length) = length
+writingLength (Refused number) = 0
+
+-- ---- the bytes
+
+-- the code of a list, filled up
+unfoldable pub bytesOf : ℕ → List ℤ → List ℕ
+bytesOf mode zs = packed (code mode zs)
+
+-- ---- the faults
+
+-- not 9: no number is "outside -32,767 to 32,767"
+unfoldable pub inRange : List ℤ → Bool
+inRange [] = true
+inRange (z ∷ zs) = leb (natAbs z) 32767 ! false ⨾ inRange zs
+
+-- of a component by itself: "9 (as the reader would judge) then 6", which is given over "65,535 bytes in a component"
+unfoldable pub componentFault : ℕ → List ℤ → ℕ
+componentFault mode zs =
+    inRange zs ! 9 ⨾
+    leb (length (bytesOf mode zs)) 65535 ! 6 ⨾
+    0
+
+-- "Component calls first refuse a mode that is neither of the two (5)." Then 2: the "component list is not 4,096 numbers"
+unfoldable pub callFault : ℕ → ℕ → ℕ
+callFault mode n =
+    isMode mode ! 5 ⨾
+    eqb n 4096 ! 2 ⨾
+    0
+
+-- 13: "the lent output is shorter than what is to be written"
+unfoldable pub writeFault : ℕ → List ℤ → ℕ → ℕ
+writeFault mode zs room =
+    callFault mode (length zs) ⨟
+    (componentFault mode zs ⨟
+    (leb (length (bytesOf mode zs)) room ! 13 ⨾ 0))
+
+-- ---- by the fault's number: what is said, and what is left
+
+unfoldable pub lengthSaid : ℕ → List ℕ → ℕ
+lengthSaid zero bytes = length bytes
+lengthSaid (suc f) bytes = 0
+
+-- "Writers leave their output untouched on every refusal", "and bytes past it are untouched"
+unfoldable pub outLeft : ℕ → List ℕ → List ℕ → List ℕ
+outLeft zero bytes out = written bytes out
+outLeft (suc f) bytes out = out
+
+-- ---- what the functions promise
+
+-- the writer: the fault's number, and the bytes that are to be written
+pub record Wrote (fault : ℕ) (bytes out out′ : List ℕ) (r : Writing) : Type 0 where
+  pub number : writingNumber r ≡ fault
+  pub said : writingLength r ≡ lengthSaid fault bytes
+  pub left : out′ ≡ outLeft fault bytes out
+
+abbrev pub ComponentWritten : ℕ → List ℤ → List ℕ → List ℕ → Writing → Type 0
+ComponentWritten mode zs out out′ r = Wrote (writeFault mode zs (length out)) (bytesOf mode zs) out out′ r
+
+-- what measures: the refusal, and where there is none the size in bytes
+pub record Measures (refusal bytes : ℕ) (r : Sized) : Type 0 where
+  pub number : r .number ≡ refusal
+  pub size : r .number ≡ 0 → r .size ≡ bytes
