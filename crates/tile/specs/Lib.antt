@@ -1,0 +1,4 @@
+pub mod Component
+pub mod ComponentLaws
+pub mod Word
+pub mod WordLaws
