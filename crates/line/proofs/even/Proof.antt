@@ -1,4 +1,4 @@
--- `line::even` meets its contract. Assumes nothing.
+-- `line::even` meets its contract.
 use mir.Syntax.{w32}
 use lib.IntN.{pos}
 use Rattle.whole.specs.Calc.{Calc, arg, lit, add, sub, half, fits, val}

@@ -1,4 +1,4 @@
--- `line::odd_along` meets its contract. Assumes nothing.
+-- `line::odd_along` meets its contract.
 use mir.Syntax.{w32}
 use lib.Dec.{lit≤}
 use lib.IntN.{pos, _+ℤ_, _*ℤ_}

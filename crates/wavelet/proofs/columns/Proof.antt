@@ -1,4 +1,4 @@
--- `wavelet::columns` meets its contract. Invariant: the rows below 2 r are done. Assumes nothing.
+-- `wavelet::columns` meets its contract. Invariant: the rows below 2 r are done.
 use Prim.Native.Nat.{ℕ, _≤_, _<_, _*_, _-_, _+_}
 use mathlib.Core.Path.{_≡_, refl, sym, subst}
 use native.Mathlib.Omega.{arith}

@@ -1,4 +1,4 @@
--- `wavelet::level_back` meets its contract. Assumes nothing.
+-- `wavelet::level_back` meets its contract.
 use Prim.Native.Nat.{ℕ, _*_, _+_}
 use mathlib.Core.Path.{_≡_, _∙_, ap, sym, subst}
 use mathlib.Core.List.{List}

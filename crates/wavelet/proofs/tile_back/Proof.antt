@@ -1,3 +1,4 @@
+-- `wavelet::tile_back` meets its contract.
 use Prim.Native.Nat.{ℕ, _≤_}
 use mathlib.Core.Path.{_≡_, _∙_, ap, sym, refl, subst}
 use lib.Dec.{lit≤}
@@ -7,24 +8,18 @@ use Rattle.wavelet.specs.LevelLaws.{levelFrom, halves-all, third, second
 use borrow.Author.Needs.{needs}
 use Rattle.wavelet.proofs.tile_back.Statement.{statement}
 use Rattle.wavelet.proofs.tile_back.Tie as tie
-use Rattle.wavelet.proofs.tile_back.Reads as reads
-use Rattle.wavelet.proofs.tile_back.Lts as lts
-use Rattle.wavelet.proofs.level_from.Reads as level-from-reads
 
--- src/lib.rt:98:5
 level-from-requires : tie.Need-level-from-requires
 level-from-requires c κs =
     let s = c .before .before in
     (lit≤ tt, lit≤ tt, s .pre .0, s .pre .0, s .pre .1, all-wide (lit≤ tt) (s .pre .2), refl)
 
--- src/lib.rt:99:5
 level-from-requires-2 : tie.Need-level-from-requires-2
 level-from-requires-2 c κs =
     let s = c .before .before .before .before .before .before .before in
     let f = c .before .before .before .before .level-from in
     (lit≤ tt, lit≤ tt, f .kept .0 ∙ s .pre .0, f .kept .0 ∙ s .pre .0, f .kept .1 .0 ∙ s .pre .1, subst (AllNear 67108863) (sym (f .ensures)) (halves-all (lit≤ tt) (lit≤ tt) (third (s .args .work .now) (s .pre .0) (s .pre .2))), refl)
 
--- src/lib.rt:100:5
 level-from-requires-3 : tie.Need-level-from-requires-3
 level-from-requires-3 c κs =
     let s = c .before .before .before .before .before .before .before .before .before .before .before .before in
@@ -40,15 +35,6 @@ level-from-requires-3 c κs =
       refl,
     )
 
--- src/lib.rt:94:1
-same-length : tie.Need-same-length
-same-length c = search needs
-
--- src/lib.rt:94:1
-same-length-2 : tie.Need-same-length-2
-same-length-2 c = search needs
-
--- src/lib.rt:94:1
 returns : tie.Need-returns
 returns c =
     let s = c .before .before .before .before .before .before .before .before .before .before .before .before .before .before .before in
@@ -60,10 +46,4 @@ returns c =
 pub tile-back-spec : {M : Type 1} → statement M
 tile-back-spec =
     tie.close
-    (tie.spec
-    level-from-requires
-    level-from-requires-2
-    level-from-requires-3
-    same-length
-    same-length-2
-    returns)
+    (tie.spec level-from-requires level-from-requires-2 level-from-requires-3 (λ c. search needs) (λ c. search needs) returns)
