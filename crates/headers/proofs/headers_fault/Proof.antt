@@ -1,4 +1,4 @@
-use Rattle.wire.specs.RowLaws.{rows, passes, fails, case-yes, case-no, stops, goes-on, ne-is, eq-is}
+use Rattle.wire.specs.RowLaws.{rows}
 use Rattle.headers.specs.Headers.{headersFault}
 use borrow.Author.Needs.{needs}
 use Rattle.headers.proofs.headers_fault.Statement.{statement}

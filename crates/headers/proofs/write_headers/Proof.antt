@@ -2,7 +2,6 @@ use Rattle.headers.specs.HeadersLaws.{writable}
 use mathlib.Core.Path.{refl, ap, sym, _∙_}
 use native.Mathlib.Omega.{arith}
 use Rattle.wire.specs.Le.{bytes16, bytes32, patch, written}
-use Rattle.wire.specs.RowLaws.{rows, passes, fails, case-yes, case-no, stops, goes-on, ne-is, eq-is}
 use Rattle.headers.specs.Headers.{headersFault, headersOf, syncOf, versionsOf, channelsOf, contextOf}
 use Rattle.headers.specs.Wrote.{Wrote, refused, done}
 use borrow.Author.Needs.{needs}

@@ -1,4 +1,4 @@
-use Rattle.wire.specs.RowLaws.{rows, passes, fails, case-yes, case-no, stops, goes-on, ne-is, eq-is}
+use Rattle.wire.specs.RowLaws.{rows}
 use native.Mathlib.Omega.{arith}
 use Rattle.session.specs.Header.{fieldFault}
 use Rattle.session.specs.HeaderLaws.{size0, size1, size2, size3}

@@ -1,5 +1,5 @@
 use mathlib.Core.Path.{refl, ap, sym, _∙_}
-use Rattle.wire.specs.RowLaws.{rows, passes, fails, case-yes, case-no, stops, goes-on, ne-is, eq-is}
+use Rattle.wire.specs.RowLaws.{rows, passes, fails, ne-is, eq-is}
 use Rattle.session.specs.Header.{headJudge}
 use borrow.Author.Needs.{needs}
 use Rattle.session.proofs.head_judge.Statement.{statement}

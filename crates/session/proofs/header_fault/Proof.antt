@@ -1,6 +1,10 @@
-use mathlib.Core.Path.{refl, ap, sym, _∙_}
+use Rattle.session.proofs.Laws.{Judged, fault-head, fault-field, fault-more, fault-none}
+use borrow.Author.Tests.{lt-leb}
+use lib.ListN.{length}
+use denote.Ref.{now}
+use mathlib.Core.Path.{refl, sym, _∙_}
 use native.Mathlib.Omega.{arith}
-use Rattle.wire.specs.RowLaws.{rows, passes, fails, case-yes, case-no, stops, goes-on, ne-is, eq-is}
+use Rattle.wire.specs.RowLaws.{fails}
 use Rattle.session.specs.Header.{headerFault}
 use Rattle.session.specs.HeaderLaws.{head-good}
 use borrow.Author.Needs.{needs}
@@ -16,7 +20,7 @@ use Rattle.wire.proofs.le32_at.Reads as le32-at-reads
 -- src/lib.rt:273:9
 returns : tie.Need-returns
 unfolding headerFault
-returns c = search rows
+returns c = fails _ _ _ _ (lt-leb 6 (length (now (c .before .before .args .m))) (c .if1 .taken)) refl
 
 -- src/lib.rt:275:9
 le16-at-requires : tie.Need-le16-at-requires
@@ -32,8 +36,7 @@ head-judge-requires c κs = search needs
 
 -- src/lib.rt:279:9
 returns-2 : tie.Need-returns-2
-unfolding headerFault
-returns-2 c = passes _ _ _ _ (search rows) (stops _ _ _ (λ e. c .if2 .taken (cc)) (cc))
+returns-2 c = fault-head _ _ _ _ _ (record { some = c .before .before .before .before .if1 .left; type = c .before .before .before .le16-at .ensures .0; len = c .before .before .le32-at .ensures .0; is = c .before .head-judge .ensures }) (c .if2 .taken)
 
 -- src/lib.rt:281:9
 field-fault-requires : tie.Need-field-fault-requires
@@ -41,18 +44,15 @@ field-fault-requires c κs = let g = head-good (c .before .before .before .befor
 
 -- src/lib.rt:283:9
 returns-3 : tie.Need-returns-3
-unfolding headerFault
-returns-3 c = passes _ _ _ _ (search rows) (goes-on _ _ _ (cc) (stops _ _ _ (λ e. c .if3 .taken (cc)) (cc)))
+returns-3 c = fault-field _ _ _ _ _ _ (record { some = c .before .before .before .before .before .before .if1 .left; type = c .before .before .before .before .before .le16-at .ensures .0; len = c .before .before .before .before .le32-at .ensures .0; is = c .before .before .before .head-judge .ensures }) (c .before .before .if2 .left) (c .before .field-fault .ensures) (c .if3 .taken)
 
 -- src/lib.rt:286:9
 returns-4 : tie.Need-returns-4
-unfolding headerFault
-returns-4 c = passes _ _ _ _ (search rows) (goes-on _ _ _ (cc) (goes-on _ _ _ (cc) (fails _ _ _ _ (ne-is refl (c .before .before .before .before .before .le32-at .ensures .0) (c .if4 .taken)) refl)))
+returns-4 c = fault-more _ _ _ _ _ _ (record { some = c .before .before .before .before .before .before .before .if1 .left; type = c .before .before .before .before .before .before .le16-at .ensures .0; len = c .before .before .before .before .before .le32-at .ensures .0; is = c .before .before .before .before .head-judge .ensures }) (c .before .before .before .if2 .left) (c .before .before .field-fault .ensures) (c .before .if3 .left) (c .if4 .taken)
 
 -- src/lib.rt:269:1
 returns-5 : tie.Need-returns-5
-unfolding headerFault
-returns-5 c = passes _ _ _ _ (search rows) (goes-on _ _ _ (cc) (goes-on _ _ _ (cc) (passes _ _ _ _ (eq-is refl (c .before .before .before .before .before .le32-at .ensures .0) (c .if4 .left)) refl)))
+returns-5 c = fault-none _ _ _ _ _ _ (record { some = c .before .before .before .before .before .before .before .if1 .left; type = c .before .before .before .before .before .before .le16-at .ensures .0; len = c .before .before .before .before .before .le32-at .ensures .0; is = c .before .before .before .before .head-judge .ensures }) (c .before .before .before .if2 .left) (c .before .before .field-fault .ensures) (c .before .if3 .left) (c .if4 .left)
 
 pub header-fault-spec : {M : Type 1} → statement M
 header-fault-spec =

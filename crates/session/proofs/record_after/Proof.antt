@@ -1,6 +1,6 @@
 use mathlib.Core.Path.{refl, ap, sym, _∙_}
 use native.Mathlib.Omega.{arith}
-use Rattle.wire.specs.RowLaws.{rows, passes, fails, case-yes, case-no, stops, goes-on, ne-is, eq-is}
+use Rattle.wire.specs.RowLaws.{case-yes, case-no, ne-is, eq-is}
 use Rattle.session.specs.Header.{recordAfter}
 use Rattle.session.specs.HeaderLaws.{size2, size3}
 use borrow.Author.Needs.{needs}

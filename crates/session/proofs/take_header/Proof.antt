@@ -1,5 +1,5 @@
 use mathlib.Core.Path.{refl, ap, sym, _∙_}
-use Rattle.wire.specs.RowLaws.{rows, passes, fails, case-yes, case-no, stops, goes-on, ne-is, eq-is}
+use Rattle.wire.specs.RowLaws.{case-yes, case-no, ne-is, eq-is}
 use Rattle.session.specs.Header.{headerOf}
 use Rattle.session.specs.HeaderLaws.{good}
 use borrow.Author.Needs.{needs}

@@ -1,4 +1,4 @@
-use Rattle.wire.specs.RowLaws.{rows, passes, fails, case-yes, case-no, stops, goes-on, ne-is, eq-is}
+use Rattle.wire.specs.RowLaws.{rows}
 use Rattle.session.specs.Header.{versionsJudge}
 use Rattle.session.proofs.versions_judge.Statement.{statement}
 use Rattle.session.proofs.versions_judge.Tie as tie
