@@ -1,0 +1,23 @@
+use mathlib.Core.Path.{ap, sym}
+use Rattle.panel.specs.declared.HeaderReading.{HeaderReading}
+use Rattle.panel.specs.Panel.{headerRecord}
+use borrow.Author.Needs.{needs}
+use Rattle.panel.proofs.header_record.Statement.{statement}
+use Rattle.panel.proofs.header_record.Tie as tie
+
+enum-known-h : tie.Need-enum-known-h
+enum-known-h c = search needs
+
+enum-known-h-2 : tie.Need-enum-known-h-2
+enum-known-h-2 c = search needs
+
+returns : tie.Need-returns
+unfolding headerRecord
+returns c = ap (λ (h : HeaderReading). headerRecord h (c .before .before .before .args .before)) (sym (c .before .h .given .1))
+
+returns-2 : tie.Need-returns-2
+unfolding headerRecord
+returns-2 c = ap (λ (h : HeaderReading). headerRecord h (c .before .before .before .args .before)) (sym (c .before .h2 .given .1))
+
+pub header-record-spec : {M : Type 1} → statement M
+header-record-spec = tie.close (tie.spec enum-known-h enum-known-h-2 returns returns-2)

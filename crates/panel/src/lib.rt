@@ -1,0 +1,77 @@
+// The public edge: the calls of document 01 with its numbers ("Numbers the fitter sees"). An answer is an enum, and one definition gives 01's number and
+// values for every case of it (specs/Panel here, and those of the writers and the component reader). Any input is answered: nothing here has a `requires`.
+ghost use mathlib.Core.Path.{_≡_};
+ghost use lib.ListN.{length};
+ghost use Rattle.code_read.specs.Read.{ComponentRead};
+ghost use Rattle.code_write.specs.Write.{ComponentWritten, Wrote};
+ghost use Rattle.headers.specs.Headers.{headersOf, headersFault};
+ghost use Rattle.panel.specs.Panel.{headerReading, headerNumber, headerRecord, HeadersWritten};
+use code_read::Reading;
+use code_write::Writing;
+use session::Session;
+
+// What reading a header came to: the record after it, or 01's number.
+pub enum HeaderReading {
+    Taken(Session),
+    Refused(u8),
+}
+
+// 01's number.
+pub fn header_number(h: HeaderReading) -> u8
+    ensures { λ n. ⌜ n ≡ headerNumber h ⌝ }
+{
+    match h {
+        HeaderReading::Taken(s) => 0,
+        HeaderReading::Refused(number) => number,
+    }
+}
+
+// The record after the call; a refused header leaves the one from before.
+pub fn header_record(h: HeaderReading, before: Session) -> Session
+    ensures { λ r. ⌜ r ≡ headerRecord h before ⌝ }
+{
+    match h {
+        HeaderReading::Taken(s) => s,
+        HeaderReading::Refused(number) => before,
+    }
+}
+
+// Reads one header block, which is the whole message.
+pub fn read_header(s: Session, message: &[u8]) -> HeaderReading
+    ensures { λ r. ⌜ r ≡ headerReading s (now (message .entry)) ⌝ }
+{
+    let a = session::take_header(s, message);
+    let number = a.number;
+    if number != 0 {
+        return HeaderReading::Refused(number);
+    }
+    let after = a.session;
+    HeaderReading::Taken(after)
+}
+
+// Reads one component's code into a list of 4,096 numbers.
+pub fn read_component(mode: u8, code: &[u8], list: &mut [i32]) -> Reading
+    ensures { λ r. ⌜ ComponentRead mode (now (code .entry)) (now (list .entry)) (now (list .exit)) r ⌝ }
+{
+    code_read::read_component(mode, code, list)
+}
+
+// Writes one component's code: the one code of the list.
+pub fn write_component(mode: u8, list: &[i32], out: &mut [u8]) -> Writing
+    ensures { λ r. ⌜ ComponentWritten mode (now (list .entry)) (now (out .entry)) (now (out .exit)) r ⌝ }
+{
+    code_write::write_component(mode, list, out)
+}
+
+// Writes the four header blocks, 47 bytes.
+pub fn write_headers(width: usize, height: usize, mode: u8, out: &mut [u8]) -> Writing
+    ensures { λ r. ⌜ HeadersWritten width height mode (now (out .entry)) (now (out .exit)) r ⌝ }
+{
+    let w = headers::write_headers(width, height, mode, out);
+    let number = w.number;
+    if number != 0 {
+        return Writing::Refused(number);
+    }
+    let size = w.size;
+    Writing::Done(size)
+}
