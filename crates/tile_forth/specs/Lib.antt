@@ -1,0 +1,2 @@
+pub mod TileForth
+pub mod TileForthLaws

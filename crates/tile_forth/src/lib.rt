@@ -1,0 +1,85 @@
+// A tile on the frame writer's way (document 01, "Colour": "The frame writer takes three bytes a pixel (R, G, B), all tiles row by row, edge tiles
+// filled by repeating the last column and row"): one component's samples, the wavelet forth, rounding and LL3's differences.
+use bands::Quant;
+ghost use mathlib.Core.Path.{_≡_};
+ghost use Prim.Native.Nat.{_+_, _-_, _*_, min, _<_, _≤_};
+ghost use lib.ListN.{length};
+ghost use Rattle.whole.specs.Near.{Near};
+ghost use Rattle.whole.specs.Tab.{tab, AllNear};
+ghost use Rattle.bands.specs.Bands.{QuantGood};
+ghost use Rattle.tile_forth.specs.TileForth.{componentOf, edge, bytesAt, sampleAt, roundedOf};
+
+// Component c of a pixel: 0 is Y, 1 is Cb, 2 is Cr.
+fn component(c: usize, r: u8, g: u8, b: u8) -> i32
+    ensures { λ v. ⌜ (v ≡ componentOf c r g b) × Near 16384 v ⌝ }
+{
+    if c == 0 {
+        return colour::luma(r, g, b);
+    }
+    if c == 1 {
+        return colour::cb(r, g, b);
+    }
+    colour::cr(r, g, b)
+}
+
+// The column or row that is taken for k: the last one past the end.
+fn last_or(n: usize, k: usize) -> usize
+    requires { ⌜ 1 ≤ n ⌝ }
+    ensures { λ r. ⌜ r ≡ edge n k ⌝ }
+{
+    if k < n {
+        return k;
+    }
+    n - 1
+}
+
+// Component c of the pixel whose bytes start at place p.
+fn bytes_at(pixels: &[u8], c: usize, p: usize) -> i32
+    requires { ⌜ p + 3 ≤ length (now pixels) ⌝ }
+    ensures { λ v. ⌜ (v ≡ bytesAt (now (pixels .entry)) c p) × Near 16384 v ⌝ }
+{
+    component(c, pixels[p], pixels[p + 1], pixels[p + 2])
+}
+
+// Place i of component c of the tile (tx, ty).
+fn sample(pixels: &[u8], w: usize, h: usize, tx: usize, ty: usize, c: usize, i: usize) -> i32
+    requires { ⌜ (1 ≤ w) × (w ≤ 4096) × (1 ≤ h) × (h ≤ 2048) × (3 * (w * h) ≡ length (now pixels)) × (tx < 64) × (ty < 64) × (i < 4096) ⌝ }
+    ensures { λ v. ⌜ (v ≡ sampleAt (now (pixels .entry)) w h tx ty c i) × Near 16384 v ⌝ }
+{
+    let x = last_or(w, 64 * tx + i % 64);
+    let y = last_or(h, 64 * ty + i / 64);
+    bytes_at(pixels, c, 3 * (y * w + x))
+}
+
+// The samples of component c of the tile (tx, ty).
+fn load(pixels: &[u8], w: usize, h: usize, tx: usize, ty: usize, c: usize, work: &mut [i32])
+    requires { ⌜ (1 ≤ w) × (w ≤ 4096) × (1 ≤ h) × (h ≤ 2048) × (3 * (w * h) ≡ length (now pixels)) × (tx < 64) × (ty < 64) × (length (now work) ≡ 4096) ⌝ }
+    ensures { λ _. ⌜ (now (work .exit) ≡ tab 4096 (sampleAt (now (pixels .entry)) w h tx ty c)) × AllNear 16384 (now (work .exit)) ⌝ }
+{
+    let mut i = 0;
+    while i < 4096 {
+        work[i] = sample(pixels, w, h, tx, ty, c, i);
+        i += 1;
+    }
+}
+
+// The list that the code of component c of the tile (tx, ty) is of.
+pub fn load_component(
+    pixels: &[u8],
+    w: usize,
+    h: usize,
+    q: Quant,
+    tx: usize,
+    ty: usize,
+    c: usize,
+    work: &mut [i32],
+    tmp: &mut [i32],
+)
+    requires { ⌜ (1 ≤ w) × (w ≤ 4096) × (1 ≤ h) × (h ≤ 2048) × (3 * (w * h) ≡ length (now pixels)) × (64 * tx < w) × (64 * ty < h) ⌝ }
+    requires { ⌜ (length (now work) ≡ 4096) × (length (now tmp) ≡ 4096) × QuantGood (q .v) ⌝ }
+    ensures { λ _. ⌜ now (work .exit) ≡ roundedOf (now (pixels .entry)) w h (q .v) tx ty c ⌝ }
+{
+    load(pixels, w, h, tx, ty, c, work);
+    forth::tile_forth(work, tmp);
+    bands::round_all(work, q);
+}
