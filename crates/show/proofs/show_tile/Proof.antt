@@ -1,0 +1,79 @@
+use mathlib.Core.Path.{_≡_, refl, ap, sym, _∙_, subst, subst⁻¹}
+use native.Mathlib.Omega.{arith}
+use denote.Ref.{now}
+use Rattle.layout.specs.Reader.{tileAt}
+use Rattle.show.specs.ShowLaws.{part-plane, tile-shown}
+use borrow.Author.Needs.{needs}
+use Rattle.show.proofs.show_tile.Statement.{statement}
+use Rattle.show.proofs.show_tile.Tie as tie
+use Rattle.show.proofs.show_tile.Reads as reads
+use Rattle.show.proofs.show_tile.Lts as lts
+use Rattle.paint.proofs.paint_tile.Reads as paint-tile-reads
+use Rattle.show.proofs.tile_samples.Reads as tile-samples-reads
+use Rattle.wire.proofs.le16_at.Reads as le16-at-reads
+
+-- src/lib.rt:74:5
+tile-samples-requires : tie.Need-tile-samples-requires
+tile-samples-requires c κs = search needs
+
+-- src/lib.rt:75:31
+add-le16-at : tie.Need-add-le16-at
+add-le16-at c = search needs
+
+-- src/lib.rt:75:9
+le16-at-requires : tie.Need-le16-at-requires
+le16-at-requires c κs = search needs
+
+-- src/lib.rt:76:31
+add-le16-at-2 : tie.Need-add-le16-at-2
+add-le16-at-2 c = search needs
+
+-- src/lib.rt:76:9
+le16-at-requires-2 : tie.Need-le16-at-requires-2
+le16-at-requires-2 c κs = search needs
+
+-- src/lib.rt:77:5
+paint-tile-requires : tie.Need-paint-tile-requires
+paint-tile-requires c κs = (c .before .before .before .before .before .before .before .before .before .before .before .before .before .before .before .before .before .before .before .pre .3, c .before .before .before .before .before .before .before .before .before .before .before .before .before .before .before .before .before .before .before .pre .4, c .before .before .before .before .before .le16-at .ensures .1, c .before .before .before .before .le16-at2 .ensures .1, part-plane (c .before .before .before .before .before .before .before .before .before .before .before .before .before .before .before .before .before .before .before .args .mode) (now (c .before .before .before .before .before .before .before .before .before .before .before .before .before .before .before .before .before .before .before .args .m)) (c .before .before .before .before .before .before .before .before .before .before .before .before .before .before .before .before .before .before .before .args .sp) _ (now (c .before .before .before .before .before .before .before .before .before .before .before .before .before .before .before .before .before .before .before .args .d)) (c .before .before .before .before .before .before .before .before .before .before .before .before .before .before .before .before .before .before .before .args .at) 0 _ (c .before .before .before .before .before .before .before .before .before .before .before .before .before .before .before .before .before .before .before .pre .2) (omega arith) (c .before .before .before .before .before .before .before .before .before .before .tile-samples .ensures .y-is), part-plane (c .before .before .before .before .before .before .before .before .before .before .before .before .before .before .before .before .before .before .before .args .mode) (now (c .before .before .before .before .before .before .before .before .before .before .before .before .before .before .before .before .before .before .before .args .m)) (c .before .before .before .before .before .before .before .before .before .before .before .before .before .before .before .before .before .before .before .args .sp) _ (now (c .before .before .before .before .before .before .before .before .before .before .before .before .before .before .before .before .before .before .before .args .d)) (c .before .before .before .before .before .before .before .before .before .before .before .before .before .before .before .before .before .before .before .args .at) 1 _ (c .before .before .before .before .before .before .before .before .before .before .before .before .before .before .before .before .before .before .before .pre .2) (omega arith) (c .before .before .before .before .before .before .before .before .before .before .tile-samples .ensures .cb-is), part-plane (c .before .before .before .before .before .before .before .before .before .before .before .before .before .before .before .before .before .before .before .args .mode) (now (c .before .before .before .before .before .before .before .before .before .before .before .before .before .before .before .before .before .before .before .args .m)) (c .before .before .before .before .before .before .before .before .before .before .before .before .before .before .before .before .before .before .before .args .sp) _ (now (c .before .before .before .before .before .before .before .before .before .before .before .before .before .before .before .before .before .before .before .args .d)) (c .before .before .before .before .before .before .before .before .before .before .before .before .before .before .before .before .before .before .before .args .at) 2 _ (c .before .before .before .before .before .before .before .before .before .before .before .before .before .before .before .before .before .before .before .pre .2) (omega arith) (c .before .before .before .before .before .before .before .before .before .before .tile-samples .ensures .cr-is))
+
+-- src/lib.rt:55:1
+same-length : tie.Need-same-length
+same-length c = search needs
+
+-- src/lib.rt:55:1
+same-length-2 : tie.Need-same-length-2
+same-length-2 c = search needs
+
+-- src/lib.rt:55:1
+same-length-3 : tie.Need-same-length-3
+same-length-3 c = search needs
+
+-- src/lib.rt:55:1
+same-length-4 : tie.Need-same-length-4
+same-length-4 c = search needs
+
+-- src/lib.rt:55:1
+same-length-5 : tie.Need-same-length-5
+same-length-5 c = search needs
+
+-- src/lib.rt:55:1
+returns : tie.Need-returns
+unfolding tileAt
+returns c = tile-shown _ _ _ _ _ _ (tileAt (now (c .before .before .before .before .before .before .before .before .before .before .before .before .before .before .before .before .before .before .before .before .before .before .args .d)) (c .before .before .before .before .before .before .before .before .before .before .before .before .before .before .before .before .before .before .before .before .before .before .args .at)) _ _ _ _ _ _ _ (c .before .before .before .before .before .before .before .before .before .before .before .before .before .tile-samples .ensures) (c .before .before .before .before .before .before .before .before .le16-at .ensures .0) (c .before .before .before .before .before .before .before .le16-at2 .ensures .0) (c .before .before .paint-tile .ensures)
+
+pub show-tile-spec : {M : Type 1} → statement M
+show-tile-spec =
+    tie.close
+    (tie.spec
+    tile-samples-requires
+    add-le16-at
+    le16-at-requires
+    add-le16-at-2
+    le16-at-requires-2
+    paint-tile-requires
+    same-length
+    same-length-2
+    same-length-3
+    same-length-4
+    same-length-5
+    returns)
