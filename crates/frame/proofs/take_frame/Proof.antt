@@ -1,0 +1,114 @@
+use mathlib.Core.Path.{_≡_, refl, ap, sym, _∙_, subst, subst⁻¹}
+use native.Mathlib.Omega.{arith}
+use denote.Ref.{now}
+use Rattle.show.specs.ShowLaws.{lists-kept}
+use Rattle.frame.specs.FrameLaws.{call-good, frame-early, frame-refused, frame-done}
+use borrow.Author.Needs.{needs}
+use Rattle.frame.proofs.take_frame.Statement.{statement}
+use Rattle.frame.proofs.take_frame.Tie as tie
+use Rattle.frame.proofs.take_frame.Reads as reads
+use Rattle.frame.proofs.take_frame.Lts as lts
+use Rattle.frame.proofs.call_judge.Reads as call-judge-reads
+use Rattle.frame.proofs.clear_all.Reads as clear-all-reads
+use Rattle.frame.proofs.draw_frame.Reads as draw-frame-reads
+use Rattle.frame.proofs.message_fault.Reads as message-fault-reads
+
+-- src/lib.rt:130:13
+cast-w : tie.Need-cast-w
+cast-w c = search needs
+
+-- src/lib.rt:131:13
+cast-h : tie.Need-cast-h
+cast-h c = search needs
+
+-- src/lib.rt:133:9
+call-judge-requires : tie.Need-call-judge-requires
+call-judge-requires c κs = search needs
+
+-- src/lib.rt:135:9
+returns : tie.Need-returns
+returns c = frame-early (c .before .before .before .before .before .before .args .s) (now (c .before .before .before .before .before .before .args .m)) (now (c .before .before .before .before .before .before .args .picture)) (now (c .before .before .before .before .before .before .args .ys)) (now (c .before .before .before .before .before .before .args .cbs)) (now (c .before .before .before .before .before .before .args .crs)) (now (c .before .before .before .before .before .before .args .tmp)) (c .before .call-judge .result) (c .before .call-judge .ensures) (c .if1 .taken)
+
+-- src/lib.rt:137:9
+message-fault-requires : tie.Need-message-fault-requires
+message-fault-requires c κs = let g = call-good (c .before .before .before .before .before .before .before .args .s) _ (now (c .before .before .before .before .before .before .before .args .ys)) (now (c .before .before .before .before .before .before .before .args .cbs)) (now (c .before .before .before .before .before .before .before .args .crs)) (now (c .before .before .before .before .before .before .before .args .tmp)) (sym (c .before .if1 .left) ∙ c .before .before .call-judge .ensures) in g .lists .tmp-len
+
+-- src/lib.rt:139:9
+clear-all-requires : tie.Need-clear-all-requires
+clear-all-requires c κs = let g = call-good (c .before .before .before .before .before .before .before .before .before .before .before .before .before .before .args .s) _ (now (c .before .before .before .before .before .before .before .before .before .before .before .before .before .before .args .ys)) (now (c .before .before .before .before .before .before .before .before .before .before .before .before .before .before .args .cbs)) (now (c .before .before .before .before .before .before .before .before .before .before .before .before .before .before .args .crs)) (now (c .before .before .before .before .before .before .before .before .before .before .before .before .before .before .args .tmp)) (sym (c .before .before .before .before .before .before .before .before .if1 .left) ∙ c .before .before .before .before .before .before .before .before .before .call-judge .ensures) in lists-kept _ _ _ _ _ _ _ _ (g .lists) refl refl refl (c .before .before .before .before .before .before .message-fault .kept .1 .1 .1 .1 .0)
+
+-- src/lib.rt:140:9
+same-length : tie.Need-same-length
+same-length c = search needs
+
+-- src/lib.rt:140:9
+same-length-2 : tie.Need-same-length-2
+same-length-2 c = search needs
+
+-- src/lib.rt:140:9
+same-length-3 : tie.Need-same-length-3
+same-length-3 c = search needs
+
+-- src/lib.rt:140:9
+same-length-4 : tie.Need-same-length-4
+same-length-4 c = search needs
+
+-- src/lib.rt:140:9
+returns-2 : tie.Need-returns-2
+returns-2 c = frame-refused (c .before .before .before .before .before .before .before .before .before .before .before .before .before .before .before .before .before .before .before .args .s) (now (c .before .before .before .before .before .before .before .before .before .before .before .before .before .before .before .before .before .before .before .args .m)) (now (c .before .before .before .before .before .before .before .before .before .before .before .before .before .before .before .before .before .before .before .args .picture)) (now (c .before .before .before .before .before .before .before .before .before .before .before .before .before .before .before .before .before .before .before .args .ys)) (now (c .before .before .before .before .before .before .before .before .before .before .before .before .before .before .before .before .before .before .before .args .cbs)) (now (c .before .before .before .before .before .before .before .before .before .before .before .before .before .before .before .before .before .before .before .args .crs)) (now (c .before .before .before .before .before .before .before .before .before .before .before .before .before .before .before .before .before .before .before .args .tmp)) (c .before .before .before .before .before .before .before .before .before .before .before .before .before .before .call-judge .result) (c .before .before .before .before .before .before .before .before .before .before .before .before .before .before .call-judge .ensures) (c .before .before .before .before .before .before .before .before .before .before .before .before .before .if1 .left) _ _ _ _ (c .before .before .before .before .clear-all .ensures) (c .before .before .before .before .before .before .before .before .before .before .before .message-fault .result) (c .before .before .before .before .before .before .before .before .before .before .before .message-fault .ensures) (c .before .before .before .before .before .before .before .before .before .if2 .taken)
+
+-- src/lib.rt:142:9
+draw-frame-requires : tie.Need-draw-frame-requires
+draw-frame-requires c κs = let g = call-good (c .before .before .before .before .before .before .before .before .before .before .before .before .before .before .before .args .s) _ (now (c .before .before .before .before .before .before .before .before .before .before .before .before .before .before .before .args .ys)) (now (c .before .before .before .before .before .before .before .before .before .before .before .before .before .before .before .args .cbs)) (now (c .before .before .before .before .before .before .before .before .before .before .before .before .before .before .before .args .crs)) (now (c .before .before .before .before .before .before .before .before .before .before .before .before .before .before .before .args .tmp)) (sym (c .before .before .before .before .before .before .before .before .before .if1 .left) ∙ c .before .before .before .before .before .before .before .before .before .before .call-judge .ensures) in (lists-kept _ _ _ _ _ _ _ _ (g .lists) refl refl refl (c .before .before .before .before .before .before .before .message-fault .kept .1 .1 .1 .1 .0), sym (c .before .before .before .before .before .if2 .left) ∙ c .before .before .before .before .before .before .before .message-fault .ensures, g .room)
+
+-- src/lib.rt:143:5
+clear-all-requires-2 : tie.Need-clear-all-requires-2
+clear-all-requires-2 c κs = let g = call-good (c .before .before .before .before .before .before .before .before .before .before .before .before .before .before .before .before .before .before .before .before .before .before .before .before .before .before .args .s) _ (now (c .before .before .before .before .before .before .before .before .before .before .before .before .before .before .before .before .before .before .before .before .before .before .before .before .before .before .args .ys)) (now (c .before .before .before .before .before .before .before .before .before .before .before .before .before .before .before .before .before .before .before .before .before .before .before .before .before .before .args .cbs)) (now (c .before .before .before .before .before .before .before .before .before .before .before .before .before .before .before .before .before .before .before .before .before .before .before .before .before .before .args .crs)) (now (c .before .before .before .before .before .before .before .before .before .before .before .before .before .before .before .before .before .before .before .before .before .before .before .before .before .before .args .tmp)) (sym (c .before .before .before .before .before .before .before .before .before .before .before .before .before .before .before .before .before .before .before .before .if1 .left) ∙ c .before .before .before .before .before .before .before .before .before .before .before .before .before .before .before .before .before .before .before .before .before .call-judge .ensures) in lists-kept _ _ _ _ _ _ _ _ (g .lists) (c .before .before .before .before .before .before .before .before .before .before .draw-frame .kept .1 .1 .1 .1 .1 .0) (c .before .before .before .before .before .before .before .before .before .before .draw-frame .kept .1 .1 .1 .1 .1 .1 .0) (c .before .before .before .before .before .before .before .before .before .before .draw-frame .kept .1 .1 .1 .1 .1 .1 .1 .0) (c .before .before .before .before .before .before .before .before .before .before .draw-frame .kept .1 .1 .1 .1 .1 .1 .1 .1 .0 ∙ c .before .before .before .before .before .before .before .before .before .before .before .before .before .before .before .before .before .before .message-fault .kept .1 .1 .1 .1 .0)
+
+-- src/lib.rt:119:1
+same-length-5 : tie.Need-same-length-5
+same-length-5 c = search needs
+
+-- src/lib.rt:119:1
+same-length-6 : tie.Need-same-length-6
+same-length-6 c = search needs
+
+-- src/lib.rt:119:1
+same-length-7 : tie.Need-same-length-7
+same-length-7 c = search needs
+
+-- src/lib.rt:119:1
+same-length-8 : tie.Need-same-length-8
+same-length-8 c = search needs
+
+-- src/lib.rt:119:1
+same-length-9 : tie.Need-same-length-9
+same-length-9 c = search needs
+
+-- src/lib.rt:119:1
+returns-3 : tie.Need-returns-3
+returns-3 c = frame-done (c .before .before .before .before .before .before .before .before .before .before .before .before .before .before .before .before .before .before .before .before .before .before .before .before .before .before .before .before .before .before .before .args .s) (now (c .before .before .before .before .before .before .before .before .before .before .before .before .before .before .before .before .before .before .before .before .before .before .before .before .before .before .before .before .before .before .before .args .m)) (now (c .before .before .before .before .before .before .before .before .before .before .before .before .before .before .before .before .before .before .before .before .before .before .before .before .before .before .before .before .before .before .before .args .picture)) (now (c .before .before .before .before .before .before .before .before .before .before .before .before .before .before .before .before .before .before .before .before .before .before .before .before .before .before .before .before .before .before .before .args .ys)) (now (c .before .before .before .before .before .before .before .before .before .before .before .before .before .before .before .before .before .before .before .before .before .before .before .before .before .before .before .before .before .before .before .args .cbs)) (now (c .before .before .before .before .before .before .before .before .before .before .before .before .before .before .before .before .before .before .before .before .before .before .before .before .before .before .before .before .before .before .before .args .crs)) (now (c .before .before .before .before .before .before .before .before .before .before .before .before .before .before .before .before .before .before .before .before .before .before .before .before .before .before .before .before .before .before .before .args .tmp)) (c .before .before .before .before .before .before .before .before .before .before .before .before .before .before .before .before .before .before .before .before .before .before .before .before .before .before .call-judge .result) (c .before .before .before .before .before .before .before .before .before .before .before .before .before .before .before .before .before .before .before .before .before .before .before .before .before .before .call-judge .ensures) (c .before .before .before .before .before .before .before .before .before .before .before .before .before .before .before .before .before .before .before .before .before .before .before .before .before .if1 .left) _ _ _ _ (c .before .before .before .before .clear-all2 .ensures) (c .before .before .before .before .before .before .before .before .before .before .before .before .before .before .before .before .before .before .before .before .before .before .before .message-fault .result) (c .before .before .before .before .before .before .before .before .before .before .before .before .before .before .before .before .before .before .before .before .before .before .before .message-fault .ensures) (c .before .before .before .before .before .before .before .before .before .before .before .before .before .before .before .before .before .before .before .before .before .if2 .left) _ (c .before .before .before .before .before .before .before .before .before .before .before .before .before .before .before .draw-frame .result) (c .before .before .before .before .before .before .before .before .before .before .before .before .before .before .before .draw-frame .ensures .1) (c .before .before .before .before .before .before .before .before .before .before .before .before .before .before .before .draw-frame .ensures .0)
+
+pub take-frame-spec : {M : Type 1} → statement M
+take-frame-spec =
+    tie.close
+    (tie.spec
+    cast-w
+    cast-h
+    call-judge-requires
+    returns
+    message-fault-requires
+    clear-all-requires
+    same-length
+    same-length-2
+    same-length-3
+    same-length-4
+    returns-2
+    draw-frame-requires
+    clear-all-requires-2
+    same-length-5
+    same-length-6
+    same-length-7
+    same-length-8
+    same-length-9
+    returns-3)

@@ -1,0 +1,71 @@
+-- What a frame call answers and leaves, for every record, message, picture and lists: document 01, "Order. Frame call", and the
+-- paragraph under the table of numbers.
+use Prim.Native.Nat.{ℕ, _+_, _*_}
+use mathlib.Core.Path.{_≡_}
+use mathlib.Core.Bool.{Bool, true, false}
+use mathlib.Core.List.{List}
+use lib.IntN.{ℤ, pos}
+use lib.ListN.{length, replicate}
+use lib.Dec.{eqb, leb}
+use Rattle.wire.specs.Row.{_!_⨾_, _⨟_}
+use Rattle.layout.specs.Reader.{beginFault, regionFault, frameFault, frameTiles, setPlace, tileCount, rectCount, quantAt}
+use Rattle.blocks.specs.Blocks.{rectsOf, setFront}
+use Rattle.walk.specs.Walk.{judged}
+use Rattle.draw.specs.Shown.{tilesDrawn}
+use Rattle.show.specs.Show.{tileWord}
+use Rattle.session.specs.Header.{ready}
+use Rattle.session.specs.declared.Session.{Session}
+use Rattle.frame.specs.declared.FrameAnswer.{FrameAnswer}
+
+-- "a lent work .. list is not 4,096 numbers"
+unfoldable pub full : ℕ → ℕ → ℕ → ℕ → Bool
+full a b c t = eqb a 4096 ! false ⨾ eqb b 4096 ! false ⨾ eqb c 4096 ! false ⨾ eqb t 4096
+
+-- "Frame call: 12, then 2": of the record, the picture's length and the lists' lengths
+unfoldable pub callFault : Session → ℕ → ℕ → ℕ → ℕ → ℕ → ℕ
+callFault s p a b c t =
+    ready s ! 12 ⨾
+    full a b c t ! 2 ⨾
+    leb (s .height * s .width) p ! 2 ⨾
+    0
+
+-- the message's first fault before the tiles
+unfoldable pub frontFault : ℕ → List ℕ → ℕ
+frontFault et m = beginFault m 0 ⨟ regionFault m 14 ⨟ setFront et m (setPlace m)
+
+-- the picture with a frame drawn: its listed tiles, in message order
+unfoldable pub framed : ℕ → ℕ → ℕ → List ℕ → List ℕ → List ℕ
+framed et w h m pic = tilesDrawn (rectsOf m 14) (rectCount m 14) (tileWord et (quantAt m (setPlace m))) w h (frameTiles m) pic
+
+-- "12, then 2, then the blocks in wire order"; f is the number before the message
+unfoldable pub frameNumber : ℕ → Session → List ℕ → ℕ
+frameNumber f s m = f ⨟ frameFault judged (s .width) (s .height) (s .mode) m
+
+-- "A done frame reports numTiles, a refused one 0."
+unfoldable pub frameCount : ℕ → List ℕ → ℕ
+frameCount n m = eqb n 0 ! 0 ⨾ tileCount m (setPlace m)
+
+-- "A refused header or frame changes neither record nor picture."
+unfoldable pub framePicture : ℕ → Session → List ℕ → List ℕ → List ℕ
+framePicture n s m pic = eqb n 0 ! pic ⨾ framed (s .mode) (s .width) (s .height) m pic
+
+-- "Work lists of a frame call are untouched on 12 and 2; after every other frame answer they hold only zeros."
+unfoldable pub frameList : ℕ → List ℤ → List ℤ
+frameList f xs = eqb f 0 ! xs ⨾ replicate 4096 (pos 0)
+
+-- four lists of zeros
+pub record Cleared (y cb cr tmp : List ℤ) : Type 0 where
+  pub y-is : y ≡ replicate 4096 (pos 0)
+  pub cb-is : cb ≡ replicate 4096 (pos 0)
+  pub cr-is : cr ≡ replicate 4096 (pos 0)
+  pub tmp-is : tmp ≡ replicate 4096 (pos 0)
+
+-- the whole promise: the answer and each lent list at exit, each an equation in what came in
+pub record FrameDone (s : Session) (m pic : List ℕ) (y cb cr tmp : List ℤ) (pic′ : List ℕ) (y′ cb′ cr′ tmp′ : List ℤ) (r : FrameAnswer) : Type 0 where
+  pub number : r .number ≡ frameNumber (callFault s (length pic) (length y) (length cb) (length cr) (length tmp)) s m
+  pub tiles : r .tiles ≡ frameCount (frameNumber (callFault s (length pic) (length y) (length cb) (length cr) (length tmp)) s m) m
+  pub picture : pic′ ≡ framePicture (frameNumber (callFault s (length pic) (length y) (length cb) (length cr) (length tmp)) s m) s m pic
+  pub y-list : y′ ≡ frameList (callFault s (length pic) (length y) (length cb) (length cr) (length tmp)) y
+  pub cb-list : cb′ ≡ frameList (callFault s (length pic) (length y) (length cb) (length cr) (length tmp)) cb
+  pub cr-list : cr′ ≡ frameList (callFault s (length pic) (length y) (length cb) (length cr) (length tmp)) cr
+  pub tmp-list : tmp′ ≡ frameList (callFault s (length pic) (length y) (length cb) (length cr) (length tmp)) tmp

@@ -1,0 +1,4 @@
+pub mod Frame
+pub mod FrameLaws
+pub mod Glass
+pub mod Numbers
