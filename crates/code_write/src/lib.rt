@@ -53,8 +53,8 @@ fn near(x: i32) -> bool
     x <= 32767
 }
 
-// Whether all numbers are.
-fn in_range(list: &[i32]) -> bool
+// Whether all numbers of a list are.
+pub fn in_range(list: &[i32]) -> bool
     ensures { λ r. ⌜ r ≡ inRange (now (list .entry)) ⌝ }
 {
     let mut i: usize = 0;

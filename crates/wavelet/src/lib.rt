@@ -50,7 +50,7 @@ fn columns(src: &[i32], dst: &mut [i32], n: usize, w: usize)
 }
 
 // "LL with HL, LH with HH": the low rows into the upper half of tmp, the high rows into the lower.
-fn row_pass(region: &[i32], tmp: &mut [i32], n: usize)
+pub fn row_pass(region: &[i32], tmp: &mut [i32], n: usize)
     requires { ⌜ (1 ≤ n) × (n ≤ 32) × (length (now region) ≡ 4 * (n * n)) × (length (now tmp) ≡ 4 * (n * n)) × AllNear 268435456 (now region) ⌝ }
     ensures { λ r. ⌜ now (tmp .exit) ≡ grid n (2 * n) (lowAt n (at (now (region .entry)))) ++ grid n (2 * n) (highAt n (at (now (region .entry)))) ⌝ }
 {
@@ -73,7 +73,7 @@ fn level_back(region: &mut [i32], tmp: &mut [i32], n: usize, w: usize)
 }
 
 // One level on the end of the list, from place a on.
-fn level_from(work: &mut [i32], tmp: &mut [i32], a: usize, n: usize, w: usize)
+pub fn level_from(work: &mut [i32], tmp: &mut [i32], a: usize, n: usize, w: usize)
     requires { ⌜ (2 ≤ n) × (n ≤ 32) × (length (now work) ≡ a + 4 * (n * n)) × (length (now work) ≡ 4096) × (length (now tmp) ≡ 4096) × AllNear 67108863 (now work) × (w ≡ 2 * n) ⌝ }
     ensures { λ r. ⌜ now (work .exit) ≡ levelFrom a n (now (work .entry)) ⌝ }
 {

@@ -1,0 +1,31 @@
+-- What a list that was found in range gives its readers.
+-- Assumes nothing.
+use mathlib.Core.Path.{_≡_, sym, _∙_, subst}
+use mathlib.Core.Bool.{Bool, true}
+use mathlib.Core.List.{List}
+use Prim.Native.Nat.{ℕ, _*_, _≤_, _<_}
+use native.Mathlib.Nat.{mul-le-mul}
+use native.Mathlib.Omega.{arith}
+use lib.IntN.{ℤ, pos}
+use lib.Dec.{lit≤}
+use lib.ListN.{length}
+use Rattle.whole.specs.Near.{Near}
+use Rattle.whole.specs.Tab.{AllNear}
+use Rattle.line.specs.More.{all-wide}
+use Rattle.code_write.specs.Write.{inRange}
+use Rattle.code_write.specs.WriteLaws.{range-is}
+use Rattle.tile.specs.Word.{Plane}
+
+pub near-of : (zs : List ℤ) (r : Bool) → r ≡ inRange zs → r ≡ true → AllNear 32767 zs
+near-of zs r e t = record { all = λ i. record { near = range-is zs (sym e ∙ t) i } }
+
+pub plane-of : (zs : List ℤ) (r : Bool) → length zs ≡ 4096 → r ≡ inRange zs → r ≡ true → Plane zs
+plane-of zs r l e t = record { len = l; near = all-wide (lit≤ tt) (near-of zs r e t) }
+
+-- a byte is near 0
+pub byte-near : {z : ℤ} (n : ℕ) → n < 256 → z ≡ pos n → Near 255 z
+byte-near n h e = subst (Near 255) (sym e) (record { near = omega arith })
+
+-- the bands of a level fit the list
+pub square : (n : ℕ) → n ≤ 32 → n * n ≤ 1024
+square n h = mul-le-mul h h
