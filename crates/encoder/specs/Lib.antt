@@ -1,0 +1,2 @@
+pub mod FrameWrite
+pub mod FrameWriteLaws
