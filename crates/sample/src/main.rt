@@ -23,13 +23,16 @@ fn say_number(n: usize) {
     io::print_decimal(STDOUT_FILENO, n as u64);
 }
 
+fn say_with(text: &[u8], n: usize) {
+    say(text);
+    say_number(n);
+}
+
 // A stage's line: how many values agree, of how many.
 fn say_agree(stage: &[u8], same: usize, all: usize) {
     say(stage);
-    say(b": ");
-    say_number(same);
-    say(b" of ");
-    say_number(all);
+    say_with(b": ", same);
+    say_with(b" of ", all);
     say(b" agree\n");
 }
 
@@ -282,25 +285,36 @@ fn cut(code: &mut [u8], bits: usize) -> usize {
     0
 }
 
-// A code that answers 10 at its last pair, whose second half is the value -1 that no place is left for (READINGS of the sample):
-// the list that 001 prints is written, and its code compared up to that pair; then the pair, read as if a place were left.
+// Whether the last pair, read as if a place were left behind it, is the list's last value and -1.
+fn is_last(printed: &[u8], c: State, list: &[i32]) -> bool {
+    if list.len() < 4096 {
+        return false;
+    }
+    is_pair(element(printed, c, 2), list[4095], -1)
+}
+
+fn say_last(is: bool) {
+    say(b" agree; that pair is the last value and -1: ");
+    if is {
+        say(b"yes\n");
+    } else {
+        say(b"no\n");
+    }
+}
+
+// A code that answers 10 at its last pair, whose second half is a value -1 that no place is left for: the list that 001 prints
+// is written, and its code compared up to that pair.
 fn against_written(name: &[u8], printed: &[u8], list: &[i32], code: &mut [u8]) -> usize {
     let w = code_write::write_component(MODE, list, code);
     let c = before_refusal(printed);
     let at = c.at;
     say(name);
-    say(b": bits before the last pair, of the list written: ");
-    say_number(agree_bits(printed, code, at));
-    say(b" of ");
-    say_number(at);
-    say(b" agree; that pair is the last value and -1: ");
-    if 4096 <= list.len() {
-        if is_pair(element(printed, c, 2), list[4095], -1) {
-            say(b"yes\n");
-            return code_write::writing_length(w);
-        }
-    }
-    say(b"no\n");
+    say_with(
+        b": bits before the last pair, of the list written: ",
+        agree_bits(printed, code, at),
+    );
+    say_with(b" of ", at);
+    say_last(is_last(printed, c, list));
     code_write::writing_length(w)
 }
 
@@ -332,10 +346,8 @@ fn answer(name: &[u8], printed: &[u8]) -> usize {
     let number = code_read::reading_number(r);
     let bits = code_read::reading_bits(r);
     say(name);
-    say(b" as printed: answer ");
-    say_number(number as usize);
-    say(b", bits ");
-    say_number(bits);
+    say_with(b" as printed: answer ", number as usize);
+    say_with(b", bits ", bits);
     say(b"\n");
     bits
 }
@@ -448,38 +460,55 @@ fn level(work: &mut [i32], tmp: &mut [i32], a: usize, n: usize) -> bool {
     true
 }
 
+// A stage that is a part of a list.
+fn shown(name: &[u8], list: &[i32], a: usize, n: usize) {
+    stage(name, part(list, a, n));
+}
+
+fn third_bands(work: &[i32]) {
+    shown(b"4.2.4.3.1.1_Y_LL3", work, 4032, 64);
+    shown(b"4.2.4.3.1.2_Y_HL3", work, 3840, 64);
+    shown(b"4.2.4.3.1.3_Y_LH3", work, 3904, 64);
+    shown(b"4.2.4.3.1.4_Y_HH3", work, 3968, 64);
+}
+
 fn third_level(work: &mut [i32], tmp: &mut [i32]) {
-    stage(b"4.2.4.3.1.1_Y_LL3", part(work, 4032, 64));
-    stage(b"4.2.4.3.1.2_Y_HL3", part(work, 3840, 64));
-    stage(b"4.2.4.3.1.3_Y_LH3", part(work, 3904, 64));
-    stage(b"4.2.4.3.1.4_Y_HH3", part(work, 3968, 64));
+    third_bands(work);
     rows(work, tmp, 3840, 8);
-    stage(b"4.2.4.3.1.5_Y_L2", part(tmp, 0, 128));
-    stage(b"4.2.4.3.1.6_Y_H2", part(tmp, 128, 128));
+    shown(b"4.2.4.3.1.5_Y_L2", tmp, 0, 128);
+    shown(b"4.2.4.3.1.6_Y_H2", tmp, 128, 128);
     level(work, tmp, 3840, 8);
-    stage(b"4.2.4.3.1.7_Y_LL2", part(work, 3840, 256));
+    shown(b"4.2.4.3.1.7_Y_LL2", work, 3840, 256);
+}
+
+fn second_bands(work: &[i32]) {
+    shown(b"4.2.4.3.2.2_Y_HL2", work, 3072, 256);
+    shown(b"4.2.4.3.2.3_Y_LH2", work, 3328, 256);
+    shown(b"4.2.4.3.2.4_Y_HH2", work, 3584, 256);
 }
 
 fn second_level(work: &mut [i32], tmp: &mut [i32]) {
-    stage(b"4.2.4.3.2.2_Y_HL2", part(work, 3072, 256));
-    stage(b"4.2.4.3.2.3_Y_LH2", part(work, 3328, 256));
-    stage(b"4.2.4.3.2.4_Y_HH2", part(work, 3584, 256));
+    second_bands(work);
     rows(work, tmp, 3072, 16);
-    stage(b"4.2.4.3.2.5_Y_L1", part(tmp, 0, 512));
-    stage(b"4.2.4.3.2.6_Y_H1", part(tmp, 512, 512));
+    shown(b"4.2.4.3.2.5_Y_L1", tmp, 0, 512);
+    shown(b"4.2.4.3.2.6_Y_H1", tmp, 512, 512);
     level(work, tmp, 3072, 16);
-    stage(b"4.2.4.3.2.7_Y_LL1", part(work, 3072, 1024));
+    shown(b"4.2.4.3.2.7_Y_LL1", work, 3072, 1024);
+}
+
+fn first_bands(work: &[i32]) {
+    shown(b"4.2.4.3.3.2_Y_HL1", work, 0, 1024);
+    shown(b"4.2.4.3.3.3_Y_LH1", work, 1024, 1024);
+    shown(b"4.2.4.3.3.4_Y_HH1", work, 2048, 1024);
 }
 
 fn first_level(work: &mut [i32], tmp: &mut [i32]) {
-    stage(b"4.2.4.3.3.2_Y_HL1", part(work, 0, 1024));
-    stage(b"4.2.4.3.3.3_Y_LH1", part(work, 1024, 1024));
-    stage(b"4.2.4.3.3.4_Y_HH1", part(work, 2048, 1024));
+    first_bands(work);
     rows(work, tmp, 0, 32);
-    stage(b"4.2.4.3.3.5_Y_L0", part(tmp, 0, 2048));
-    stage(b"4.2.4.3.3.6_Y_H0", part(tmp, 2048, 2048));
+    shown(b"4.2.4.3.3.5_Y_L0", tmp, 0, 2048);
+    shown(b"4.2.4.3.3.6_Y_H0", tmp, 2048, 2048);
     level(work, tmp, 0, 32);
-    stage(b"4.2.4.3.3.7_Y_LL0", work);
+    shown(b"4.2.4.3.3.7_Y_LL0", work, 0, 4096);
 }
 
 // ---- colour
@@ -560,7 +589,7 @@ fn count_words(words: &[u16; 4096], data: &[u8; 12288]) -> Tally {
     }
 }
 
-// The words against a file's. Those of the text differ: 001 gives reals, and 01's integers decide.
+// The words against a file's.
 fn colours(name: &[u8], words: &[u16; 4096]) {
     let mut data = [0u8; 12288];
     load(name, &mut data);
@@ -568,11 +597,17 @@ fn colours(name: &[u8], words: &[u16; 4096]) {
     let same = t.same;
     let other = t.other;
     say(name);
-    say(b": ");
-    say_number(same);
-    say(b" agree, ");
-    say_number(other);
+    say_with(b": ", same);
+    say_with(b" agree, ", other);
     say(b" differ\n");
+}
+
+// The tile's words against those of 01's integers, and against the text's, which differ: 001 gives reals, and 01's integers decide.
+fn picture(ys: &[i32], cbs: &[i32], crs: &[i32]) {
+    let mut out = [0u16; 4096];
+    words(ys, cbs, crs, &mut out);
+    colours(b"4.2.4.4_cut_words", &out);
+    colours(b"4.2.4.4_text_words", &out);
 }
 
 // The codes of 4.2.3.
@@ -585,13 +620,17 @@ fn codes() {
 
 // Y of 4.2.4, stage by stage.
 fn luma(q: Quant, ys: &mut [i32], tmp: &mut [i32]) {
-    let mut code = [0u8; 1024];
-    let n = component(b"4.2.4.1_y", b"4.2.4.1_y_list", &mut code);
-    coefficients(q, start(&code, n), ys);
+    luma_code(q, ys);
     third_level(ys, tmp);
     second_level(ys, tmp);
     first_level(ys, tmp);
     stage(b"4.2.4.3.4_y", ys);
+}
+
+fn luma_code(q: Quant, ys: &mut [i32]) {
+    let mut code = [0u8; 1024];
+    let n = component(b"4.2.4.1_y", b"4.2.4.1_y_list", &mut code);
+    coefficients(q, start(&code, n), ys);
 }
 
 // Cb or Cr of 4.2.4.
@@ -609,32 +648,33 @@ fn chroma(
     stage(samples_name, work);
 }
 
-fn main() {
-    let mut ys = [0; 4096];
-    let mut cbs = [0; 4096];
-    let mut crs = [0; 4096];
-    let mut tmp = [0; 4096];
-    let mut picture = [0u16; 4096];
-    codes();
-    let q = quantisers();
-    luma(q, &mut ys, &mut tmp);
+fn both_chromas(q: Quant, cbs: &mut [i32], crs: &mut [i32], tmp: &mut [i32]) {
     chroma(
         b"4.2.4.1_cb",
         b"4.2.4.1_cb_list",
         b"4.2.4.3.5_cb",
         q,
-        &mut cbs,
-        &mut tmp,
+        cbs,
+        tmp,
     );
     chroma(
         b"4.2.4.1_cr",
         b"4.2.4.1_cr_list",
         b"4.2.4.3.6_cr",
         q,
-        &mut crs,
-        &mut tmp,
+        crs,
+        tmp,
     );
-    words(&ys, &cbs, &crs, &mut picture);
-    colours(b"4.2.4.4_cut_words", &picture);
-    colours(b"4.2.4.4_text_words", &picture);
+}
+
+fn main() {
+    let mut ys = [0; 4096];
+    let mut cbs = [0; 4096];
+    let mut crs = [0; 4096];
+    let mut tmp = [0; 4096];
+    codes();
+    let q = quantisers();
+    luma(q, &mut ys, &mut tmp);
+    both_chromas(q, &mut cbs, &mut crs, &mut tmp);
+    picture(&ys, &cbs, &crs);
 }
