@@ -130,18 +130,18 @@ pub fn take_frame(
     let w = s.width as usize;
     let h = s.height as usize;
     let mode = s.mode;
-    let f = call_judge(s, picture.len(), ys.len(), cbs.len(), crs.len(), tmp.len());
-    if f != 0 {
+    let early = call_judge(s, picture.len(), ys.len(), cbs.len(), crs.len(), tmp.len());
+    if early != 0 {
         return FrameAnswer {
-            number: f,
+            number: early,
             tiles: 0,
         };
     }
-    let g = message_fault(mode, w, h, m, tmp);
-    if g != 0 {
+    let fault = message_fault(mode, w, h, m, tmp);
+    if fault != 0 {
         clear_all(ys, cbs, crs, tmp);
         return FrameAnswer {
-            number: g,
+            number: fault,
             tiles: 0,
         };
     }
