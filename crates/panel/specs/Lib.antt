@@ -1,2 +1,4 @@
 pub mod Panel
 pub mod PanelLaws
+pub mod Unique
+pub mod Demands

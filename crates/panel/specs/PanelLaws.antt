@@ -5,7 +5,11 @@ use mathlib.Core.Bool.{Bool, true, false}
 use mathlib.Core.List.{List}
 use native.Mathlib.Omega.{arith}
 use lib.Dec.{eqb}
-use Rattle.wire.specs.Row.{_⇒_∣_}
+use lib.IntN.{ℤ}
+use Rattle.wire.specs.Row.{_!_⨾_, _⇒_∣_}
+use Rattle.wire.specs.RowLaws.{case-no, ne-is}
+use Rattle.frame.specs.declared.FrameAnswer.{FrameAnswer}
+use Rattle.frame.specs.Frame.{frameCount, FrameDone}
 use Rattle.session.specs.declared.Session.{Session}
 use Rattle.session.specs.declared.HeaderAnswer.{HeaderAnswer}
 use Rattle.session.specs.Header.{headerFault, recordAfter, headerOf}
@@ -15,7 +19,9 @@ use Rattle.code_write.specs.declared.Writing.the-variants.{Done, Refused}
 use Rattle.code_write.specs.Write.{writingNumber, writingLength, lengthSaid, outLeft, Wrote}
 use Rattle.panel.specs.declared.HeaderReading.{HeaderReading}
 use Rattle.panel.specs.declared.HeaderReading.the-variants.{Taken, Refused as HeaderRefused}
-use Rattle.panel.specs.Panel.{headerNumber, headerRecord, headerCase, headerReading}
+use Rattle.panel.specs.declared.FrameReading.{FrameReading}
+use Rattle.panel.specs.declared.FrameReading.the-variants.{Done as FrameOk, Refused as FrameRefused}
+use Rattle.panel.specs.Panel.{headerNumber, headerRecord, headerCase, headerReading, frameReading, FrameRead}
 
 -- 01's number and the record after, of the session's answer
 module _ (s : Session) (m : List ℕ) where
@@ -50,3 +56,19 @@ pub wrote-done : (f n k : ℕ) (bytes out out′ : List ℕ) → HeadersWrote f 
 unfolding headersSaid headersLeft writingNumber writingLength lengthSaid outLeft
 wrote-done zero n k bytes out out′ w e = record { number = refl; said = w .long; left = w .left }
 wrote-done (suc f) n k bytes out out′ w e = absurd (omega (arith, w .said))
+
+-- the frame call's answer as an enum
+answer-done : (n k : ℕ) (m : List ℕ) → n ≡ 0 → k ≡ frameCount n m → FrameOk k ≡ frameReading n m
+unfolding frameReading frameCount _⇒_∣_ _!_⨾_
+answer-done n k m e h = rw (h, e)
+
+answer-refused : (n k : ℕ) (m : List ℕ) → k ≡ n → (k ≡ 0 → ⊥) → FrameRefused k ≡ frameReading n m
+unfolding frameReading
+answer-refused n k m e h = case-no _ _ _ _ (ne-is e refl h) (ap FrameRefused e)
+
+module _ (s : Session) (m pic : List ℕ) (y cb cr tmp : List ℤ) (pic′ : List ℕ) (y′ cb′ cr′ tmp′ : List ℤ) (a : FrameAnswer) (d : FrameDone s m pic y cb cr tmp pic′ y′ cb′ cr′ tmp′ a) where
+  pub frame-refused : (a .number ≡ 0 → ⊥) → FrameRead s m pic y cb cr tmp pic′ y′ cb′ cr′ tmp′ (FrameRefused (a .number))
+  frame-refused h = record { answer = answer-refused _ _ m (d .number) h; picture = d .picture; y-list = d .y-list; cb-list = d .cb-list; cr-list = d .cr-list; tmp-list = d .tmp-list }
+
+  pub frame-done : a .number ≡ 0 → FrameRead s m pic y cb cr tmp pic′ y′ cb′ cr′ tmp′ (FrameOk (a .tiles))
+  frame-done e = record { answer = answer-done _ _ m (sym (d .number) ∙ e) (d .tiles); picture = d .picture; y-list = d .y-list; cb-list = d .cb-list; cr-list = d .cr-list; tmp-list = d .tmp-list }

@@ -5,7 +5,9 @@ ghost use lib.ListN.{length};
 ghost use Rattle.code_read.specs.Read.{ComponentRead};
 ghost use Rattle.code_write.specs.Write.{ComponentWritten, Wrote};
 ghost use Rattle.headers.specs.Headers.{headersOf, headersFault};
-ghost use Rattle.panel.specs.Panel.{headerReading, headerNumber, headerRecord, HeadersWritten};
+ghost use Rattle.encoder.specs.FrameWrite.{FrameWritten};
+ghost use Rattle.panel.specs.Panel.{headerReading, headerNumber, headerRecord, HeadersWritten, frameReadingNumber, frameReadingTiles, FrameRead};
+use bands::Quant;
 use code_read::Reading;
 use code_write::Writing;
 use session::Session;
@@ -74,4 +76,68 @@ pub fn write_headers(width: usize, height: usize, mode: u8, out: &mut [u8]) -> W
     }
     let size = w.size;
     Writing::Done(size)
+}
+
+// What reading a frame came to: how many tiles it has, or 01's number.
+pub enum FrameReading {
+    Done(usize),
+    Refused(u8),
+}
+
+// 01's number.
+pub fn frame_number(f: FrameReading) -> u8
+    ensures { λ n. ⌜ n ≡ frameReadingNumber f ⌝ }
+{
+    match f {
+        FrameReading::Done(tiles) => 0,
+        FrameReading::Refused(number) => number,
+    }
+}
+
+// "A done frame reports numTiles, a refused one 0."
+pub fn frame_tiles(f: FrameReading) -> usize
+    ensures { λ n. ⌜ n ≡ frameReadingTiles f ⌝ }
+{
+    match f {
+        FrameReading::Done(tiles) => tiles,
+        FrameReading::Refused(number) => 0,
+    }
+}
+
+// Reads one frame, begin to end, which is the whole message, and draws it; the record is left as it is.
+pub fn read_frame(
+    s: Session,
+    message: &[u8],
+    picture: &mut [u16],
+    y: &mut [i32],
+    cb: &mut [i32],
+    cr: &mut [i32],
+    scratch: &mut [i32],
+) -> FrameReading
+    ensures { λ r. ⌜ FrameRead s (now (message .entry)) (now (picture .entry)) (now (y .entry)) (now (cb .entry)) (now (cr .entry)) (now (scratch .entry)) (now (picture .exit)) (now (y .exit)) (now (cb .exit)) (now (cr .exit)) (now (scratch .exit)) r ⌝ }
+{
+    let a = frame::take_frame(s, message, picture, y, cb, cr, scratch);
+    let number = a.number;
+    if number != 0 {
+        return FrameReading::Refused(number);
+    }
+    let tiles = a.tiles;
+    FrameReading::Done(tiles)
+}
+
+// Writes one frame over the whole channel: three bytes a pixel, one quantiser set, two work lists.
+pub fn write_frame(
+    width: usize,
+    height: usize,
+    mode: u8,
+    q: Quant,
+    index: u32,
+    pixels: &[u8],
+    list: &mut [i32],
+    scratch: &mut [i32],
+    out: &mut [u8],
+) -> Writing
+    ensures { λ r. ⌜ FrameWritten width height mode (q .v) index (now (pixels .entry)) (now (list .entry)) (now (list .exit)) (now (scratch .entry)) (now (scratch .exit)) (now (out .entry)) (now (out .exit)) r ⌝ }
+{
+    encoder::write_frame(width, height, mode, q, index, pixels, list, scratch, out)
 }
