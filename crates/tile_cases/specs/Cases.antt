@@ -2,6 +2,7 @@
 use Rattle.bands.specs.Cases.{BandCases, band-cases}
 use Rattle.line.specs.Cases.{Worked, worked}
 use Rattle.colour.specs.Cases as C
+use lib.IntN.{pos}
 
 pub record Cases : Type 0 where
   -- "Bytes 66 66 77 88 98: 6 6 6 6 7 7 8 8 8 9." and "q = 6: 15 to 0, 16 to 1, -16 to 0, -17 to -1."
@@ -10,6 +11,8 @@ pub record Cases : Type 0 where
   pub line : Worked
   -- "White 4064 0 0 and back 255; black -4096 0 0; red -1657 -1379 4078 and back 254 0 0."
   pub colours : C.Cases
+  -- .. of which the first, spelled out here too
+  pub white : C.Forth 255 255 255 (pos 4064) (pos 0) (pos 0)
 
 pub cases : Cases
-cases = record { bands = band-cases; line = worked; colours = C.cases }
+cases = record { bands = band-cases; line = worked; colours = C.cases; white = C.cases .white }
