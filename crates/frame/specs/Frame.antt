@@ -12,7 +12,7 @@ use Rattle.layout.specs.Reader.{beginFault, regionFault, frameFault, frameTiles
 use Rattle.blocks.specs.Blocks.{rectsOf, setFront}
 use Rattle.walk.specs.Walk.{judged}
 use Rattle.draw.specs.Shown.{tilesDrawn}
-use Rattle.show.specs.Show.{tileWord}
+use Rattle.draw_tiles.specs.Show.{tileWord}
 use Rattle.session.specs.Header.{ready}
 use Rattle.session.specs.declared.Session.{Session}
 use Rattle.frame.specs.declared.FrameAnswer.{FrameAnswer}

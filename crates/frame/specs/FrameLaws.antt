@@ -17,7 +17,7 @@ use Rattle.blocks.specs.BlocksLaws.{begin-good, region-good}
 use Rattle.walk.specs.Walk.{judged, inSet, SetSound}
 use Rattle.walk.specs.WalkLaws.{set-sound, set-fault}
 use Rattle.draw.specs.Shown.{tilesDrawn}
-use Rattle.show.specs.Show.{Lists, tileWord}
+use Rattle.draw_tiles.specs.Show.{Lists, tileWord}
 use Rattle.session.specs.Header.{ready}
 use Rattle.session.specs.declared.Session.{Session}
 use Rattle.frame.specs.declared.FrameAnswer.{FrameAnswer}

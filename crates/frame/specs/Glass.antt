@@ -17,7 +17,7 @@ use Rattle.walk.specs.Walk.{judged}
 use Rattle.draw.specs.Draw.{inRegion}
 use Rattle.draw.specs.Shown.{lastTile, wordIn}
 use Rattle.draw.specs.ShownLaws.{tiles-pixel, tiles-past, tiles-length}
-use Rattle.show.specs.Show.{tileWord}
+use Rattle.draw_tiles.specs.Show.{tileWord}
 use Rattle.session.specs.declared.Session.{Session}
 use Rattle.frame.specs.declared.FrameAnswer.{FrameAnswer}
 use Rattle.frame.specs.Frame.{callFault, framed, frameNumber, frameCount, framePicture, frameList, FrameDone}

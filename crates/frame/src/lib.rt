@@ -7,7 +7,7 @@ ghost use lib.ListN.{length, replicate};
 ghost use Rattle.layout.specs.Reader.{frameFault, tileCount, setPlace};
 ghost use Rattle.blocks.specs.Blocks.{RegionGood};
 ghost use Rattle.walk.specs.Walk.{judged};
-ghost use Rattle.show.specs.Show.{Lists};
+ghost use Rattle.draw_tiles.specs.Show.{Lists};
 ghost use Rattle.frame.specs.Frame.{full, callFault, frontFault, framed, Cleared, FrameDone};
 
 // 01's number, and how many tiles were drawn.
@@ -101,7 +101,7 @@ fn draw_frame(
     ensures shows { λ _. ⌜ now (picture .exit) ≡ framed mode w h (now (m .entry)) (now (picture .entry)) ⌝ }
 {
     let sp = 14 + wire::le32_at(m, 16);
-    show::show(picture, mode, w, h, m, sp, ys, cbs, crs, tmp);
+    draw_tiles::show(picture, mode, w, h, m, sp, ys, cbs, crs, tmp);
     wire::le16_at(m, sp + 16)
 }
 

@@ -40,7 +40,7 @@ use Rattle.whole.specs.Tab.{row-in}
 use Rattle.draw.specs.Pixels.{split}
 use Rattle.draw.specs.Draw.{inRegion}
 use Rattle.draw.specs.Shown.{inTile, Found, found, lastTile, wordIn}
-use Rattle.show.specs.Show.{planeOf, tileWord}
+use Rattle.draw_tiles.specs.Show.{planeOf, tileWord}
 use Rattle.frame.specs.declared.FrameAnswer.{FrameAnswer}
 use Rattle.frame.specs.Frame.{full, callFault, frameNumber, FrameDone}
 use Rattle.frame.specs.Glass.{accepted, shown-pixel, shown-past, shown-length}

@@ -6,7 +6,8 @@ ghost use lib.ListN.{length};
 ghost use Rattle.session.specs.Header.{sizeGood, modeGood, made, ready, due, sizeOf, syncJudge, versionsJudge, channelsJudge, propertiesGood, contextJudge, etOf, syncFault, versionsFault, channelsFault, contextFault, fieldFault, headJudge, headerFault, recordAfter, headerOf};
 ghost use Rattle.session.specs.HeaderLaws.{Good};
 
-// How many headers are in, width, height, mode (et); all 0 when fresh.
+// How many headers are in, width, height, mode (et); all 0 when fresh. Laid out as C does, for the edge.
+#[repr(C)]
 pub struct Session {
     pub headers: u8,
     pub width: u16,

@@ -8,7 +8,7 @@ use Rattle.frame.proofs.draw_frame.Statement.{statement}
 use Rattle.frame.proofs.draw_frame.Tie as tie
 use Rattle.frame.proofs.draw_frame.Reads as reads
 use Rattle.frame.proofs.draw_frame.Lts as lts
-use Rattle.show.proofs.show.Reads as show-reads
+use Rattle.draw_tiles.proofs.show.Reads as show-reads
 use Rattle.wire.proofs.le16_at.Reads as le16-at-reads
 use Rattle.wire.proofs.le32_at.Reads as le32-at-reads
 

@@ -1,7 +1,7 @@
 use mathlib.Core.Path.{_≡_, refl, ap, sym, _∙_, subst, subst⁻¹}
 use native.Mathlib.Omega.{arith}
 use denote.Ref.{now}
-use Rattle.show.specs.ShowLaws.{lists-kept}
+use Rattle.draw_tiles.specs.ShowLaws.{lists-kept}
 use Rattle.frame.specs.FrameLaws.{call-good, frame-early, frame-refused, frame-done}
 use borrow.Author.Needs.{needs}
 use Rattle.frame.proofs.take_frame.Statement.{statement}

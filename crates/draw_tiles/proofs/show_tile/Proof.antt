@@ -2,14 +2,14 @@ use mathlib.Core.Path.{_≡_, refl, ap, sym, _∙_, subst, subst⁻¹}
 use native.Mathlib.Omega.{arith}
 use denote.Ref.{now}
 use Rattle.layout.specs.Reader.{tileAt}
-use Rattle.show.specs.ShowLaws.{part-plane, tile-shown}
+use Rattle.draw_tiles.specs.ShowLaws.{part-plane, tile-shown}
 use borrow.Author.Needs.{needs}
-use Rattle.show.proofs.show_tile.Statement.{statement}
-use Rattle.show.proofs.show_tile.Tie as tie
-use Rattle.show.proofs.show_tile.Reads as reads
-use Rattle.show.proofs.show_tile.Lts as lts
+use Rattle.draw_tiles.proofs.show_tile.Statement.{statement}
+use Rattle.draw_tiles.proofs.show_tile.Tie as tie
+use Rattle.draw_tiles.proofs.show_tile.Reads as reads
+use Rattle.draw_tiles.proofs.show_tile.Lts as lts
 use Rattle.paint.proofs.paint_tile.Reads as paint-tile-reads
-use Rattle.show.proofs.tile_samples.Reads as tile-samples-reads
+use Rattle.draw_tiles.proofs.tile_samples.Reads as tile-samples-reads
 use Rattle.wire.proofs.le16_at.Reads as le16-at-reads
 
 -- src/lib.rt:74:5

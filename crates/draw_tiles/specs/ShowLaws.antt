@@ -18,7 +18,7 @@ use Rattle.tile.specs.WordLaws.{samples-plane}
 use Rattle.tiles.specs.Tiles.{indexOf, codeOf, TileSound}
 use Rattle.tiles.specs.TilesLaws.{sound-part}
 use Rattle.walk.specs.Walk.{judged, inSet}
-use Rattle.show.specs.Show.{Lists, Sampled, planeOf, tileWord}
+use Rattle.draw_tiles.specs.Show.{Lists, Sampled, planeOf, tileWord}
 
 pub lists-kept : (y cb cr tmp y′ cb′ cr′ tmp′ : List ℤ) → Lists y cb cr tmp → length y′ ≡ length y → length cb′ ≡ length cb → length cr′ ≡ length cr → length tmp′ ≡ length tmp → Lists y′ cb′ cr′ tmp′
 lists-kept y cb cr tmp y′ cb′ cr′ tmp′ l a b c t = record { y-len = a ∙ l .y-len; cb-len = b ∙ l .cb-len; cr-len = c ∙ l .cr-len; tmp-len = t ∙ l .tmp-len }

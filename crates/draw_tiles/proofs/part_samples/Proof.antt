@@ -5,12 +5,12 @@ use Rattle.bands.specs.Bands.{QuantGood}
 use Rattle.tiles.specs.TilesLaws.{index-below, sound-part}
 use Rattle.walk.specs.Walk.{inSet, judged}
 use Rattle.walk.specs.WalkLaws.{set-fits, set-values, set-is}
-use Rattle.show.specs.Show.{planeOf}
+use Rattle.draw_tiles.specs.Show.{planeOf}
 use borrow.Author.Needs.{needs}
-use Rattle.show.proofs.part_samples.Statement.{statement}
-use Rattle.show.proofs.part_samples.Tie as tie
-use Rattle.show.proofs.part_samples.Reads as reads
-use Rattle.show.proofs.part_samples.Lts as lts
+use Rattle.draw_tiles.proofs.part_samples.Statement.{statement}
+use Rattle.draw_tiles.proofs.part_samples.Tie as tie
+use Rattle.draw_tiles.proofs.part_samples.Reads as reads
+use Rattle.draw_tiles.proofs.part_samples.Lts as lts
 use Rattle.bands.proofs.quant_at.Reads as quant-at-reads
 use Rattle.tile.proofs.samples.Reads as samples-reads
 use Rattle.tiles.proofs.code_part.Reads as code-part-reads

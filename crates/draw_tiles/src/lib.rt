@@ -9,7 +9,7 @@ ghost use Rattle.tiles.specs.Tiles.{TileSound};
 ghost use Rattle.walk.specs.Walk.{inSet, SetSound};
 ghost use Rattle.draw.specs.Draw.{tileDrawn};
 ghost use Rattle.draw.specs.Shown.{tilesDrawn};
-ghost use Rattle.show.specs.Show.{Lists, Sampled, planeOf, tileWord};
+ghost use Rattle.draw_tiles.specs.Show.{Lists, Sampled, planeOf, tileWord};
 
 // The samples of component k (0, 1, 2: Y, Cb, Cr) of a sound tile.
 fn part_samples(

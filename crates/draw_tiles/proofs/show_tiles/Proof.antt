@@ -8,13 +8,13 @@ use Rattle.layout.specs.Reader.{sizeAt, tilesFault, tilesIn, quantCount, quantA
 use Rattle.tiles.specs.TilesLaws.{walk-sound}
 use Rattle.walk.specs.Walk.{inSet}
 use Rattle.draw.specs.Shown.{tilesDrawn}
-use Rattle.show.specs.Show.{Lists, tileWord}
-use Rattle.show.specs.ShowLaws.{shown-next, shown-none, lists-kept}
-use Rattle.show.proofs.show_tiles.Statement.{statement}
-use Rattle.show.proofs.show_tiles.Tie as tie
-use Rattle.show.proofs.show_tiles.Reads as reads
-use Rattle.show.proofs.show_tiles.Lts as lts
-use Rattle.show.proofs.show_tile.Reads as show-tile-reads
+use Rattle.draw_tiles.specs.Show.{Lists, tileWord}
+use Rattle.draw_tiles.specs.ShowLaws.{shown-next, shown-none, lists-kept}
+use Rattle.draw_tiles.proofs.show_tiles.Statement.{statement}
+use Rattle.draw_tiles.proofs.show_tiles.Tie as tie
+use Rattle.draw_tiles.proofs.show_tiles.Reads as reads
+use Rattle.draw_tiles.proofs.show_tiles.Lts as lts
+use Rattle.draw_tiles.proofs.show_tile.Reads as show-tile-reads
 use Rattle.wire.proofs.le32_at.Reads as le32-at-reads
 
 abbrev Inv-loop : tie.InvT-loop

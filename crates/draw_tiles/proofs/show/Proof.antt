@@ -3,15 +3,15 @@ use native.Mathlib.Omega.{arith}
 use denote.Ref.{now}
 use lib.ListN.{length}
 use Rattle.layout.specs.Reader.{rectCount, tileCount}
-use Rattle.show.specs.ShowLaws.{rects-length}
+use Rattle.draw_tiles.specs.ShowLaws.{rects-length}
 use borrow.Author.Needs.{needs}
-use Rattle.show.proofs.show.Statement.{statement}
-use Rattle.show.proofs.show.Tie as tie
-use Rattle.show.proofs.show.Reads as reads
-use Rattle.show.proofs.show.Lts as lts
+use Rattle.draw_tiles.proofs.show.Statement.{statement}
+use Rattle.draw_tiles.proofs.show.Tie as tie
+use Rattle.draw_tiles.proofs.show.Reads as reads
+use Rattle.draw_tiles.proofs.show.Lts as lts
 use Rattle.blocks.proofs.rects.Reads as rects-reads
 use Rattle.blocks.proofs.tile_data.Reads as tile-data-reads
-use Rattle.show.proofs.show_tiles.Reads as show-tiles-reads
+use Rattle.draw_tiles.proofs.show_tiles.Reads as show-tiles-reads
 use Rattle.wire.proofs.le16_at.Reads as le16-at-reads
 
 -- src/lib.rt:136:9
