@@ -1,63 +1,177 @@
--- The demands, over the definitions that the calls' promises cite. 3: one code for one list. 1: nothing half done.
-use Prim.Native.Nat.{ℕ}
-use mathlib.Core.Path.{_≡_, refl, sym, ap, _∙_}
-use mathlib.Core.Bool.{Bool, true, false}
+-- THE DEMANDS, on one page: over the calls (specs/Calls), and so over the very definitions that their promises cite. Each field is a
+-- sentence of the demands or of document 01; proofs/Demands proves `demands : Demands`. That no bytes can trap a call needs no sentence
+-- here: every function is proved, and none of the six has a `requires`.
+use Prim.Native.Nat.{ℕ, _+_, _*_, _/_, _%_, _≤_, _<_}
+use mathlib.Core.Path.{_≡_}
+use mathlib.Core.Bool.{Bool, true}
 use mathlib.Core.List.{List, _++_}
-use lib.Dec.{eqb}
-use lib.IntN.{ℤ}
-use lib.ListN.{length, take}
-use Rattle.wire.specs.Row.{_⇒_∣_}
-use Rattle.wire.specs.RowLaws.{fails, ne-is}
-use Rattle.session.specs.declared.Session.{Session}
-use Rattle.frame.specs.Frame.{callFault, frameNumber, framePicture}
-use Rattle.code_read.specs.declared.Reading.{Reading}
+use mathlib.Core.Logic.{_⊎_, _≢_}
+use lib.IntN.{ℤ, pos}
+use lib.ListN.{length, getD, take, drop, replicate}
+use Rattle.wire.specs.Le.{written}
+use Rattle.wire.specs.Row.{_⇒_∣_, _⨟_}
+use Rattle.bits.specs.Bits.{bitsOf}
+use Rattle.layout.specs.Reader.{frameFault, frameTiles, setPlace, tileCount, rectCount, quantAt}
+use Rattle.blocks.specs.Blocks.{rectsOf}
+use Rattle.blocks.specs.BlocksCases.{PropsCases}
+use Rattle.draw.specs.Draw.{inRegion}
+use Rattle.draw.specs.Shown.{lastTile, wordIn}
+use Rattle.draw_tiles.specs.Show.{tileWord}
+use Rattle.walk.specs.Walk.{judged}
+use Rattle.session.specs.Header.{headerFault}
+use Rattle.session.specs.Cases as HeaderOnes
+use Rattle.frame.specs.Frame.{callFault, framed, Cleared}
+use Rattle.headers.specs.Headers.{headersOf, headersFault}
 use Rattle.code_read.specs.declared.Reading.the-variants.{Done as Read}
-use Rattle.code_read.specs.Read.{readingNumber, ComponentRead}
-use Rattle.code_read.specs.Once.{code, Listed, Exactly, done-if, done-only-if, start-once}
+use Rattle.code_read.specs.Read.{readingNumber, readingBits, isMode}
+use Rattle.code_read.specs.Once.{code, Listed, Call, Exactly}
+use Rattle.code_cases.specs.Cases as CodeOnes
 use Rattle.code_write.specs.declared.Writing.{Writing}
-use Rattle.code_write.specs.Write.{writingNumber, writingLength, ComponentWritten}
-use Rattle.code_write.specs.Once.{writer-reader}
-use Rattle.panel.specs.declared.HeaderReading.{HeaderReading}
-use Rattle.panel.specs.declared.HeaderReading.the-variants.{Taken, Refused}
-use Rattle.panel.specs.declared.FrameReading.{FrameReading}
-use Rattle.panel.specs.Panel.{headerNumber, headerRecord, headerReading, frameReadingNumber, frameReading, FrameRead}
+use Rattle.code_write.specs.Write.{writingNumber, writingLength, bytesOf, writeFault}
+use Rattle.code_write_cases.specs.WriteCases.{WriteCases}
+use Rattle.tile_cases.specs.Cases as TileOnes
+use Rattle.encoder_parts.specs.Parts.{tilesNo}
+use Rattle.encoder_parts.specs.Cases as SendOnes
+use Rattle.encoder_size.specs.Encode.{frameP}
+use Rattle.encoder.specs.FrameWrite.{argFault, sendFault}
+use Rattle.own_frames.specs.Own.{wordBack, tileNo}
+use Rattle.panel.specs.Panel.{headerNumber, headerRecord, frameReadingNumber, frameReadingTiles}
+use Rattle.panel.specs.Calls.{HeaderCall, recordAfter, FrameCall, ReadCall, WriteCall, HeadersCall, SendCall, sentBy}
 
--- ---- demand 3: the reader is done with a list exactly if the bytes are that list's code, filled up, and the list is 4,096 numbers in range
-pub done-with : (mode : ℕ) (s : List ℕ) (before after zs : List ℤ) (r : Reading) → ComponentRead mode s before after r → Exactly mode s before zs → (r ≡ Read (length (code mode zs))) × (after ≡ zs)
-done-with mode s before after zs r p = done-if mode s before after r p zs
+-- ---- 1. "A frame is drawn whole, or refused by the first fault in document 01's order, with its number. After a refusal the picture and
+-- the session record are exactly what they were, and work memory holds what 01 says."
 
-pub done-only-with : (mode : ℕ) (s : List ℕ) (before after : List ℤ) (r : Reading) → ComponentRead mode s before after r → readingNumber r ≡ 0 → Exactly mode s before after
-done-only-with mode s before after r p = done-only-if mode s before after r p
+-- 01's order: "12, then 2, then the blocks in wire order"
+abbrev pub firstFault : FrameCall → ℕ
+firstFault c =
+    callFault (c .session) (length (c .picture)) (length (c .y)) (length (c .cb)) (length (c .cr)) (length (c .scratch))
+    ⨟ frameFault judged (c .session .width) (c .session .height) (c .session .mode) (c .message)
 
--- "If code mode xs is the start of code mode ys then xs is ys"
-pub one-code : (mode : ℕ) (xs ys : List ℤ) (r : List Bool) → Listed xs → Listed ys → code mode xs ++ r ≡ code mode ys → xs ≡ ys
-one-code = start-once
+-- the four work lists are those that came in
+pub record Untouched (c : FrameCall) : Type 0 where
+  pub y-kept : c .y′ ≡ c .y
+  pub cb-kept : c .cb′ ≡ c .cb
+  pub cr-kept : c .cr′ ≡ c .cr
+  pub scratch-kept : c .scratch′ ≡ c .scratch
 
--- what the component writer has written is read as the list
-pub written-read-back :
-    (mode : ℕ) (zs before after : List ℤ) (out out′ : List ℕ) (r : Writing) (q : Reading) →
-    ComponentWritten mode zs out out′ r → writingNumber r ≡ 0 → length before ≡ 4096 → ComponentRead mode (take (writingLength r) out′) before after q →
-    (q ≡ Read (length (code mode zs))) × (after ≡ zs)
-written-read-back = writer-reader
+pub record Demand1 : Type 0 where
+  -- the number is the first fault's; 0 where there is none
+  pub header-number : (c : HeaderCall) → headerNumber (c .answer) ≡ headerFault (c .session) (c .message)
+  pub frame-number : (c : FrameCall) → frameReadingNumber (c .answer) ≡ firstFault c
+  -- drawn whole
+  pub frame-whole : (c : FrameCall) → frameReadingNumber (c .answer) ≡ 0 → c .picture′ ≡ framed (c .session .mode) (c .session .width) (c .session .height) (c .message) (c .picture)
+  -- "A refused header or frame changes neither record nor picture." (Over `&mut Session` the frame call leaves the record equal on every answer: specs/Edge.)
+  pub header-refused : (c : HeaderCall) → headerNumber (c .answer) ≢ 0 → recordAfter c ≡ c .session
+  pub frame-refused : (c : FrameCall) → frameReadingNumber (c .answer) ≢ 0 → c .picture′ ≡ c .picture
+  -- "Work lists of a frame call are untouched on 12 and 2; after every other frame answer they hold only zeros."
+  pub lists-untouched : (c : FrameCall) → (frameReadingNumber (c .answer) ≡ 12) ⊎ (frameReadingNumber (c .answer) ≡ 2) → Untouched c
+  pub lists-zeros : (c : FrameCall) → frameReadingNumber (c .answer) ≢ 12 → frameReadingNumber (c .answer) ≢ 2 → Cleared (c .y′) (c .cb′) (c .cr′) (c .scratch′)
+  -- "The component reader leaves its output list untouched on 5, 2 and 6 and fills it with zeros on 1, 9, 10, 11."
+  pub list-untouched : (c : ReadCall) → (readingNumber (c .answer) ≡ 5) ⊎ ((readingNumber (c .answer) ≡ 2) ⊎ (readingNumber (c .answer) ≡ 6)) → c .list′ ≡ c .list
+  pub list-zeros : (c : ReadCall) → (readingNumber (c .answer) ≡ 1) ⊎ ((readingNumber (c .answer) ≡ 9) ⊎ ((readingNumber (c .answer) ≡ 10) ⊎ (readingNumber (c .answer) ≡ 11))) → c .list′ ≡ replicate 4096 (pos 0)
 
--- ---- demand 1: "A refused header or frame changes neither record nor picture."
-refused-keeps : (h : HeaderReading) (s : Session) → (headerNumber h ≡ 0 → ⊥) → headerRecord h s ≡ s
-unfolding headerNumber headerRecord
-refused-keeps (Taken t) s e = absurd (e refl)
-refused-keeps (Refused n) s e = refl
+-- ---- writers: "Writers leave their output untouched on every refusal; when done they say the length in bytes, refused 0, and bytes past it are
+-- untouched."
+pub record Sent (bytes out out′ : List ℕ) (answer : Writing) : Type 0 where
+  pub done-length : writingNumber answer ≡ 0 → writingLength answer ≡ length bytes
+  pub done-output : writingNumber answer ≡ 0 → out′ ≡ written bytes out
+  pub refused-length : writingNumber answer ≢ 0 → writingLength answer ≡ 0
+  pub refused-output : writingNumber answer ≢ 0 → out′ ≡ out
 
-pub header-refused : (s : Session) (m : List ℕ) → (headerNumber (headerReading s m) ≡ 0 → ⊥) → headerRecord (headerReading s m) s ≡ s
-header-refused s m e = refused-keeps (headerReading s m) s e
+-- ---- 2. "An accepted frame changes the picture to what 01's rules say, pixel by pixel, and no other word."
 
-number-of : (n : ℕ) (m : List ℕ) (b : Bool) → eqb n 0 ≡ b → (frameReadingNumber (frameReading n m) ≡ 0 → ⊥) → eqb n 0 ≡ false
-unfolding frameReading frameReadingNumber _⇒_∣_
-number-of n m true e h = absurd (h (rw e))
-number-of n m false e h = e
+-- "A picture word is changed exactly if it lies in the channel, in some rectangle of the region, and in some listed tile; the last such
+-- tile in message order decides."
+abbrev pub shownWord : FrameCall → ℕ → ℕ → ℕ
+shownWord c px py =
+    let old : ℕ = getD (c .picture) (py * c .session .width + px) 0 in
+    inRegion (rectsOf (c .message) 14) (rectCount (c .message) 14) px py
+    ⇒ wordIn (tileWord (c .session .mode) (quantAt (c .message) (setPlace (c .message)))) px py (lastTile (frameTiles (c .message)) px py) old
+    ∣ old
 
-pub frame-refused-keeps :
-    (s : Session) (m pic : List ℕ) (y cb cr tmp : List ℤ) (pic′ : List ℕ) (y′ cb′ cr′ tmp′ : List ℤ) (r : FrameReading) →
-    FrameRead s m pic y cb cr tmp pic′ y′ cb′ cr′ tmp′ r → (frameReadingNumber r ≡ 0 → ⊥) → pic′ ≡ pic
-unfolding framePicture
-frame-refused-keeps s m pic y cb cr tmp pic′ y′ cb′ cr′ tmp′ r p h =
-    let n = frameNumber (callFault s (length pic) (length y) (length cb) (length cr) (length tmp)) s m in
-    p .picture ∙ sym (fails _ _ _ _ (number-of n m (eqb n 0) refl (λ e. h (ap frameReadingNumber (p .answer) ∙ e))) refl)
+-- "A frame from our writer, read after our writer's headers for the same size and mode": the calls in their order
+pub record OurCalls (h : HeadersCall) (one two three four : HeaderCall) (s : SendCall) (f : FrameCall) : Type 0 where
+  pub headers-done : writingNumber (h .answer) ≡ 0
+  pub sync : one .message ≡ take 12 (sentBy (h .answer) (h .out′))
+  pub versions : two .message ≡ take 10 (drop 12 (sentBy (h .answer) (h .out′)))
+  pub channels : three .message ≡ take 12 (drop 22 (sentBy (h .answer) (h .out′)))
+  pub context : four .message ≡ take 13 (drop 34 (sentBy (h .answer) (h .out′)))
+  pub then-two : two .session ≡ recordAfter one
+  pub then-three : three .session ≡ recordAfter two
+  pub then-four : four .session ≡ recordAfter three
+  pub same-width : s .width ≡ h .width
+  pub same-height : s .height ≡ h .height
+  pub same-mode : s .mode ≡ h .mode
+  pub ten : length (s .quant) ≡ 10
+  pub frame-done : writingNumber (s .answer) ≡ 0
+  pub frame : f .message ≡ sentBy (s .answer) (s .out′)
+  pub then-frame : f .session ≡ recordAfter four
+  pub y-long : length (f .y) ≡ 4096
+  pub cb-long : length (f .cb) ≡ 4096
+  pub cr-long : length (f .cr) ≡ 4096
+  pub scratch-long : length (f .scratch) ≡ 4096
+  pub room : s .height * s .width ≤ length (f .picture)
+
+-- ".. is accepted and shows what 01's decoding makes of the given picture's rounded coefficients."
+pub record OurFrame (one two three four : HeaderCall) (s : SendCall) (f : FrameCall) : Type 0 where
+  pub sync-taken : headerNumber (one .answer) ≡ 0
+  pub versions-taken : headerNumber (two .answer) ≡ 0
+  pub channels-taken : headerNumber (three .answer) ≡ 0
+  pub context-taken : headerNumber (four .answer) ≡ 0
+  pub accepted : frameReadingNumber (f .answer) ≡ 0
+  pub tiles : frameReadingTiles (f .answer) ≡ tilesNo (s .width) (s .height)
+  pub word : (px py : ℕ) → px < s .width → py < s .height →
+      getD (f .picture′) (py * s .width + px) 0 ≡ wordBack (s .pixels) (s .width) (s .height) (s .quant) (tileNo (s .width) px py) (64 * (py % 64) + px % 64)
+  pub past : (i : ℕ) → s .height * s .width ≤ i → getD (f .picture′) i 0 ≡ getD (f .picture) i 0
+  pub long : length (f .picture′) ≡ length (f .picture)
+
+pub record Demand2 : Type 0 where
+  pub pixel : (c : FrameCall) → frameReadingNumber (c .answer) ≡ 0 → (px py : ℕ) → px < c .session .width → py < c .session .height → getD (c .picture′) (py * c .session .width + px) 0 ≡ shownWord c px py
+  -- "words past width x height are never changed"
+  pub past : (c : FrameCall) (i : ℕ) → c .session .height * c .session .width ≤ i → getD (c .picture′) i 0 ≡ getD (c .picture) i 0
+  pub long : (c : FrameCall) → length (c .picture′) ≡ length (c .picture)
+  -- "A done frame reports numTiles, a refused one 0."
+  pub tiles : (c : FrameCall) → frameReadingNumber (c .answer) ≡ 0 → frameReadingTiles (c .answer) ≡ tileCount (c .message) (setPlace (c .message))
+  pub no-tiles : (c : FrameCall) → frameReadingNumber (c .answer) ≢ 0 → frameReadingTiles (c .answer) ≡ 0
+  -- the other way
+  pub our-frames : (h : HeadersCall) (one two three four : HeaderCall) (s : SendCall) (f : FrameCall) → OurCalls h one two three four s f → OurFrame one two three four s f
+  -- "The writer refuses only on 01's conditions."
+  pub frame-writer : (c : SendCall) → writingNumber (c .answer) ≡ argFault (c .width) (c .height) (c .mode) (c .quant) (length (c .pixels)) (length (c .list)) (length (c .scratch)) ⨟ sendFault (c .index) (c .width) (c .height) (c .mode) (c .quant) (c .pixels) (length (c .out))
+  pub header-writer : (c : HeadersCall) → writingNumber (c .answer) ≡ headersFault (c .width) (c .height) (c .mode) (length (c .out))
+  pub frame-sent : (c : SendCall) → Sent (frameP (c .index) (c .width) (c .height) (c .mode) (c .quant) (c .pixels)) (c .out) (c .out′) (c .answer)
+  pub headers-sent : (c : HeadersCall) → Sent (headersOf (c .width) (c .height) (c .mode)) (c .out) (c .out′) (c .answer)
+  -- "The frame writer's work lists are untouched on 5, 7 and 2 and hold only zeros after every other answer."
+  pub work-untouched : (c : SendCall) → (writingNumber (c .answer) ≡ 5) ⊎ ((writingNumber (c .answer) ≡ 7) ⊎ (writingNumber (c .answer) ≡ 2)) → (c .list′ ≡ c .list) × (c .scratch′ ≡ c .scratch)
+  pub work-zeros : (c : SendCall) → writingNumber (c .answer) ≢ 5 → writingNumber (c .answer) ≢ 7 → writingNumber (c .answer) ≢ 2 → (c .list′ ≡ replicate 4096 (pos 0)) × (c .scratch′ ≡ replicate 4096 (pos 0))
+
+-- ---- 3. "In each of the two code modes a byte string of at most 65,535 bytes, read into 4,096 places, is accepted as a component exactly if it
+-- is the code of some list of 4,096 whole numbers from -32,767 to 32,767, filled up with zero bits to a byte; that list is handed back. Before
+-- filling up, no list's code is the start of another's, and the reader reports the code's length in bits, whatever bits follow."
+pub record Demand3 : Type 0 where
+  pub accepted-if : (c : ReadCall) (zs : List ℤ) → Exactly (c .mode) (c .bytes) (c .list) zs → (c .answer ≡ Read (length (code (c .mode) zs))) × (c .list′ ≡ zs)
+  pub accepted-only-if : (c : ReadCall) → readingNumber (c .answer) ≡ 0 → Exactly (c .mode) (c .bytes) (c .list) (c .list′)
+  pub one-code : (mode : ℕ) (xs ys : List ℤ) (rest : List Bool) → Listed xs → Listed ys → code mode xs ++ rest ≡ code mode ys → xs ≡ ys
+  pub length-told : (c : ReadCall) (zs : List ℤ) (rest : List Bool) → Call (c .mode) (c .bytes) (c .list) → Listed zs → bitsOf (c .bytes) ≡ code (c .mode) zs ++ rest → readingBits (c .answer) ≡ length (code (c .mode) zs)
+  -- the component writer writes just that code, and refuses only on 01's conditions
+  pub writer-number : (c : WriteCall) → writingNumber (c .answer) ≡ writeFault (c .mode) (c .list) (length (c .out))
+  pub writer-sent : (c : WriteCall) → Sent (bytesOf (c .mode) (c .list)) (c .out) (c .out′) (c .answer)
+  pub read-back : (w : WriteCall) (c : ReadCall) → writingNumber (w .answer) ≡ 0 → c .mode ≡ w .mode → c .bytes ≡ sentBy (w .answer) (w .out′) → length (c .list) ≡ 4096 → (c .answer ≡ Read (length (code (w .mode) (w .list)))) × (c .list′ ≡ w .list)
+
+-- ---- "Those marked (p) are proved of the definitions, gathered under a single statement"
+pub record PaperCases : Type 0 where
+  -- all zeros, 00 00, 00 00 00 00, empty; +1 and -1 then zeros; folded 0 to 3: as the reader takes them, and as the writer sends them
+  pub read : CodeOnes.Cases
+  pub sent : WriteCases
+  -- bytes 66 66 77 88 98; the line of 4.2.4.3.1; q = 6; white, black and red
+  pub tile : TileOnes.Cases
+  -- context properties 2828 and 2228, and the four headers in their order
+  pub headers : HeaderOnes.Cases
+  -- tileset properties 5051 and 4451, read and written
+  pub tileset : PropsCases
+  pub writer : SendOnes.Cases
+
+pub record Demands : Type 0 where
+  pub one : Demand1
+  pub two : Demand2
+  pub three : Demand3
+  pub cases : PaperCases

@@ -1,4 +1,5 @@
 pub mod Panel
 pub mod PanelLaws
 pub mod Unique
+pub mod Calls
 pub mod Demands
