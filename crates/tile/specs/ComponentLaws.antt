@@ -6,13 +6,14 @@ use mathlib.Core.Bool.{true}
 use mathlib.Core.List.{List, _++_}
 use native.Mathlib.Decide.{decLt}
 use native.Mathlib.Omega.{arith}
+use borrow.Author.Tests.{eq-eqb, ne-eqb}
 use lib.IntN.{ℤ, pos}
 use lib.ListN.{length, take, drop, length-append, length-take, List·getD-append, List·getD-eq-default}
 use lib.Seq.{getD-take, getD-append-add, length-take-le}
 use Rattle.whole.specs.Near.{Near}
 use Rattle.whole.specs.Tab.{at, tab, AllNear, length-tab, at-tab}
 use Rattle.wire.specs.Row.{_!_⨾_, _⨟_}
-use Rattle.wire.specs.RowLaws.{held, both, stops, goes-on}
+use Rattle.wire.specs.RowLaws.{fails, passes, held, both, stops, goes-on}
 use Rattle.bands.specs.Bands.{sumsOf, sumsFault, summed, scaleAt, scaleFault, scaledBy, allIn, Summed, Scaled}
 use Rattle.bands.specs.RangeLaws.{all-each}
 use Rattle.code_read.specs.Read.{readingNumber, readFault, decoded, readInto, ComponentRead}
@@ -20,7 +21,7 @@ use Rattle.code_read.specs.ReadLaws.{read-number, into-decoded, decoded-length,
 use Rattle.code_read.specs.declared.Reading.{Reading}
 use Rattle.wavelet.specs.Tile.{tileBack}
 use Rattle.wavelet.specs.TileLaws.{back-length, back-near}
-use Rattle.tile.specs.Component.{componentFault, coefficientsOf, samplesOf, Coefficients}
+use Rattle.tile.specs.Component.{componentFault, coefficientsOf, coefficientsInto, samplesOf, Coefficients}
 
 -- ---- bounds
 
@@ -71,9 +72,13 @@ module _ (mode : ℕ) (q s : List ℕ) (before after : List ℤ) (r : Reading) (
   fault-is : n ≡ readFault mode 4096 s
   fault-is = is ∙ read-number mode s before after r d ∙ ap (λ (k : ℕ). readFault mode k s) len
 
-  pub read-refused : (n ≡ 0 → ⊥) → (ys : List ℤ) → Coefficients mode q s ys n
-  unfolding componentFault
-  read-refused h ys = record { number = stops _ _ _ (λ z. h (fault-is ∙ z)) fault-is; list = λ z. absurd (h z) }
+  pub read-refused : (n ≡ 0 → ⊥) → Coefficients mode q s before after n
+  unfolding componentFault coefficientsInto
+  read-refused h = record {
+    number = stops _ _ _ (λ z. h (fault-is ∙ z)) fault-is;
+    into = fails _ _ _ _ (ne-eqb _ 0 (λ z. h (fault-is ∙ z))) (d .list);
+    list = λ z. absurd (h z);
+  }
 
   pub read-done : n ≡ 0 → Decoded mode s after
   read-done z =
@@ -83,24 +88,31 @@ module _ (mode : ℕ) (q s : List ℕ) (before after : List ℤ) (r : Reading) (
       record { number = sym f; list = l; len = ap length l ∙ decoded-length mode 4096 s f; near = subst (AllNear 32767) (sym l) (decoded-near mode 4096 s f) }
 
 module _ (mode : ℕ) (q s : List ℕ) (xs after : List ℤ) (f : ℕ) (d : Decoded mode s xs) (m : Summed xs after f) where
-  pub sums-refused : (f ≡ 0 → ⊥) → (ys : List ℤ) → Coefficients mode q s ys f
-  unfolding componentFault
-  sums-refused h ys =
+  pub sums-refused : (f ≡ 0 → ⊥) → (before : List ℤ) → Coefficients mode q s before after f
+  unfolding componentFault coefficientsInto
+  sums-refused h before =
       let e = m .number ∙ ap sumsFault (d .list) in
-      record { number = goes-on _ _ _ (d .number) (stops _ _ _ (λ z. h (e ∙ z)) e); list = λ z. absurd (h z) }
+      record {
+        number = goes-on _ _ _ (d .number) (stops _ _ _ (λ z. h (e ∙ z)) e);
+        into = passes _ _ _ _ (eq-eqb _ 0 (d .number)) (fails _ _ _ _ (ne-eqb _ 0 (λ z. h (e ∙ z))) (m .list ∙ ap summed (d .list)));
+        list = λ z. absurd (h z);
+      }
 
   pub sums-done : f ≡ 0 → (length after ≡ 4096) × AllNear 32767 after
   sums-done z =
       let p = summed-near xs (d .len) (d .near) (sym z ∙ m .number) in
       (ap length (m .list) ∙ p .0, subst (AllNear 32767) (sym (m .list)) (p .1))
 
-  pub scaled-done : f ≡ 0 → (r : ℕ) (ys : List ℤ) → Scaled q after ys r → Coefficients mode q s ys r
-  unfolding componentFault coefficientsOf
-  scaled-done z r ys g =
+  pub scaled-done : f ≡ 0 → (before : List ℤ) (r : ℕ) (ys : List ℤ) → Scaled q after ys r → Coefficients mode q s before ys r
+  unfolding componentFault coefficientsOf coefficientsInto
+  scaled-done z before r ys g =
       let e = m .list ∙ ap summed (d .list) in
+      let o : sumsFault (decoded mode s) ≡ 0 = sym (m .number ∙ ap sumsFault (d .list)) ∙ z in
+      let l : ys ≡ scaledBy q (summed (decoded mode s)) = g .list ∙ ap (scaledBy q) e in
       record {
-        number = goes-on _ _ _ (d .number) (goes-on _ _ _ (sym (m .number ∙ ap sumsFault (d .list)) ∙ z) (g .number ∙ ap (scaleFault q) e));
-        list = λ w. g .list ∙ ap (scaledBy q) e;
+        number = goes-on _ _ _ (d .number) (goes-on _ _ _ o (g .number ∙ ap (scaleFault q) e));
+        into = passes _ _ _ _ (eq-eqb _ 0 (d .number)) (passes _ _ _ _ (eq-eqb _ 0 o) l);
+        list = λ w. l;
       }
 
 -- ---- a component that has no fault
@@ -113,7 +125,7 @@ coefficients-near mode q s e =
     scaled-near q (summed (decoded mode s)) (b .1)
 
 -- the list that decoding leaves where the component has no fault
-pub coefficients-are : (mode : ℕ) (q s : List ℕ) (after : List ℤ) (r : ℕ) → 0 ≡ componentFault mode q s → Coefficients mode q s after r → (after ≡ coefficientsOf mode q s) × (length after ≡ 4096) × AllNear 32767 after
+pub coefficients-are : (mode : ℕ) (q s : List ℕ) {before : List ℤ} (after : List ℤ) (r : ℕ) → 0 ≡ componentFault mode q s → Coefficients mode q s before after r → (after ≡ coefficientsOf mode q s) × (length after ≡ 4096) × AllNear 32767 after
 coefficients-are mode q s after r e c =
     let l = c .list (c .number ∙ sym e) in
     let p = coefficients-near mode q s e in

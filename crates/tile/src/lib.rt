@@ -8,10 +8,10 @@ ghost use Rattle.bands.specs.Bands.{QuantGood};
 ghost use Rattle.tile.specs.Component.{Coefficients, componentFault, samplesOf};
 ghost use Rattle.tile.specs.Word.{Plane, wordAt, WordsRow};
 
-// The number of a component, and where that is 0 its coefficients in the work list.
+// The number of a component, and what the work list holds, whatever the number: on 0 the coefficients.
 pub fn coefficients(mode: u8, q: Quant, code: &[u8], work: &mut [i32]) -> u8
     requires { ⌜ (length (now work) ≡ 4096) × QuantGood (q .v) ⌝ }
-    ensures { λ r. ⌜ Coefficients mode (q .v) (now (code .entry)) (now (work .exit)) r ⌝ }
+    ensures { λ r. ⌜ Coefficients mode (q .v) (now (code .entry)) (now (work .entry)) (now (work .exit)) r ⌝ }
 {
     let read = code_read::read_component(mode, code, work);
     let n = code_read::reading_number(read);

@@ -24,7 +24,7 @@ same-length c = search needs
 
 -- src/lib.rt:19:9
 returns : tie.Need-returns
-returns c = read-refused (c .before .before .before .before .before .before .args .mode) (c .before .before .before .before .before .before .args .q .v) (now (c .before .before .before .before .before .before .args .code)) (now (c .before .before .before .before .before .before .args .work)) (c .before .before .before .read-component .last .1 .1 .0) (c .before .before .before .read-component .result) (c .before .before .before .before .before .before .pre .0) (c .before .before .before .read-component .ensures) (c .before .reading-number .result) (c .before .reading-number .ensures) (c .if1 .taken) _
+returns c = read-refused (c .before .before .before .before .before .before .args .mode) (c .before .before .before .before .before .before .args .q .v) (now (c .before .before .before .before .before .before .args .code)) (now (c .before .before .before .before .before .before .args .work)) (c .before .before .before .read-component .last .1 .1 .0) (c .before .before .before .read-component .result) (c .before .before .before .before .before .before .pre .0) (c .before .before .before .read-component .ensures) (c .before .reading-number .result) (c .before .reading-number .ensures) (c .if1 .taken)
 
 -- src/lib.rt:21:9
 sums-requires : tie.Need-sums-requires
@@ -48,7 +48,7 @@ same-length-3 c = search needs
 
 -- src/lib.rt:12:1
 returns-3 : tie.Need-returns-3
-returns-3 c = let d = read-done (c .before .before .before .before .before .before .before .before .before .before .before .before .before .args .mode) (c .before .before .before .before .before .before .before .before .before .before .before .before .before .args .q .v) (now (c .before .before .before .before .before .before .before .before .before .before .before .before .before .args .code)) (now (c .before .before .before .before .before .before .before .before .before .before .before .before .before .args .work)) (c .before .before .before .before .before .before .before .before .before .before .read-component .last .1 .1 .0) (c .before .before .before .before .before .before .before .before .before .before .read-component .result) (c .before .before .before .before .before .before .before .before .before .before .before .before .before .pre .0) (c .before .before .before .before .before .before .before .before .before .before .read-component .ensures) (c .before .before .before .before .before .before .before .before .reading-number .result) (c .before .before .before .before .before .before .before .before .reading-number .ensures) (c .before .before .before .before .before .before .before .if1 .left) in scaled-done (c .before .before .before .before .before .before .before .before .before .before .before .before .before .args .mode) (c .before .before .before .before .before .before .before .before .before .before .before .before .before .args .q .v) (now (c .before .before .before .before .before .before .before .before .before .before .before .before .before .args .code)) (c .before .before .before .before .before .before .before .before .before .before .read-component .last .1 .1 .0) (c .before .before .before .before .before .sums .last .0) (c .before .before .before .before .before .sums .result) d (c .before .before .before .before .before .sums .ensures) (c .before .before .before .if2 .left) _ _ (c .before .scale .ensures)
+returns-3 c = let d = read-done (c .before .before .before .before .before .before .before .before .before .before .before .before .before .args .mode) (c .before .before .before .before .before .before .before .before .before .before .before .before .before .args .q .v) (now (c .before .before .before .before .before .before .before .before .before .before .before .before .before .args .code)) (now (c .before .before .before .before .before .before .before .before .before .before .before .before .before .args .work)) (c .before .before .before .before .before .before .before .before .before .before .read-component .last .1 .1 .0) (c .before .before .before .before .before .before .before .before .before .before .read-component .result) (c .before .before .before .before .before .before .before .before .before .before .before .before .before .pre .0) (c .before .before .before .before .before .before .before .before .before .before .read-component .ensures) (c .before .before .before .before .before .before .before .before .reading-number .result) (c .before .before .before .before .before .before .before .before .reading-number .ensures) (c .before .before .before .before .before .before .before .if1 .left) in scaled-done (c .before .before .before .before .before .before .before .before .before .before .before .before .before .args .mode) (c .before .before .before .before .before .before .before .before .before .before .before .before .before .args .q .v) (now (c .before .before .before .before .before .before .before .before .before .before .before .before .before .args .code)) (c .before .before .before .before .before .before .before .before .before .before .read-component .last .1 .1 .0) (c .before .before .before .before .before .sums .last .0) (c .before .before .before .before .before .sums .result) d (c .before .before .before .before .before .sums .ensures) (c .before .before .before .if2 .left) _ _ _ (c .before .scale .ensures)
 
 pub coefficients-spec : {M : Type 1} → statement M
 coefficients-spec =
