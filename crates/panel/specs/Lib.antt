@@ -3,3 +3,5 @@ pub mod PanelLaws
 pub mod Unique
 pub mod Calls
 pub mod Demands
+pub mod Edge
+pub mod EdgeLaws

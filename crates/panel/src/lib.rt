@@ -12,6 +12,8 @@ use code_read::Reading;
 use code_write::Writing;
 use session::Session;
 
+pub mod edge;
+
 // What reading a header came to: the record after it, or 01's number.
 pub enum HeaderReading {
     Taken(Session),

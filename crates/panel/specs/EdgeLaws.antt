@@ -1,0 +1,104 @@
+-- The calls for C are the panel's own: each promise follows from that call's answer, and gives it back, so the demands hold of them too. And each
+-- promise leaves one number, one value and one content of every list.
+use Prim.Native.Nat.{ℕ, zero, suc}
+use mathlib.Core.Path.{_≡_, refl, sym, ap, _∙_, subst}
+use mathlib.Core.List.{List}
+use lib.IntN.{ℤ}
+use lib.ListN.{length}
+use Rattle.wire.specs.Row.{_⨟_}
+use Rattle.session.specs.declared.Session.{Session}
+use Rattle.code_read.specs.declared.Reading.{Reading}
+use Rattle.code_read.specs.Read.{readingNumber, readingBits, reading, ComponentRead}
+use Rattle.code_read.specs.Once.{read-once}
+use Rattle.code_write.specs.declared.Writing.{Writing}
+use Rattle.code_write.specs.Write.{writingNumber, writingLength, lengthSaid, outLeft, Wrote}
+use Rattle.code_write.specs.Once.{answerOf}
+use Rattle.encoder_size.specs.Encode.{frameP}
+use Rattle.encoder.specs.FrameWrite.{argFault, sendFault, FrameWritten}
+use Rattle.panel.specs.declared.HeaderReading.{HeaderReading}
+use Rattle.panel.specs.declared.FrameReading.{FrameReading}
+use Rattle.panel.specs.Panel.{headerNumber, headerRecord, headerReading, frameReadingNumber, frameReadingTiles, FrameRead}
+use Rattle.panel.specs.Unique.{SameFrame, frame-read-once}
+use Rattle.panel.specs.Edge.{ReadHeaderCall, frameAnswer, ReadFrameCall, ReadComponentCall, WriteCall, WriteFrameCall}
+
+-- ---- from the panel's calls
+
+pub header-call : (s s′ : Session) (m : List ℕ) (n : ℕ) (h : HeaderReading) → h ≡ headerReading s m → n ≡ headerNumber h → s′ ≡ headerRecord h s → ReadHeaderCall s s′ m n
+header-call s s′ m n h e f g = record { number = f ∙ ap headerNumber e; session = g ∙ ap (λ (x : HeaderReading). headerRecord x s) e }
+
+pub frame-call :
+    (s : Session) (m pic : List ℕ) (y cb cr tmp : List ℤ) (pic′ : List ℕ) (y′ cb′ cr′ tmp′ : List ℤ) (tiles n : ℕ) (r : FrameReading) →
+    FrameRead s m pic y cb cr tmp pic′ y′ cb′ cr′ tmp′ r → tiles ≡ frameReadingTiles r → n ≡ frameReadingNumber r →
+    ReadFrameCall s s m pic y cb cr tmp pic′ y′ cb′ cr′ tmp′ tiles n
+frame-call s m pic y cb cr tmp pic′ y′ cb′ cr′ tmp′ tiles n r p e f =
+    record { number = f ∙ ap frameReadingNumber (p .answer); count = e ∙ ap frameReadingTiles (p .answer); session = refl; lists = subst (FrameRead s m pic y cb cr tmp pic′ y′ cb′ cr′ tmp′) (p .answer) p }
+
+pub component-call :
+    (mode : ℕ) (s : List ℕ) (before after : List ℤ) (bits n : ℕ) (r : Reading) → ComponentRead mode s before after r → bits ≡ readingBits r → n ≡ readingNumber r →
+    ReadComponentCall mode s before after bits n
+component-call mode s before after bits n r p e f =
+    record { number = f ∙ ap readingNumber (p .answer); long = e ∙ ap readingBits (p .answer); list = subst (ComponentRead mode s before after) (p .answer) p }
+
+pub write-call : (f : ℕ) (bytes out out′ : List ℕ) (size n : ℕ) (r : Writing) → Wrote f bytes out out′ r → size ≡ writingLength r → n ≡ writingNumber r → WriteCall f bytes out out′ size n
+write-call f bytes out out′ size n r w e g = record { number = g ∙ w .number; long = e ∙ w .said; left = w .left }
+
+pub frame-write-call :
+    (w h mode : ℕ) (q : List ℕ) (index : ℕ) (p : List ℕ) (list list′ scratch scratch′ : List ℤ) (out out′ : List ℕ) (size n : ℕ) (r : Writing) →
+    FrameWritten w h mode q index p list list′ scratch scratch′ out out′ r → size ≡ writingLength r → n ≡ writingNumber r →
+    WriteFrameCall w h mode q index p list list′ scratch scratch′ out out′ size n
+frame-write-call w h mode q index p list list′ scratch scratch′ out out′ size n r x e g =
+    record { wrote = write-call _ _ _ _ _ _ r (x .wrote) e g; first = x .first; second = x .second }
+
+-- ---- and back: a writer's answer; those of the readers stand in their promises
+pub call-wrote : (f : ℕ) (bytes out out′ : List ℕ) (size n : ℕ) → WriteCall f bytes out out′ size n → Wrote f bytes out out′ (answerOf f bytes)
+unfolding writingNumber writingLength lengthSaid
+call-wrote zero bytes out out′ size n w = record { number = refl; said = refl; left = w .left }
+call-wrote (suc f) bytes out out′ size n w = record { number = refl; said = refl; left = w .left }
+
+pub call-frame-written :
+    (w h mode : ℕ) (q : List ℕ) (index : ℕ) (p : List ℕ) (list list′ scratch scratch′ : List ℤ) (out out′ : List ℕ) (size n : ℕ) →
+    WriteFrameCall w h mode q index p list list′ scratch scratch′ out out′ size n →
+    FrameWritten w h mode q index p list list′ scratch scratch′ out out′ (answerOf (argFault w h mode q (length p) (length list) (length scratch) ⨟ sendFault index w h mode q p (length out)) (frameP index w h mode q p))
+call-frame-written w h mode q index p list list′ scratch scratch′ out out′ size n x =
+    record { wrote = call-wrote _ _ _ _ size n (x .wrote); first = x .first; second = x .second }
+
+-- ---- one answer
+
+pub read-header-once : (s a b : Session) (m : List ℕ) (n k : ℕ) → ReadHeaderCall s a m n → ReadHeaderCall s b m k → (n ≡ k) × (a ≡ b)
+read-header-once s a b m n k x y = (x .number ∙ sym (y .number), x .session ∙ sym (y .session))
+
+pub record SameFrameCall (s s′ : Session) (tiles tiles′ n n′ : ℕ) (pic pic′ : List ℕ) (y y′ cb cb′ cr cr′ tmp tmp′ : List ℤ) : Type 0 where
+  pub number : n ≡ n′
+  pub count : tiles ≡ tiles′
+  pub session : s ≡ s′
+  pub picture : pic ≡ pic′
+  pub y-list : y ≡ y′
+  pub cb-list : cb ≡ cb′
+  pub cr-list : cr ≡ cr′
+  pub tmp-list : tmp ≡ tmp′
+
+pub read-frame-once :
+    (s s₁ s₂ : Session) (m pic : List ℕ) (y cb cr tmp : List ℤ) (p p′ : List ℕ) (a a′ b b′ c c′ t t′ : List ℤ) (k k′ n n′ : ℕ) →
+    ReadFrameCall s s₁ m pic y cb cr tmp p a b c t k n → ReadFrameCall s s₂ m pic y cb cr tmp p′ a′ b′ c′ t′ k′ n′ → SameFrameCall s₁ s₂ k k′ n n′ p p′ a a′ b b′ c c′ t t′
+read-frame-once s s₁ s₂ m pic y cb cr tmp p p′ a a′ b b′ c c′ t t′ k k′ n n′ x z =
+    let f = frame-read-once s m pic y cb cr tmp p p′ a a′ b b′ c c′ t t′ _ _ (x .lists) (z .lists) in
+    record { number = x .number ∙ sym (z .number); count = x .count ∙ sym (z .count); session = x .session ∙ sym (z .session); picture = f .picture; y-list = f .y-list; cb-list = f .cb-list; cr-list = f .cr-list; tmp-list = f .tmp-list }
+
+pub read-component-once :
+    (mode : ℕ) (s : List ℕ) (before a b : List ℤ) (bits bits′ n n′ : ℕ) → ReadComponentCall mode s before a bits n → ReadComponentCall mode s before b bits′ n′ →
+    (n ≡ n′) × (bits ≡ bits′) × (a ≡ b)
+read-component-once mode s before a b bits bits′ n n′ x y =
+    (x .number ∙ sym (y .number), x .long ∙ sym (y .long), read-once mode s before a b _ _ (x .list) (y .list) .1)
+
+-- xurbalenz_write_component and xurbalenz_write_headers
+pub write-call-once :
+    (f : ℕ) (bytes out a b : List ℕ) (size size′ n n′ : ℕ) → WriteCall f bytes out a size n → WriteCall f bytes out b size′ n′ → (n ≡ n′) × (size ≡ size′) × (a ≡ b)
+write-call-once f bytes out a b size size′ n n′ x y = (x .number ∙ sym (y .number), x .long ∙ sym (y .long), x .left ∙ sym (y .left))
+
+pub write-frame-once :
+    (w h mode : ℕ) (q : List ℕ) (index : ℕ) (p : List ℕ) (list a a′ scratch b b′ : List ℤ) (out c c′ : List ℕ) (size size′ n n′ : ℕ) →
+    WriteFrameCall w h mode q index p list a scratch b out c size n → WriteFrameCall w h mode q index p list a′ scratch b′ out c′ size′ n′ →
+    (n ≡ n′) × (size ≡ size′) × (a ≡ a′) × (b ≡ b′) × (c ≡ c′)
+write-frame-once w h mode q index p list a a′ scratch b b′ out c c′ size size′ n n′ x y =
+    let o = write-call-once _ _ out c c′ size size′ n n′ (x .wrote) (y .wrote) in
+    (o .0, o .1, x .first ∙ sym (y .first), x .second ∙ sym (y .second), o .2)
