@@ -42,19 +42,19 @@ pub record ReadComponentCall (mode : ℕ) (s : List ℕ) (before after : List �
 
 -- ---- the writers: the number of the first fault; "when done they say the length in bytes, refused 0"; the output
 
-pub record WriteCall (fault : ℕ) (bytes out out′ : List ℕ) (size n : ℕ) : Type 0 where
+pub record WriterCall (fault : ℕ) (bytes out out′ : List ℕ) (size n : ℕ) : Type 0 where
   pub number : n ≡ fault
   pub long : size ≡ lengthSaid fault bytes
   pub left : out′ ≡ outLeft fault bytes out
 
 abbrev pub WriteComponentCall : ℕ → List ℤ → List ℕ → List ℕ → ℕ → ℕ → Type 0
-WriteComponentCall mode zs out out′ size n = WriteCall (writeFault mode zs (length out)) (bytesOf mode zs) out out′ size n
+WriteComponentCall mode zs out out′ size n = WriterCall (writeFault mode zs (length out)) (bytesOf mode zs) out out′ size n
 
 abbrev pub WriteHeadersCall : ℕ → ℕ → ℕ → List ℕ → List ℕ → ℕ → ℕ → Type 0
-WriteHeadersCall width height mode out out′ size n = WriteCall (headersFault width height mode (length out)) (headersOf width height mode) out out′ size n
+WriteHeadersCall width height mode out out′ size n = WriterCall (headersFault width height mode (length out)) (headersOf width height mode) out out′ size n
 
 -- and the frame writer's two work lists
 pub record WriteFrameCall (w h mode : ℕ) (q : List ℕ) (index : ℕ) (p : List ℕ) (list list′ scratch scratch′ : List ℤ) (out out′ : List ℕ) (size n : ℕ) : Type 0 where
-  pub wrote : WriteCall (argFault w h mode q (length p) (length list) (length scratch) ⨟ sendFault index w h mode q p (length out)) (frameP index w h mode q p) out out′ size n
+  pub wrote : WriterCall (argFault w h mode q (length p) (length list) (length scratch) ⨟ sendFault index w h mode q p (length out)) (frameP index w h mode q p) out out′ size n
   pub first : list′ ≡ workLeft (argFault w h mode q (length p) (length list) (length scratch)) list
   pub second : scratch′ ≡ workLeft (argFault w h mode q (length p) (length list) (length scratch)) scratch

@@ -11,15 +11,17 @@ use Rattle.code_read.specs.declared.Reading.{Reading}
 use Rattle.code_read.specs.Read.{readingNumber, readingBits, reading, ComponentRead}
 use Rattle.code_read.specs.Once.{read-once}
 use Rattle.code_write.specs.declared.Writing.{Writing}
-use Rattle.code_write.specs.Write.{writingNumber, writingLength, lengthSaid, outLeft, Wrote}
+use Rattle.code_write.specs.Write.{writingNumber, writingLength, bytesOf, writeFault, lengthSaid, Wrote}
 use Rattle.code_write.specs.Once.{answerOf}
+use Rattle.headers.specs.Headers.{headersOf, headersFault}
 use Rattle.encoder_size.specs.Encode.{frameP}
 use Rattle.encoder.specs.FrameWrite.{argFault, sendFault, FrameWritten}
 use Rattle.panel.specs.declared.HeaderReading.{HeaderReading}
 use Rattle.panel.specs.declared.FrameReading.{FrameReading}
 use Rattle.panel.specs.Panel.{headerNumber, headerRecord, headerReading, frameReadingNumber, frameReadingTiles, FrameRead}
+use Rattle.panel.specs.Calls.{HeaderCall, recordAfter, FrameCall, ReadCall, WriteCall, HeadersCall, SendCall}
 use Rattle.panel.specs.Unique.{SameFrame, frame-read-once}
-use Rattle.panel.specs.Edge.{ReadHeaderCall, frameAnswer, ReadFrameCall, ReadComponentCall, WriteCall, WriteFrameCall}
+use Rattle.panel.specs.Edge.{ReadHeaderCall, frameAnswer, ReadFrameCall, ReadComponentCall, WriterCall, WriteComponentCall, WriteHeadersCall, WriteFrameCall}
 
 -- ---- from the panel's calls
 
@@ -39,7 +41,7 @@ pub component-call :
 component-call mode s before after bits n r p e f =
     record { number = f ∙ ap readingNumber (p .answer); long = e ∙ ap readingBits (p .answer); list = subst (ComponentRead mode s before after) (p .answer) p }
 
-pub write-call : (f : ℕ) (bytes out out′ : List ℕ) (size n : ℕ) (r : Writing) → Wrote f bytes out out′ r → size ≡ writingLength r → n ≡ writingNumber r → WriteCall f bytes out out′ size n
+pub write-call : (f : ℕ) (bytes out out′ : List ℕ) (size n : ℕ) (r : Writing) → Wrote f bytes out out′ r → size ≡ writingLength r → n ≡ writingNumber r → WriterCall f bytes out out′ size n
 write-call f bytes out out′ size n r w e g = record { number = g ∙ w .number; long = e ∙ w .said; left = w .left }
 
 pub frame-write-call :
@@ -49,18 +51,58 @@ pub frame-write-call :
 frame-write-call w h mode q index p list list′ scratch scratch′ out out′ size n r x e g =
     record { wrote = write-call _ _ _ _ _ _ r (x .wrote) e g; first = x .first; second = x .second }
 
--- ---- and back: a writer's answer; those of the readers stand in their promises
-pub call-wrote : (f : ℕ) (bytes out out′ : List ℕ) (size n : ℕ) → WriteCall f bytes out out′ size n → Wrote f bytes out out′ (answerOf f bytes)
-unfolding writingNumber writingLength lengthSaid
-call-wrote zero bytes out out′ size n w = record { number = refl; said = refl; left = w .left }
-call-wrote (suc f) bytes out out′ size n w = record { number = refl; said = refl; left = w .left }
+-- ---- and back: each is a call of specs/Calls, so the demands hold of it; the number and the value that it hands out are that call's
 
-pub call-frame-written :
-    (w h mode : ℕ) (q : List ℕ) (index : ℕ) (p : List ℕ) (list list′ scratch scratch′ : List ℤ) (out out′ : List ℕ) (size n : ℕ) →
-    WriteFrameCall w h mode q index p list list′ scratch scratch′ out out′ size n →
-    FrameWritten w h mode q index p list list′ scratch scratch′ out out′ (answerOf (argFault w h mode q (length p) (length list) (length scratch) ⨟ sendFault index w h mode q p (length out)) (frameP index w h mode q p))
-call-frame-written w h mode q index p list list′ scratch scratch′ out out′ size n x =
-    record { wrote = call-wrote _ _ _ _ size n (x .wrote); first = x .first; second = x .second }
+abbrev pub as-header : Session → List ℕ → HeaderCall
+as-header s m = record { session = s; message = m; answer = headerReading s m; promise = refl }
+
+pub header-is : (s s′ : Session) (m : List ℕ) (n : ℕ) → ReadHeaderCall s s′ m n → (n ≡ headerNumber (as-header s m .answer)) × (s′ ≡ recordAfter (as-header s m))
+header-is s s′ m n x = (x .number, x .session)
+
+module _ (s s′ : Session) (m pic : List ℕ) (y cb cr tmp : List ℤ) (pic′ : List ℕ) (y′ cb′ cr′ tmp′ : List ℤ) (tiles n : ℕ) (x : ReadFrameCall s s′ m pic y cb cr tmp pic′ y′ cb′ cr′ tmp′ tiles n) where
+  abbrev pub as-frame : FrameCall
+  as-frame = record { session = s; message = m; picture = pic; y = y; cb = cb; cr = cr; scratch = tmp; picture′ = pic′; y′ = y′; cb′ = cb′; cr′ = cr′; scratch′ = tmp′; answer = frameAnswer s m pic y cb cr tmp; promise = x .lists }
+
+  pub frame-is : (n ≡ frameReadingNumber (as-frame .answer)) × (tiles ≡ frameReadingTiles (as-frame .answer))
+  frame-is = (x .number, x .count)
+
+module _ (mode : ℕ) (s : List ℕ) (before after : List ℤ) (bits n : ℕ) (x : ReadComponentCall mode s before after bits n) where
+  abbrev pub as-read : ReadCall
+  as-read = record { mode = mode; bytes = s; list = before; list′ = after; answer = reading mode (length before) s; promise = x .list }
+
+  pub read-is : (n ≡ readingNumber (as-read .answer)) × (bits ≡ readingBits (as-read .answer))
+  read-is = (x .number, x .long)
+
+-- a writer's answer, by the number of its first fault
+answer-number : (f : ℕ) (bytes : List ℕ) → writingNumber (answerOf f bytes) ≡ f
+unfolding writingNumber
+answer-number zero bytes = refl
+answer-number (suc f) bytes = refl
+
+answer-length : (f : ℕ) (bytes : List ℕ) → writingLength (answerOf f bytes) ≡ lengthSaid f bytes
+unfolding writingLength lengthSaid
+answer-length zero bytes = refl
+answer-length (suc f) bytes = refl
+
+module _ (f : ℕ) (bytes out out′ : List ℕ) (size n : ℕ) (x : WriterCall f bytes out out′ size n) where
+  pub as-wrote : Wrote f bytes out out′ (answerOf f bytes)
+  as-wrote = record { number = answer-number f bytes; said = answer-length f bytes; left = x .left }
+
+  pub wrote-is : (n ≡ writingNumber (answerOf f bytes)) × (size ≡ writingLength (answerOf f bytes))
+  wrote-is = (x .number ∙ sym (answer-number f bytes), x .long ∙ sym (answer-length f bytes))
+
+abbrev pub as-write : (mode : ℕ) (zs : List ℤ) (out out′ : List ℕ) (size n : ℕ) → WriteComponentCall mode zs out out′ size n → WriteCall
+as-write mode zs out out′ size n x = record { mode = mode; list = zs; out = out; out′ = out′; answer = answerOf (writeFault mode zs (length out)) (bytesOf mode zs); promise = as-wrote _ _ out out′ size n x }
+
+abbrev pub as-headers : (w h mode : ℕ) (out out′ : List ℕ) (size n : ℕ) → WriteHeadersCall w h mode out out′ size n → HeadersCall
+as-headers w h mode out out′ size n x = record { width = w; height = h; mode = mode; out = out; out′ = out′; answer = answerOf (headersFault w h mode (length out)) (headersOf w h mode); promise = as-wrote _ _ out out′ size n x }
+
+module _ (w h mode : ℕ) (q : List ℕ) (index : ℕ) (p : List ℕ) (list list′ scratch scratch′ : List ℤ) (out out′ : List ℕ) (size n : ℕ) (x : WriteFrameCall w h mode q index p list list′ scratch scratch′ out out′ size n) where
+  abbrev fault : ℕ
+  fault = argFault w h mode q (length p) (length list) (length scratch) ⨟ sendFault index w h mode q p (length out)
+
+  abbrev pub as-send : SendCall
+  as-send = record { width = w; height = h; mode = mode; quant = q; index = index; pixels = p; list = list; scratch = scratch; out = out; list′ = list′; scratch′ = scratch′; out′ = out′; answer = answerOf fault (frameP index w h mode q p); promise = record { wrote = as-wrote _ _ out out′ size n (x .wrote); first = x .first; second = x .second } }
 
 -- ---- one answer
 
@@ -92,7 +134,7 @@ read-component-once mode s before a b bits bits′ n n′ x y =
 
 -- xurbalenz_write_component and xurbalenz_write_headers
 pub write-call-once :
-    (f : ℕ) (bytes out a b : List ℕ) (size size′ n n′ : ℕ) → WriteCall f bytes out a size n → WriteCall f bytes out b size′ n′ → (n ≡ n′) × (size ≡ size′) × (a ≡ b)
+    (f : ℕ) (bytes out a b : List ℕ) (size size′ n n′ : ℕ) → WriterCall f bytes out a size n → WriterCall f bytes out b size′ n′ → (n ≡ n′) × (size ≡ size′) × (a ≡ b)
 write-call-once f bytes out a b size size′ n n′ x y = (x .number ∙ sym (y .number), x .long ∙ sym (y .long), x .left ∙ sym (y .left))
 
 pub write-frame-once :
