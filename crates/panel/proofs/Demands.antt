@@ -48,7 +48,7 @@ use Rattle.frame.specs.Numbers.{untouched, cleared}
 use Rattle.own_frames.specs.OurFrames.{our-own-frames}
 use Rattle.panel.specs.Panel.{headerNumber, headerRecord, headerReading, frameReadingNumber, frameReadingTiles, frameReading, FrameRead}
 use Rattle.panel.specs.PanelLaws.{reading-number, reading-record}
-use Rattle.panel.specs.Calls.{HeaderCall, recordAfter, FrameCall, ReadCall, WriteCall, HeadersCall, SendCall, sentBy}
+use Rattle.panel.specs.Calls.{ReadHeader, recordAfter, ReadFrame, ReadComponent, WriteComponent, WriteHeaders, WriteFrame, sentBy}
 use Rattle.panel.specs.Demands.{firstFault, Untouched, Demand1, shownWord, OurCalls, OurFrame, Sent, Demand2, Demand3, PaperCases, Demands}
 
 -- ---- the header call
@@ -66,14 +66,14 @@ kept-by : (s : Session) (m : List ℕ) (f : ℕ) → f ≢ 0 → told-by s m f .
 unfolding _⇒_∣_
 kept-by s m f h = rw (ne-eqb f 0 h)
 
-header-number : (c : HeaderCall) → headerNumber (c .answer) ≡ headerFault (c .session) (c .message)
+header-number : (c : ReadHeader) → headerNumber (c .answer) ≡ headerFault (c .session) (c .message)
 unfolding headerOf
 header-number c = ap headerNumber (c .promise) ∙ reading-number (c .session) (c .message) ∙ number-by (c .session) (c .message) (headerFault (c .session) (c .message)) _ refl
 
-record-is : (c : HeaderCall) → recordAfter c ≡ headerOf (c .session) (c .message) .session
+record-is : (c : ReadHeader) → recordAfter c ≡ headerOf (c .session) (c .message) .session
 record-is c = ap (λ r. headerRecord r (c .session)) (c .promise) ∙ reading-record (c .session) (c .message)
 
-header-refused : (c : HeaderCall) → headerNumber (c .answer) ≢ 0 → recordAfter c ≡ c .session
+header-refused : (c : ReadHeader) → headerNumber (c .answer) ≢ 0 → recordAfter c ≡ c .session
 unfolding headerOf
 header-refused c h = record-is c ∙ kept-by (c .session) (c .message) (headerFault (c .session) (c .message)) (λ e. h (header-number c ∙ e))
 
@@ -84,7 +84,7 @@ unfolding frameReading frameReadingNumber frameReadingTiles frameCount _⇒_∣_
 answer-by n m true e = (rw e (sym (eqb-true n 0 e)), rw e)
 answer-by n m false e = (rw e, rw e)
 
-module _ (c : FrameCall) where
+module _ (c : ReadFrame) where
   abbrev first : ℕ
   first = callFault (c .session) (length (c .picture)) (length (c .y)) (length (c .cb)) (length (c .cr)) (length (c .scratch))
 
@@ -200,7 +200,7 @@ zeros-by zero B w before s n =
     (ended B w)))
 zeros-by (suc f) B w before s n = absurd (⊎-elim (λ (e : suc f ≡ 0). omega arith) (λ (e : Shell (suc f)). apart _ e n) s)
 
-module _ (c : ReadCall) where
+module _ (c : ReadComponent) where
   abbrev B : List Bool
   B = bitsOf (c .bytes)
 
@@ -313,7 +313,7 @@ unfolding workLeft _⨟_
 work-cleared zero g xs s l = refl
 work-cleared (suc f) g xs s l = absurd (⊎-elim (λ (e : suc f ≡ 0). omega arith) (λ (e : Early (suc f)). never (suc f) l e) s)
 
-module _ (c : SendCall) where
+module _ (c : WriteFrame) where
   abbrev arguments : ℕ
   arguments = argFault (c .width) (c .height) (c .mode) (c .quant) (length (c .pixels)) (length (c .list)) (length (c .scratch))
 
@@ -344,11 +344,11 @@ unfolding lengthSaid outLeft HW.lengthSaid HW.outLeft
 headers-wrote zero bytes out out′ r w = record { said = w .number; long = w .said; left = w .left }
 headers-wrote (suc f) bytes out out′ r w = record { said = w .number; long = w .said; left = w .left }
 
-module _ (h : HeadersCall) (one two three four : HeaderCall) (s : SendCall) (f : FrameCall) (o : OurCalls h one two three four s f) where
-  abbrev told : HeaderCall → HeaderAnswer
+module _ (h : WriteHeaders) (one two three four : ReadHeader) (s : WriteFrame) (f : ReadFrame) (o : OurCalls h one two three four s f) where
+  abbrev told : ReadHeader → HeaderAnswer
   told c = headerOf (c .session) (c .message)
 
-  told-number : (c : HeaderCall) → headerNumber (c .answer) ≡ told c .number
+  told-number : (c : ReadHeader) → headerNumber (c .answer) ≡ told c .number
   told-number c = ap headerNumber (c .promise) ∙ reading-number (c .session) (c .message)
 
   abbrev headers : List ℕ

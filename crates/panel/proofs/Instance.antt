@@ -26,7 +26,7 @@ use Rattle.encoder.specs.FrameWrite.{pixelsGood, argFault, sendFault, workLeft}
 use Rattle.encoder_back.specs.OurFrames.{Sendable}
 use Rattle.encoder_cases.specs.Grey.{grey, sixes, sendable-1, sendable-4}
 use Rattle.panel.specs.Panel.{headerReading, frameReading}
-use Rattle.panel.specs.Calls.{HeaderCall, recordAfter, FrameCall, HeadersCall, SendCall, sentBy}
+use Rattle.panel.specs.Calls.{ReadHeader, recordAfter, ReadFrame, WriteHeaders, WriteFrame, sentBy}
 use Rattle.panel.specs.Demands.{OurCalls}
 
 -- a writer that is done
@@ -47,11 +47,11 @@ abbrev zeros : List ℤ
 zeros = replicate 4096 (pos 0)
 
 -- a header call on a message
-abbrev asked : Session → List ℕ → HeaderCall
+abbrev asked : Session → List ℕ → ReadHeader
 asked s m = record { session = s; message = m; answer = headerReading s m; promise = refl }
 
 -- a frame call on a message, a picture of one word
-abbrev drawn : Session → List ℕ → FrameCall
+abbrev drawn : Session → List ℕ → ReadFrame
 drawn s m =
     let f : ℕ = callFault s 1 4096 4096 4096 4096 in
     record {
@@ -87,10 +87,10 @@ module _ (mode : ℕ) (good : modeGood mode ≡ true) (sendable : Sendable grey 
   unfolding sendFault
   sending-0 = goes-on _ _ _ (sym (sendable .none)) (passes _ _ _ _ (le-leb (length bytes) (length bytes) (omega arith)) refl)
 
-  abbrev wrote-headers : HeadersCall
+  abbrev wrote-headers : WriteHeaders
   wrote-headers = record { width = 1; height = 1; mode = mode; out = replicate 47 0; out′ = written (headersOf 1 1 mode) (replicate 47 0); answer = Done (length (headersOf 1 1 mode)); promise = wrote-0 _ _ _ headers-0 }
 
-  abbrev wrote-frame : SendCall
+  abbrev wrote-frame : WriteFrame
   wrote-frame = record {
     width = 1;
     height = 1;
@@ -111,16 +111,16 @@ module _ (mode : ℕ) (good : modeGood mode ≡ true) (sendable : Sendable grey 
   abbrev sent : List ℕ
   sent = sentBy (wrote-headers .answer) (wrote-headers .out′)
 
-  abbrev one : HeaderCall
+  abbrev one : ReadHeader
   one = asked fresh (take 12 sent)
 
-  abbrev two : HeaderCall
+  abbrev two : ReadHeader
   two = asked (recordAfter one) (take 10 (drop 12 sent))
 
-  abbrev three : HeaderCall
+  abbrev three : ReadHeader
   three = asked (recordAfter two) (take 12 (drop 22 sent))
 
-  abbrev four : HeaderCall
+  abbrev four : ReadHeader
   four = asked (recordAfter three) (take 13 (drop 34 sent))
 
   met : OurCalls wrote-headers one two three four wrote-frame (drawn (recordAfter four) (sentBy (wrote-frame .answer) (wrote-frame .out′)))
@@ -158,13 +158,13 @@ mode-4 = refl
 
 -- calls that meet it, for a mode
 pub record Met (mode : ℕ) : Type 0 where
-  pub headers : HeadersCall
-  pub one : HeaderCall
-  pub two : HeaderCall
-  pub three : HeaderCall
-  pub four : HeaderCall
-  pub frame : SendCall
-  pub glass : FrameCall
+  pub headers : WriteHeaders
+  pub one : ReadHeader
+  pub two : ReadHeader
+  pub three : ReadHeader
+  pub four : ReadHeader
+  pub frame : WriteFrame
+  pub glass : ReadFrame
   pub calls : OurCalls headers one two three four frame glass
   pub in-mode : frame .mode ≡ mode
 

@@ -16,18 +16,18 @@ use Rattle.panel.specs.declared.FrameReading.{FrameReading}
 use Rattle.panel.specs.Panel.{headerRecord, headerReading, HeadersWritten, FrameRead}
 
 -- read_header
-pub record HeaderCall : Type 0 where
+pub record ReadHeader : Type 0 where
   pub session : Session
   pub message : List ℕ
   pub answer : HeaderReading
   pub promise : answer ≡ headerReading session message
 
 -- the record after it
-abbrev pub recordAfter : HeaderCall → Session
+abbrev pub recordAfter : ReadHeader → Session
 recordAfter c = headerRecord (c .answer) (c .session)
 
 -- read_frame
-pub record FrameCall : Type 0 where
+pub record ReadFrame : Type 0 where
   pub session : Session
   pub message : List ℕ
   pub picture : List ℕ
@@ -44,7 +44,7 @@ pub record FrameCall : Type 0 where
   pub promise : FrameRead session message picture y cb cr scratch picture′ y′ cb′ cr′ scratch′ answer
 
 -- read_component
-pub record ReadCall : Type 0 where
+pub record ReadComponent : Type 0 where
   pub mode : ℕ
   pub bytes : List ℕ
   pub list : List ℤ
@@ -53,7 +53,7 @@ pub record ReadCall : Type 0 where
   pub promise : ComponentRead mode bytes list list′ answer
 
 -- write_component
-pub record WriteCall : Type 0 where
+pub record WriteComponent : Type 0 where
   pub mode : ℕ
   pub list : List ℤ
   pub out : List ℕ
@@ -62,7 +62,7 @@ pub record WriteCall : Type 0 where
   pub promise : ComponentWritten mode list out out′ answer
 
 -- write_headers
-pub record HeadersCall : Type 0 where
+pub record WriteHeaders : Type 0 where
   pub width : ℕ
   pub height : ℕ
   pub mode : ℕ
@@ -72,7 +72,7 @@ pub record HeadersCall : Type 0 where
   pub promise : HeadersWritten width height mode out out′ answer
 
 -- write_frame
-pub record SendCall : Type 0 where
+pub record WriteFrame : Type 0 where
   pub width : ℕ
   pub height : ℕ
   pub mode : ℕ
