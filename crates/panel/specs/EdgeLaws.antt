@@ -19,7 +19,7 @@ use Rattle.encoder.specs.FrameWrite.{argFault, sendFault, FrameWritten}
 use Rattle.panel.specs.declared.HeaderReading.{HeaderReading}
 use Rattle.panel.specs.declared.FrameReading.{FrameReading}
 use Rattle.panel.specs.Panel.{headerNumber, headerRecord, headerReading, frameReadingNumber, frameReadingTiles, FrameRead}
-use Rattle.panel.specs.Calls.{HeaderCall, recordAfter, FrameCall, ReadCall, WriteCall, HeadersCall, SendCall}
+use Rattle.panel.specs.Calls.{ReadHeader, recordAfter, ReadFrame, ReadComponent, WriteComponent, WriteHeaders, WriteFrame}
 use Rattle.panel.specs.Unique.{SameFrame, frame-read-once}
 use Rattle.panel.specs.Edge.{ReadHeaderCall, frameAnswer, ReadFrameCall, ReadComponentCall, WriterCall, WriteComponentCall, WriteHeadersCall, WriteFrameCall}
 
@@ -53,21 +53,21 @@ frame-write-call w h mode q index p list list′ scratch scratch′ out out′ s
 
 -- ---- and back: each is a call of specs/Calls, so the demands hold of it; the number and the value that it hands out are that call's
 
-abbrev pub as-header : Session → List ℕ → HeaderCall
+abbrev pub as-header : Session → List ℕ → ReadHeader
 as-header s m = record { session = s; message = m; answer = headerReading s m; promise = refl }
 
 pub header-is : (s s′ : Session) (m : List ℕ) (n : ℕ) → ReadHeaderCall s s′ m n → (n ≡ headerNumber (as-header s m .answer)) × (s′ ≡ recordAfter (as-header s m))
 header-is s s′ m n x = (x .number, x .session)
 
 module _ (s s′ : Session) (m pic : List ℕ) (y cb cr tmp : List ℤ) (pic′ : List ℕ) (y′ cb′ cr′ tmp′ : List ℤ) (tiles n : ℕ) (x : ReadFrameCall s s′ m pic y cb cr tmp pic′ y′ cb′ cr′ tmp′ tiles n) where
-  abbrev pub as-frame : FrameCall
+  abbrev pub as-frame : ReadFrame
   as-frame = record { session = s; message = m; picture = pic; y = y; cb = cb; cr = cr; scratch = tmp; picture′ = pic′; y′ = y′; cb′ = cb′; cr′ = cr′; scratch′ = tmp′; answer = frameAnswer s m pic y cb cr tmp; promise = x .lists }
 
   pub frame-is : (n ≡ frameReadingNumber (as-frame .answer)) × (tiles ≡ frameReadingTiles (as-frame .answer))
   frame-is = (x .number, x .count)
 
 module _ (mode : ℕ) (s : List ℕ) (before after : List ℤ) (bits n : ℕ) (x : ReadComponentCall mode s before after bits n) where
-  abbrev pub as-read : ReadCall
+  abbrev pub as-read : ReadComponent
   as-read = record { mode = mode; bytes = s; list = before; list′ = after; answer = reading mode (length before) s; promise = x .list }
 
   pub read-is : (n ≡ readingNumber (as-read .answer)) × (bits ≡ readingBits (as-read .answer))
@@ -91,17 +91,17 @@ module _ (f : ℕ) (bytes out out′ : List ℕ) (size n : ℕ) (x : WriterCall 
   pub wrote-is : (n ≡ writingNumber (answerOf f bytes)) × (size ≡ writingLength (answerOf f bytes))
   wrote-is = (x .number ∙ sym (answer-number f bytes), x .long ∙ sym (answer-length f bytes))
 
-abbrev pub as-write : (mode : ℕ) (zs : List ℤ) (out out′ : List ℕ) (size n : ℕ) → WriteComponentCall mode zs out out′ size n → WriteCall
+abbrev pub as-write : (mode : ℕ) (zs : List ℤ) (out out′ : List ℕ) (size n : ℕ) → WriteComponentCall mode zs out out′ size n → WriteComponent
 as-write mode zs out out′ size n x = record { mode = mode; list = zs; out = out; out′ = out′; answer = answerOf (writeFault mode zs (length out)) (bytesOf mode zs); promise = as-wrote _ _ out out′ size n x }
 
-abbrev pub as-headers : (w h mode : ℕ) (out out′ : List ℕ) (size n : ℕ) → WriteHeadersCall w h mode out out′ size n → HeadersCall
+abbrev pub as-headers : (w h mode : ℕ) (out out′ : List ℕ) (size n : ℕ) → WriteHeadersCall w h mode out out′ size n → WriteHeaders
 as-headers w h mode out out′ size n x = record { width = w; height = h; mode = mode; out = out; out′ = out′; answer = answerOf (headersFault w h mode (length out)) (headersOf w h mode); promise = as-wrote _ _ out out′ size n x }
 
 module _ (w h mode : ℕ) (q : List ℕ) (index : ℕ) (p : List ℕ) (list list′ scratch scratch′ : List ℤ) (out out′ : List ℕ) (size n : ℕ) (x : WriteFrameCall w h mode q index p list list′ scratch scratch′ out out′ size n) where
   abbrev fault : ℕ
   fault = argFault w h mode q (length p) (length list) (length scratch) ⨟ sendFault index w h mode q p (length out)
 
-  abbrev pub as-send : SendCall
+  abbrev pub as-send : WriteFrame
   as-send = record { width = w; height = h; mode = mode; quant = q; index = index; pixels = p; list = list; scratch = scratch; out = out; list′ = list′; scratch′ = scratch′; out′ = out′; answer = answerOf fault (frameP index w h mode q p); promise = record { wrote = as-wrote _ _ out out′ size n (x .wrote); first = x .first; second = x .second } }
 
 -- ---- one answer
