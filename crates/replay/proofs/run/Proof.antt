@@ -5,6 +5,7 @@ use Rattle.replay.proofs.run.Statement.{statement}
 use Rattle.replay.proofs.run.Tie as tie
 use Rattle.replay.proofs.run.Reads as reads
 use Rattle.replay.proofs.run.Lts as lts
+use Rattle.recording.proofs.start.Reads as start-reads
 use Rattle.replay.proofs.fresh.Reads as fresh-reads
 use Rattle.replay.proofs.step.Reads as step-reads
 
@@ -14,75 +15,79 @@ Inv-loop input₀ message₀ out₀ picture₀ list₀ d₀ turns₀ input messa
 abbrev μ-loop : tie.MeasureT-loop
 μ-loop input₀ message₀ out₀ picture₀ list₀ d₀ turns₀ input message out picture list d turns = turns
 
--- src/main.rt:721:9
+-- src/main.rt:303:23
+start-requires : tie.Need-start-requires Inv-loop μ-loop
+start-requires c κs = search needs
+
+-- src/main.rt:303:9
 fresh-requires : tie.Need-fresh-requires Inv-loop μ-loop
 fresh-requires c κs = search needs
 
--- src/main.rt:727:5
+-- src/main.rt:305:5
 loop-holds : tie.Need-loop-holds Inv-loop μ-loop
 loop-holds c = (refl, refl, refl, refl, refl)
 
--- src/main.rt:728:9
+-- src/main.rt:306:9
 step-requires : tie.Need-step-requires Inv-loop μ-loop
 step-requires c κs = search needs
 
--- src/main.rt:729:9
+-- src/main.rt:307:9
 sub-turns : tie.Need-sub-turns Inv-loop μ-loop
 sub-turns c = search needs
 
--- src/main.rt:727:5
+-- src/main.rt:305:5
 loop-less : tie.Need-loop-less Inv-loop μ-loop
 loop-less c = search needs
 
--- src/main.rt:727:5
+-- src/main.rt:305:5
 loop-again : tie.Need-loop-again Inv-loop μ-loop
 loop-again c = (search needs, search needs, search needs, search needs, search needs)
 
--- src/main.rt:714:1
+-- src/main.rt:296:1
 same-length : tie.Need-same-length Inv-loop μ-loop
 same-length c = search needs
 
--- src/main.rt:714:1
+-- src/main.rt:296:1
 same-length-2 : tie.Need-same-length-2 Inv-loop μ-loop
 same-length-2 c = search needs
 
--- src/main.rt:714:1
+-- src/main.rt:296:1
 same-length-3 : tie.Need-same-length-3 Inv-loop μ-loop
 same-length-3 c = search needs
 
--- src/main.rt:714:1
+-- src/main.rt:296:1
 same-length-4 : tie.Need-same-length-4 Inv-loop μ-loop
 same-length-4 c = search needs
 
--- src/main.rt:714:1
+-- src/main.rt:296:1
 same-length-5 : tie.Need-same-length-5 Inv-loop μ-loop
 same-length-5 c = search needs
 
--- src/main.rt:714:1
+-- src/main.rt:296:1
 returns : tie.Need-returns Inv-loop μ-loop
 returns c = search needs
 
--- src/main.rt:714:1
+-- src/main.rt:296:1
 same-length-6 : tie.Need-same-length-6 Inv-loop μ-loop
 same-length-6 c = search needs
 
--- src/main.rt:714:1
+-- src/main.rt:296:1
 same-length-7 : tie.Need-same-length-7 Inv-loop μ-loop
 same-length-7 c = search needs
 
--- src/main.rt:714:1
+-- src/main.rt:296:1
 same-length-8 : tie.Need-same-length-8 Inv-loop μ-loop
 same-length-8 c = search needs
 
--- src/main.rt:714:1
+-- src/main.rt:296:1
 same-length-9 : tie.Need-same-length-9 Inv-loop μ-loop
 same-length-9 c = search needs
 
--- src/main.rt:714:1
+-- src/main.rt:296:1
 same-length-10 : tie.Need-same-length-10 Inv-loop μ-loop
 same-length-10 c = search needs
 
--- src/main.rt:714:1
+-- src/main.rt:296:1
 returns-2 : tie.Need-returns-2 Inv-loop μ-loop
 returns-2 c = search needs
 
@@ -92,6 +97,7 @@ run-spec =
     (tie.spec
     Inv-loop
     μ-loop
+    start-requires
     fresh-requires
     loop-holds
     step-requires

@@ -1,0 +1,21 @@
+-- Lent memory as it is filled before a call, and judged after.
+use Prim.Native.Nat.{ℕ, _+_, _*_, _%_, _<_}
+use mathlib.Core.Path.{_≡_}
+use mathlib.Core.Bool.{Bool, true, false}
+use mathlib.Core.List.{List}
+use lib.IntN.{ℤ}
+use lib.ListN.{length, getD, replicate}
+
+-- the word at a place of a picture before a call
+unfoldable pub pictureWord : ℕ → ℕ → ℕ
+pictureWord seed i = (i % 65536 * 25173 + seed % 65536 * 13849 + 1) % 65536
+
+-- a picture of the same length that has that word at each place
+pub record Pictured (seed : ℕ) (before after : List ℕ) : Type 0 where
+  pub long : length after ≡ length before
+  pub each : (i : ℕ) → i < length before → getD after i 0 ≡ pictureWord seed i
+
+-- the answer to: is every number v?
+pub record AllAre (v : ℤ) (l : List ℤ) (r : Bool) : Type 0 where
+  pub all : r ≡ true → l ≡ replicate (length l) v
+  pub some : r ≡ false → l ≡ replicate (length l) v → ⊥

@@ -1,0 +1,4 @@
+pub mod Hash
+pub mod HashLaws
+pub mod Filled
+pub mod FilledLaws

@@ -1,0 +1,136 @@
+// The calls of a recording on the public functions of `panel`, each with its line of text: 01's number, its values, the record after it, and a hash of the
+// lent memory. Lent lists hold 7 before a call, and lent output A5. What 01 says of lent memory ("untouched", "only zeros") shows in the line.
+use session::Session;
+
+// ---- the lines
+
+// The record, and no blank after it.
+fn put_record(text: &mut [u8], n: usize, s: Session) -> usize {
+    let a = report::put_number(text, n, s.headers as usize);
+    let b = report::put_number(text, a, s.width as usize);
+    let c = report::put_number(text, b, s.height as usize);
+    report::put_decimal(text, c, s.mode as u64)
+}
+
+fn say_hash(number: u8, value: usize, h: u64) {
+    let mut space = [0u8; 128];
+    let text: &mut [u8] = &mut space;
+    let a = report::put_number(text, 0, number as usize);
+    let b = report::put_number(text, a, value);
+    let k = report::put_hash(text, b, h);
+    report::print(text, k);
+}
+
+fn say_header(number: u8, s: Session) {
+    let mut space = [0u8; 128];
+    let text: &mut [u8] = &mut space;
+    let a = report::put_number(text, 0, number as usize);
+    let k = put_record(text, a, s);
+    report::print(text, k);
+}
+
+// ---- the calls
+
+// One header call: its number is said with the record after it.
+pub fn header_call(s: Session, message: &[u8]) -> Session {
+    let h = panel::read_header(s, message);
+    let after = panel::header_record(h, s);
+    say_header(panel::header_number(h), after);
+    after
+}
+
+// One call of the component reader on a list lent.
+pub fn component_call(mode: u8, code: &[u8], list: &mut [i32]) {
+    lent::fill_list(list, 7);
+    let r = panel::read_component(mode, code, list);
+    say_hash(
+        code_read::reading_number(r),
+        code_read::reading_bits(r),
+        lent::hash_list(list),
+    );
+}
+
+// One call of the component writer; the bytes that it wrote.
+pub fn writer_call(mode: u8, list: &[i32], out: &mut [u8]) -> usize {
+    lent::fill_bytes(out, 0xA5);
+    let w = panel::write_component(mode, list, out);
+    let n = code_write::writing_length(w);
+    say_hash(code_write::writing_number(w), n, lent::hash_bytes(out));
+    n
+}
+
+// One call of the header writer; the bytes that it wrote.
+pub fn headers_call(width: usize, height: usize, mode: u8, out: &mut [u8]) -> usize {
+    lent::fill_bytes(out, 0xA5);
+    let w = panel::write_headers(width, height, mode, out);
+    let n = code_write::writing_length(w);
+    say_hash(code_write::writing_number(w), n, lent::hash_bytes(out));
+    n
+}
+
+// A header call: 01's number, and the record after it.
+pub struct Heard {
+    pub number: u8,
+    pub session: Session,
+}
+
+fn read_one(s: Session, message: &[u8]) -> Heard {
+    let h = panel::read_header(s, message);
+    let after = panel::header_record(h, s);
+    Heard {
+        number: panel::header_number(h),
+        session: after,
+    }
+}
+
+// Four header calls: 01's numbers, and the record after the last.
+pub struct Fourfold {
+    pub one: u8,
+    pub two: u8,
+    pub three: u8,
+    pub four: u8,
+    pub session: Session,
+}
+
+// Four headers of our writer, each to a header call; 1 (cut) where they are not all there.
+pub fn headers_back(s: Session, out: &[u8]) -> Fourfold {
+    if out.len() < 47 {
+        return Fourfold {
+            one: 1,
+            two: 1,
+            three: 1,
+            four: 1,
+            session: s,
+        };
+    }
+    let one = read_one(s, &out[0..12]);
+    let two = read_one(one.session, &out[12..22]);
+    let three = read_one(two.session, &out[22..34]);
+    let four = read_one(three.session, &out[34..47]);
+    let after = four.session;
+    Fourfold {
+        one: one.number,
+        two: two.number,
+        three: three.number,
+        four: four.number,
+        session: after,
+    }
+}
+
+fn say_fourfold(f: Fourfold) {
+    let mut space = [0u8; 128];
+    let text: &mut [u8] = &mut space;
+    let a = report::put_number(text, 0, f.one as usize);
+    let b = report::put_number(text, a, f.two as usize);
+    let c = report::put_number(text, b, f.three as usize);
+    let e = report::put_number(text, c, f.four as usize);
+    let k = put_record(text, e, f.session);
+    report::print(text, k);
+}
+
+// The same with its line; the record after the last.
+pub fn headers_back_call(s: Session, out: &[u8]) -> Session {
+    let f = headers_back(s, out);
+    say_fourfold(f);
+    f.session
+}
