@@ -1,0 +1,106 @@
+/*
+ * six_calls: every call of xurbalenz.h from C (and, the same file, from C++): arguments in their order, the value behind the last pointer, the
+ * constants. The Rust tests look at much more; this one is here because a header that is wrong for C is not seen from Rust.
+ */
+#include "xurbalenz.h"
+#include "xurbalenz.h" /* twice: it is guarded */
+
+#include <stdio.h>
+#include <string.h>
+
+static int checks, faults;
+
+static void check(int good, int line)
+{
+    checks++;
+    if (!good) {
+        faults++;
+        printf("six_calls: line %d\n", line);
+    }
+}
+
+#define CHECK(good) check(good, __LINE__)
+
+static XurbalenzSession session;
+static uint8_t out[40000], pixels[3 * 70 * 40];
+static uint16_t picture[70 * 40 + 1];
+static int32_t y[XURBALENZ_LIST], cb[XURBALENZ_LIST], cr[XURBALENZ_LIST], scratch[XURBALENZ_LIST];
+
+static void constants(void)
+{
+    static const char *const words[14] = {"done",  "cut",   "buffer", "kind",    "length", "field", "too big",
+                                          "quant", "place", "range",  "overrun", "tail",   "order", "room"};
+    static const int numbers[14] = {XURBALENZ_DONE,  XURBALENZ_CUT,   XURBALENZ_BUFFER, XURBALENZ_KIND,    XURBALENZ_LENGTH, XURBALENZ_FIELD, XURBALENZ_TOO_BIG,
+                                    XURBALENZ_QUANT, XURBALENZ_PLACE, XURBALENZ_RANGE,  XURBALENZ_OVERRUN, XURBALENZ_TAIL,   XURBALENZ_ORDER, XURBALENZ_ROOM};
+    int i;
+    for (i = 0; i < 14; i++) CHECK(numbers[i] == i && strcmp(xurbalenz_word((uint8_t)i), words[i]) == 0);
+    CHECK(strcmp(xurbalenz_word(14), "unknown") == 0 && strcmp(xurbalenz_word(255), "unknown") == 0);
+    CHECK(sizeof session == 8 && offsetof(XurbalenzSession, width) == 2 && offsetof(XurbalenzSession, height) == 4 &&
+          offsetof(XurbalenzSession, mode) == 6);
+    CHECK(XURBALENZ_TILES(70, 40) == 2 && XURBALENZ_TILES(64, 64) == 1 && XURBALENZ_TILES(4096, 2048) == 2048);
+    CHECK(XURBALENZ_FRAME_ROOM(1, 1) == 72 + 19 + 3 * 65535);
+}
+
+static void components(uint8_t mode)
+{
+    size_t bits = 9, size = 9;
+    int i;
+    memset(y, 0, sizeof y);
+    y[0] = -1;
+    CHECK(xurbalenz_write_component(mode, y, XURBALENZ_LIST, out, 4, &size) == XURBALENZ_DONE && size == 4);
+    CHECK(out[0] == 0xA0 && out[1] == 0 && out[2] == 0 && out[3] == 0);
+    CHECK(xurbalenz_write_component(mode, y, XURBALENZ_LIST, out, 3, &size) == XURBALENZ_ROOM && size == 0);
+    for (i = 0; i < XURBALENZ_LIST; i++) cb[i] = 7;
+    CHECK(xurbalenz_read_component(mode, out, 4, cb, XURBALENZ_LIST - 1, &bits) == XURBALENZ_BUFFER && bits == 0 && cb[0] == 7);
+    CHECK(xurbalenz_read_component(mode, out, 4, cb, XURBALENZ_LIST, &bits) == XURBALENZ_DONE && bits == (mode == XURBALENZ_RLGR1 ? 28u : 27u));
+    CHECK(memcmp(y, cb, sizeof y) == 0);
+    CHECK(xurbalenz_read_component(mode, out, 0, cb, XURBALENZ_LIST, &bits) == XURBALENZ_CUT && bits == 0 && cb[0] == 0);
+    CHECK(xurbalenz_read_component(0, out, 4, cb, XURBALENZ_LIST, &bits) == XURBALENZ_FIELD);
+}
+
+static void frames(uint8_t mode)
+{
+    static const uint8_t quant[10] = XURBALENZ_DEFAULT_QUANT;
+    static const size_t blocks[4] = {12, 10, 12, 13};
+    size_t size = 9, tiles = 9, at = 0, i;
+    CHECK(xurbalenz_write_headers(70, 40, mode, out, XURBALENZ_HEADERS_SIZE - 1, &size) == XURBALENZ_ROOM && size == 0);
+    CHECK(xurbalenz_write_headers(70, 40, mode, out, sizeof out, &size) == XURBALENZ_DONE && size == XURBALENZ_HEADERS_SIZE);
+    CHECK(xurbalenz_read_header(&session, out, 11) == XURBALENZ_CUT);
+    CHECK(xurbalenz_read_header(&session, out + 22, 12) == XURBALENZ_ORDER);
+    for (i = 0; i < 4; i++) {
+        CHECK(xurbalenz_read_header(&session, out + at, blocks[i]) == XURBALENZ_DONE && session.headers == i + 1);
+        at += blocks[i];
+    }
+    CHECK(session.width == 70 && session.height == 40 && session.mode == mode);
+    memset(pixels, 255, sizeof pixels); /* white */
+    memset(picture, 0, sizeof picture);
+    CHECK(xurbalenz_write_frame(70, 40, mode, quant, 5, pixels, sizeof pixels, y, XURBALENZ_LIST, scratch, XURBALENZ_LIST, out, 71, &size) ==
+              XURBALENZ_ROOM &&
+          size == 0);
+    CHECK(xurbalenz_write_frame(70, 40, mode, quant, 5, pixels, sizeof pixels, y, XURBALENZ_LIST, scratch, XURBALENZ_LIST, out, sizeof out,
+                                &size) == XURBALENZ_DONE &&
+          size > 72);
+    CHECK(out[8] == 5);
+    CHECK(xurbalenz_read_frame(&session, out, size - 1, picture, 70 * 40, y, XURBALENZ_LIST, cb, XURBALENZ_LIST, cr, XURBALENZ_LIST, scratch,
+                               XURBALENZ_LIST, &tiles) == XURBALENZ_CUT &&
+          tiles == 0 && picture[0] == 0);
+    CHECK(xurbalenz_read_frame(&session, out, size, picture, 70 * 40 - 1, y, XURBALENZ_LIST, cb, XURBALENZ_LIST, cr, XURBALENZ_LIST, scratch,
+                               XURBALENZ_LIST, &tiles) == XURBALENZ_BUFFER);
+    CHECK(xurbalenz_read_frame(&session, out, size, picture, 70 * 40, y, XURBALENZ_LIST, cb, XURBALENZ_LIST, cr, XURBALENZ_LIST, scratch,
+                               XURBALENZ_LIST, &tiles) == XURBALENZ_DONE &&
+          tiles == 2);
+    for (i = 0; i < 70 * 40 && picture[i] == 0xFFFF; i++) {
+    }
+    CHECK(i == 70 * 40 && picture[i] == 0); /* all white, and the word behind the channel as it was */
+}
+
+int main(void)
+{
+    constants();
+    components(XURBALENZ_RLGR1);
+    components(XURBALENZ_RLGR3);
+    frames(XURBALENZ_RLGR1);
+    frames(XURBALENZ_RLGR3);
+    printf("six_calls: %d checks, %d faults\n", checks, faults);
+    return faults != 0;
+}

@@ -1,0 +1,189 @@
+/*
+ * xurbalenz.h - RemoteFX (MS-RDPRFX) pictures for the door glass: six calls, proved for every input.
+ *
+ * Link target/staticlib/libpanel.a (made by `rt staticlib panel`, x86-64). Its functions read four header blocks and whole frames into a
+ * lent picture of 16-bit words, and write headers, components and frames.
+ *
+ * WHAT YOU CAN RELY ON
+ *  - Every call takes any bytes whatever and comes back with a number: 0 done, 1 to 13 refused (below). Nothing has to be checked first.
+ *  - A frame is drawn whole or not at all. After a refusal the picture and the record are what they were.
+ *  - The number is that of the first fault, in the order given at each call.
+ *  - What each lent region holds afterwards is said at each call, for every answer. The value behind the last pointer (tiles, bits, size) is
+ *    always written.
+ *  - Same memory in, same answer and same memory out. No state is kept between calls but what you hold: the record and the picture.
+ *
+ * WHAT YOU LEND
+ *  - A slice is a pointer and a length in elements (not bytes): uint8_t, uint16_t or int32_t, each aligned as its type asks.
+ *  - A pointer is never null, also where the length is 0: pass the address of any object of that type then.
+ *  - The whole slice must be there to read, and to write where the pointer is not const. Regions lent to one call must not overlap, and
+ *    nobody else may write them (or read those that the call writes) during the call.
+ *  - THESE THREE ARE NOT CHECKED, nor can they be: a wrong pointer or a wrong length is as bad here as in memcpy.
+ *  - What work lists, output and component lists hold before the call does not matter; fresh memory need not be cleared.
+ *
+ * THREADS, MEMORY, TIME
+ *  - No global state, no allocation, no input or output, no locks: calls on different memory may run at the same time. One record, picture
+ *    or list belongs to one call at a time.
+ *  - Stack: a few KB, see docs/BENCH.md.
+ *  - A frame is read twice, once to judge it and once to draw it, so a bad last tile costs the time of judging those before it.
+ *
+ * The numbers, and the rules behind every sentence here, are the project's requirements; docs/PROMISES.md names the theorem for each.
+ */
+#ifndef XURBALENZ_H
+#define XURBALENZ_H
+
+#include <stddef.h>
+#include <stdint.h>
+
+#ifdef __cplusplus
+extern "C" {
+#endif
+
+/* ---- the numbers the fitter sees ---- */
+
+#define XURBALENZ_DONE 0
+#define XURBALENZ_CUT 1      /* a block, or the code being read, needs more than is there */
+#define XURBALENZ_BUFFER 2   /* a list is not 4,096 numbers, or a picture is too short, or pixels are not 3 x width x height bytes */
+#define XURBALENZ_KIND 3     /* a block type that the call does not take, or not the one due in a frame */
+#define XURBALENZ_LENGTH 4   /* blockLen or tilesDataSize disagrees with the layout, or bytes follow the last block */
+#define XURBALENZ_FIELD 5    /* a fixed field differs, or a size or mode is not allowed */
+#define XURBALENZ_TOO_BIG 6  /* over 256 rectangles, 2,048 tiles, or 65,535 bytes in a component */
+#define XURBALENZ_QUANT 7    /* a quantiser outside 6 to 15, or an index that is not below the number of sets */
+#define XURBALENZ_PLACE 8    /* a tile that starts outside the channel */
+#define XURBALENZ_RANGE 9    /* a coefficient, LL3 sum or scaled value outside -32,767 to 32,767 */
+#define XURBALENZ_OVERRUN 10 /* a remainder run with no place left for its value, or a second value not zero with no place */
+#define XURBALENZ_TAIL 11    /* after the 4,096th value 8 or more bits remain, or one of them is 1 */
+#define XURBALENZ_ORDER 12   /* a known header that is not due, or a frame before all four headers */
+#define XURBALENZ_ROOM 13    /* the lent output is shorter than what is to be written */
+
+/* The word for a number, for a log line. A number that no call gives is "unknown". */
+static inline const char *xurbalenz_word(uint8_t number)
+{
+    static const char *const words[] = {"done",  "cut",   "buffer", "kind",    "length", "field", "too big",
+                                        "quant", "place", "range",  "overrun", "tail",   "order", "room"};
+    return number < sizeof words / sizeof words[0] ? words[number] : "unknown";
+}
+
+/* ---- sizes and settings ---- */
+
+#define XURBALENZ_RLGR1 1 /* the two modes of the component code (et in the context header) */
+#define XURBALENZ_RLGR3 4
+
+#define XURBALENZ_LIST 4096            /* numbers in every component list and work list: a tile of 64 x 64 */
+#define XURBALENZ_MAX_WIDTH 4096       /* a channel is 1 to 4,096 wide */
+#define XURBALENZ_MAX_HEIGHT 2048      /* and 1 to 2,048 high */
+#define XURBALENZ_HEADERS_SIZE 47      /* the four header blocks: 12, 10, 12 and 13 bytes */
+#define XURBALENZ_MAX_COMPONENT 65535u /* bytes in a component's code: an output of this size always has room for one */
+
+/* The ten quantisers that servers commonly send, in a set's own order: LL3, LH3, HL3, HH3, LH2, HL2, HH2, LH1, HL1, HH1. Each value is
+   6 (finest) to 15 (coarsest). Use: const uint8_t quant[10] = XURBALENZ_DEFAULT_QUANT; */
+#define XURBALENZ_DEFAULT_QUANT {6, 6, 6, 6, 7, 7, 8, 8, 8, 9}
+
+/* Tiles of a channel, and an output size with which xurbalenz_write_frame never answers 13: 72 bytes around the tiles, and for each tile a
+   head of 19 and three codes of at most 65,535. Real frames are far smaller; on 13 nothing is lost, so start small and try again. */
+#define XURBALENZ_TILES(width, height) ((((size_t)(width) + 63) / 64) * (((size_t)(height) + 63) / 64))
+#define XURBALENZ_FRAME_ROOM(width, height) (72 + XURBALENZ_TILES(width, height) * (19 + 3 * (size_t)65535))
+
+/* ---- the session record ---- */
+
+/* How many headers are in (0 to 4), the channel's width and height, and the mode. All 0 when fresh: XurbalenzSession s = {0, 0, 0, 0};
+   Only xurbalenz_read_header changes it. A record that no calls could have made (a stray write, a stale copy) is answered 12 where a record
+   is judged, and a good sync still starts it over. */
+typedef struct {
+    uint8_t headers;
+    uint16_t width;
+    uint16_t height;
+    uint8_t mode;
+} XurbalenzSession;
+
+#if defined(__cplusplus) && __cplusplus >= 201103L
+static_assert(sizeof(XurbalenzSession) == 8, "the archive lays the record out in 8 bytes");
+#elif defined(__STDC_VERSION__) && __STDC_VERSION__ >= 201112L
+_Static_assert(sizeof(XurbalenzSession) == 8, "the archive lays the record out in 8 bytes");
+#endif
+
+/* ---- reading ---- */
+
+/*
+ * Reads one header block; the message is that block and nothing else. They are due in this order: sync (CCC0), versions (CCC1), channels
+ * (CCC2), context (CCC3). A good sync is always due and starts the session over: record 1, 0, 0, 0; keep the picture.
+ *
+ * Judged in this order: head of 6 bytes there (1), type CCC0 to CCC3 (3), due (12), blockLen (4), whole block there (1), fields in wire
+ * order (5), bytes after the block (4).
+ *
+ * Afterwards: done - the record has the header in it (width and height with channels, mode with the context); refused - the record is what
+ * it was.
+ */
+uint8_t xurbalenz_read_header(XurbalenzSession *s, const uint8_t *message, size_t message_len);
+
+/*
+ * Reads one frame and draws it; the message is begin (CCC4), region (CCC6), tileset (CCC7), end (CCC5) and nothing else.
+ *
+ * picture: 16-bit words, red 5 bits (high), green 6, blue 5, row by row, width words a row; at least width x height words. Lend the same
+ * picture from frame to frame. y, cb, cr, scratch: work lists of 4,096 numbers each.
+ *
+ * Judged in this order: a record with all four headers (12); the four lists and the picture's length (2); then the blocks in wire order,
+ * each: head there (1), kind due (3), blockLen against its fixed or least size (4), whole block there (1), fixed fields (5), counts (6),
+ * blockLen against counts (4), contents. Contents of the tileset: the quantisers (7), then tile by tile its head, kind, size and presence
+ * within the tileset's data (1, 3, 4, 1), lengths (4), quantiser indices (7), place (8), then Y, Cb, Cr in turn: the code (1, 9, 10, 11),
+ * then LL3 sums and scaling (9); data left over after the last tile is 4. Bytes after the frame end are 4.
+ *
+ * Afterwards: done - a word of the picture has changed exactly if it lies in the channel, in some rectangle of the region and in some
+ * listed tile (the last such tile decides); *tiles is how many tiles the frame lists; refused - the picture is what it was, *tiles is 0.
+ * Words past width x height never change. The record is left equal in every case (it is not const only because all calls take it alike).
+ * Work lists: untouched on 12 and 2; only zeros after every other answer, done too.
+ */
+uint8_t xurbalenz_read_frame(XurbalenzSession *s, const uint8_t *message, size_t message_len, uint16_t *picture, size_t picture_len, int32_t *y,
+                             size_t y_len, int32_t *cb, size_t cb_len, int32_t *cr, size_t cr_len, int32_t *scratch, size_t scratch_len,
+                             size_t *tiles);
+
+/*
+ * Reads one component's code into a list of 4,096 numbers, quantised, in the order of the code: HL1, LH1, HH1, HL2, LH2, HH2, HL3, LH3, HH3,
+ * LL3.
+ *
+ * Judged in this order: mode (5), list_len (2), code_len over 65,535 (6), then the code; each element of it is read in full (1) before it is
+ * judged, 9 before 10; last what follows the 4,096th value (11).
+ *
+ * Afterwards: done - the list has the values; 5, 2, 6 - the list is untouched; 1, 9, 10, 11 - the list holds only zeros. *bits is the
+ * code's length in bits on 0 and on 11 (there: up to the 4,096th value), else 0.
+ */
+uint8_t xurbalenz_read_component(uint8_t mode, const uint8_t *code, size_t code_len, int32_t *list, size_t list_len, size_t *bits);
+
+/* ---- writing ---- */
+
+/* Every writer measures before it writes. Refused: out is untouched and *size is 0. Done: *size is the length in bytes, out[0 .. *size) holds
+   what was written, and the bytes past it are untouched. */
+
+/*
+ * Writes a component's code: the one code that this list has in this mode.
+ * Judged in this order: mode (5), list_len not 4,096 (2), a number outside -32,767 to 32,767 (9), a code over 65,535 bytes (6), out (13).
+ */
+uint8_t xurbalenz_write_component(uint8_t mode, const int32_t *list, size_t list_len, uint8_t *out, size_t out_len, size_t *size);
+
+/*
+ * Writes the four header blocks one behind the other: 12, 10, 12 and 13 bytes. Hand them to four header calls.
+ * Judged in this order: width 1 to 4,096, height 1 to 2,048, mode (5); fewer than 47 bytes of out (13).
+ */
+uint8_t xurbalenz_write_headers(size_t width, size_t height, uint8_t mode, uint8_t *out, size_t out_len, size_t *size);
+
+/*
+ * Writes one frame over the whole channel: all tiles row by row, one rectangle, one quantiser set for Y, Cb and Cr. The last column and row
+ * are repeated into tiles that hang over the edge.
+ *
+ * quant: ten values in the order of XURBALENZ_DEFAULT_QUANT. index: goes into the frame as frameIdx, any value. pixels: three bytes a pixel,
+ * R, G, B, row by row, exactly 3 x width x height. list, scratch: work lists of 4,096 numbers.
+ *
+ * Judged in this order: size or mode (5), a quantiser outside 6 to 15 (7), pixels_len, list_len or scratch_len (2), then component by
+ * component a value that a reader would refuse (9) and a code over 65,535 bytes (6), then out (13).
+ *
+ * Afterwards, besides what holds for every writer: list and scratch are untouched on 5, 7 and 2, and hold only zeros after every other
+ * answer, done too.
+ */
+uint8_t xurbalenz_write_frame(size_t width, size_t height, uint8_t mode, const uint8_t quant[10], uint32_t index, const uint8_t *pixels,
+                              size_t pixels_len, int32_t *list, size_t list_len, int32_t *scratch, size_t scratch_len, uint8_t *out,
+                              size_t out_len, size_t *size);
+
+#ifdef __cplusplus
+}
+#endif
+
+#endif

@@ -1,0 +1,154 @@
+//! The six calls as the archive has them, with slices for pointers and lengths: the answer is the number (0 done, 1 to 13 refused) and the
+//! value that goes with it.
+//!
+//! Everything here is safe. A Rust slice has what the archive asks of a pointer (never null, aligned, all there, no overlap with what is
+//! lent `&mut`), and for any such memory every call is proved to answer. The functions at the crate's root give the same answers as types.
+//!
+//! ```
+//! let mut list = [7; 4096];
+//! assert_eq!(xurbalenz::edge::read_component(1, &[0, 0, 0], &mut list), (0, 21));
+//! assert_eq!(xurbalenz::edge::read_component(2, &[0, 0, 0], &mut list), (5, 0)); // no such mode
+//! ```
+
+use crate::Session;
+
+/// The archive's own functions, as in `bindings/c/xurbalenz.h`.
+mod archive {
+    use crate::Session;
+
+    extern "C" {
+        pub fn xurbalenz_read_header(s: *mut Session, message: *const u8, message_len: usize) -> u8;
+        pub fn xurbalenz_read_frame(
+            s: *mut Session,
+            message: *const u8,
+            message_len: usize,
+            picture: *mut u16,
+            picture_len: usize,
+            y: *mut i32,
+            y_len: usize,
+            cb: *mut i32,
+            cb_len: usize,
+            cr: *mut i32,
+            cr_len: usize,
+            scratch: *mut i32,
+            scratch_len: usize,
+            tiles: *mut usize,
+        ) -> u8;
+        pub fn xurbalenz_read_component(mode: u8, code: *const u8, code_len: usize, list: *mut i32, list_len: usize, bits: *mut usize) -> u8;
+        pub fn xurbalenz_write_component(mode: u8, list: *const i32, list_len: usize, out: *mut u8, out_len: usize, size: *mut usize) -> u8;
+        pub fn xurbalenz_write_headers(width: usize, height: usize, mode: u8, out: *mut u8, out_len: usize, size: *mut usize) -> u8;
+        pub fn xurbalenz_write_frame(
+            width: usize,
+            height: usize,
+            mode: u8,
+            quant: *const [u8; 10],
+            index: u32,
+            pixels: *const u8,
+            pixels_len: usize,
+            list: *mut i32,
+            list_len: usize,
+            scratch: *mut i32,
+            scratch_len: usize,
+            out: *mut u8,
+            out_len: usize,
+            size: *mut usize,
+        ) -> u8;
+    }
+}
+
+// SAFETY, for every call below: each pointer and length come from one Rust reference or slice, so they are not null, aligned, valid for that
+// many elements, and what is `&mut` overlaps nothing else. The archive has no state of its own and keeps no pointer. Its functions have no
+// precondition and are proved to touch only what is lent.
+
+/// Reads one header block: the number. Refused, the record is what it was.
+pub fn read_header(session: &mut Session, message: &[u8]) -> u8 {
+    unsafe { archive::xurbalenz_read_header(session, message.as_ptr(), message.len()) }
+}
+
+/// Reads one frame and draws it: the number, and how many tiles it lists (0 when refused). See [`crate::read_frame`].
+pub fn read_frame(
+    session: &mut Session,
+    message: &[u8],
+    picture: &mut [u16],
+    y: &mut [i32],
+    cb: &mut [i32],
+    cr: &mut [i32],
+    scratch: &mut [i32],
+) -> (u8, usize) {
+    let mut tiles = 0;
+    let number = unsafe {
+        archive::xurbalenz_read_frame(
+            session,
+            message.as_ptr(),
+            message.len(),
+            picture.as_mut_ptr(),
+            picture.len(),
+            y.as_mut_ptr(),
+            y.len(),
+            cb.as_mut_ptr(),
+            cb.len(),
+            cr.as_mut_ptr(),
+            cr.len(),
+            scratch.as_mut_ptr(),
+            scratch.len(),
+            &mut tiles,
+        )
+    };
+    (number, tiles)
+}
+
+/// Reads one component's code: the number, and the code's length in bits (on 0 and 11, else 0). See [`crate::read_component`].
+pub fn read_component(mode: u8, code: &[u8], list: &mut [i32]) -> (u8, usize) {
+    let mut bits = 0;
+    let number = unsafe { archive::xurbalenz_read_component(mode, code.as_ptr(), code.len(), list.as_mut_ptr(), list.len(), &mut bits) };
+    (number, bits)
+}
+
+/// Writes one component's code: the number, and the bytes written (0 when refused). See [`crate::write_component_into`].
+pub fn write_component(mode: u8, list: &[i32], out: &mut [u8]) -> (u8, usize) {
+    let mut size = 0;
+    let number = unsafe { archive::xurbalenz_write_component(mode, list.as_ptr(), list.len(), out.as_mut_ptr(), out.len(), &mut size) };
+    (number, size)
+}
+
+/// Writes the four header blocks: the number, and the bytes written (0 when refused). See [`crate::write_headers_into`].
+pub fn write_headers(width: usize, height: usize, mode: u8, out: &mut [u8]) -> (u8, usize) {
+    let mut size = 0;
+    let number = unsafe { archive::xurbalenz_write_headers(width, height, mode, out.as_mut_ptr(), out.len(), &mut size) };
+    (number, size)
+}
+
+/// Writes one frame: the number, and the bytes written (0 when refused). See [`crate::write_frame_into`].
+#[allow(clippy::too_many_arguments)] // the archive's own list
+pub fn write_frame(
+    width: usize,
+    height: usize,
+    mode: u8,
+    quant: &[u8; 10],
+    index: u32,
+    pixels: &[u8],
+    list: &mut [i32],
+    scratch: &mut [i32],
+    out: &mut [u8],
+) -> (u8, usize) {
+    let mut size = 0;
+    let number = unsafe {
+        archive::xurbalenz_write_frame(
+            width,
+            height,
+            mode,
+            quant,
+            index,
+            pixels.as_ptr(),
+            pixels.len(),
+            list.as_mut_ptr(),
+            list.len(),
+            scratch.as_mut_ptr(),
+            scratch.len(),
+            out.as_mut_ptr(),
+            out.len(),
+            &mut size,
+        )
+    };
+    (number, size)
+}

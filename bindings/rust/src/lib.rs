@@ -1,0 +1,319 @@
+//! RemoteFX (MS-RDPRFX) pictures for the door glass of control cabinets: safe Rust over the proved library `libpanel.a`.
+//!
+//! Any bytes may be handed to any call. A frame is drawn whole, or refused by its first fault, and after a refusal the picture and the
+//! session are what they were. Nothing here panics on what comes from the wire.
+//!
+//! - [`Screen`] owns a session with its picture and work lists: the simplest way to show a stream.
+//! - [`read_header`], [`read_frame`], [`read_component`] work in memory that you lend; they allocate nothing.
+//! - [`write_headers`], [`write_component`], [`write_frame`] return what they wrote; `.._into` write into memory that you lend.
+//! - [`edge`] has the six calls with plain numbers, as C sees them.
+//!
+//! The crate needs neither std nor any other crate, but `alloc` for [`Screen`] and the writers that return a `Vec`. It links
+//! `target/staticlib/libpanel.a` of the repository (make it with `rt staticlib panel`), or the one in the folder `XURBALENZ_LIB_DIR`.
+//!
+//! ```
+//! use xurbalenz::{read_component, write_component, Mode};
+//!
+//! // One list has one code, in both modes; what is written is read back.
+//! let mut list = [0; 4096];
+//! list[0] = -1;
+//! let code = write_component(Mode::Rlgr1, &list)?;
+//! assert_eq!(code, [0xA0, 0, 0, 0]);
+//!
+//! let mut back = [7; 4096];
+//! assert_eq!(read_component(Mode::Rlgr1, &code, &mut back)?, 28); // bits
+//! assert_eq!(back, list);
+//! # Ok::<(), xurbalenz::Refusal>(())
+//! ```
+#![no_std]
+#![warn(missing_docs)]
+
+extern crate alloc;
+
+pub mod edge;
+mod refusal;
+mod screen;
+
+use alloc::{vec, vec::Vec};
+
+pub use refusal::{CodeRefusal, Refusal};
+pub use screen::Screen;
+
+/// Numbers in every component list and work list: a tile of 64 x 64.
+pub const LIST: usize = 4096;
+/// The widest channel.
+pub const MAX_WIDTH: usize = 4096;
+/// The highest channel.
+pub const MAX_HEIGHT: usize = 2048;
+/// Bytes of the four header blocks.
+pub const HEADERS_SIZE: usize = 47;
+/// The most bytes that a component's code may have.
+pub const MAX_COMPONENT: usize = 65_535;
+
+/// The two modes of the component code.
+#[derive(Clone, Copy, Debug, PartialEq, Eq, Hash)]
+pub enum Mode {
+    /// et = 1
+    Rlgr1,
+    /// et = 4
+    Rlgr3,
+}
+
+impl Mode {
+    /// The number that stands for it in headers and in the record: 1 or 4.
+    pub const fn number(self) -> u8 {
+        match self {
+            Mode::Rlgr1 => 1,
+            Mode::Rlgr3 => 4,
+        }
+    }
+
+    /// The mode of a number, if it is one of the two.
+    pub const fn of(number: u8) -> Option<Mode> {
+        match number {
+            1 => Some(Mode::Rlgr1),
+            4 => Some(Mode::Rlgr3),
+            _ => None,
+        }
+    }
+}
+
+/// A quantiser set: ten values, each 6 (finest) to 15 (coarsest), for the bands LL3, LH3, HL3, HH3, LH2, HL2, HH2, LH1, HL1, HH1 in this order
+/// (in each level LH comes before HL). A value outside is answered [`Refusal::Quant`].
+#[derive(Clone, Copy, Debug, PartialEq, Eq, Hash)]
+pub struct Quant(pub [u8; 10]);
+
+impl Quant {
+    /// The set that servers commonly send.
+    pub const DEFAULT: Quant = Quant([6, 6, 6, 6, 7, 7, 8, 8, 8, 9]);
+    /// The finest set: closest colours, longest frames.
+    pub const FINEST: Quant = Quant([6; 10]);
+}
+
+impl Default for Quant {
+    fn default() -> Quant {
+        Quant::DEFAULT
+    }
+}
+
+/// The session's record: how many headers are in, the channel's size, the mode. Fresh by `Default`; only a done header changes it.
+///
+/// ```
+/// use xurbalenz::{read_header, Session};
+/// let mut session = Session::default();
+/// read_header(&mut session, &[0xC0, 0xCC, 12, 0, 0, 0, 0xCA, 0xAC, 0xCC, 0xCA, 0, 1])?; // sync
+/// assert_eq!(session.headers(), 1);
+/// # Ok::<(), xurbalenz::Refusal>(())
+/// ```
+#[repr(C)]
+#[derive(Clone, Copy, Debug, Default, PartialEq, Eq, Hash)]
+pub struct Session {
+    headers: u8,
+    width: u16,
+    height: u16,
+    mode: u8,
+}
+
+// The archive lays the record out as C does.
+const _: () = assert!(core::mem::size_of::<Session>() == 8 && core::mem::align_of::<Session>() == 2);
+
+impl Session {
+    /// A record that was kept somewhere, by its four numbers. One that no calls could have made is answered [`Refusal::Order`] wherever a
+    /// record is judged; a good sync starts it over.
+    pub const fn of_numbers(headers: u8, width: u16, height: u16, mode: u8) -> Session {
+        Session { headers, width, height, mode }
+    }
+
+    /// Its four numbers: headers, width, height, mode.
+    pub const fn numbers(self) -> (u8, u16, u16, u8) {
+        (self.headers, self.width, self.height, self.mode)
+    }
+
+    /// How many headers are in: frames are taken when it is 4.
+    pub const fn headers(self) -> u8 {
+        self.headers
+    }
+
+    /// The channel's width, 0 before the channels header.
+    pub const fn width(self) -> u16 {
+        self.width
+    }
+
+    /// The channel's height, 0 before the channels header.
+    pub const fn height(self) -> u16 {
+        self.height
+    }
+
+    /// The mode, none before the context header.
+    pub const fn mode(self) -> Option<Mode> {
+        Mode::of(self.mode)
+    }
+}
+
+// What a number says: done, or which refusal. Every number has an answer.
+fn judged<T>(number: u8, value: T) -> Result<T, Refusal> {
+    match Refusal::of(number) {
+        None => Ok(value),
+        Some(refusal) => Err(refusal),
+    }
+}
+
+/// Reads one header block, which is the whole message: sync, versions, channels, context in this order; a good sync starts the session over.
+///
+/// Judged in this order: head of 6 bytes (`Cut`), type (`Kind`), due (`Order`), blockLen (`Length`), whole block there (`Cut`), fields in wire
+/// order (`Field`), bytes after it (`Length`). Refused, the record is what it was.
+pub fn read_header(session: &mut Session, message: &[u8]) -> Result<(), Refusal> {
+    judged(edge::read_header(session, message), ())
+}
+
+/// Reads one frame, begin to end, which is the whole message, and draws it into the picture: how many tiles it lists.
+///
+/// The picture is 5-6-5 words row by row, width words a row, at least width x height of them; words past that never change. `y`, `cb`, `cr` and
+/// `scratch` are work lists of 4,096 numbers each; what they hold before does not matter.
+///
+/// Judged in this order: a record with all four headers (`Order`), lists and picture (`Buffer`), then the blocks in wire order, then tile by
+/// tile; `bindings/c/xurbalenz.h` has the order in full. Refused, the picture is what it was. The record is left equal in every case. The
+/// work lists are untouched on `Order` and `Buffer`, and hold only zeros after every other answer.
+pub fn read_frame(
+    session: &mut Session,
+    message: &[u8],
+    picture: &mut [u16],
+    y: &mut [i32],
+    cb: &mut [i32],
+    cr: &mut [i32],
+    scratch: &mut [i32],
+) -> Result<usize, Refusal> {
+    let (number, tiles) = edge::read_frame(session, message, picture, y, cb, cr, scratch);
+    judged(number, tiles)
+}
+
+/// Reads one component's code into a list of 4,096 numbers: the code's length in bits.
+///
+/// Judged in this order: the list's length (`Buffer`), a code over 65,535 bytes (`TooBig`), then the code. The list is untouched on those two,
+/// and holds only zeros on `Cut`, `Range`, `Overrun`, `Tail`. On `Tail` the error says the code's length too.
+///
+/// ```
+/// use xurbalenz::{read_component, Mode, Refusal};
+/// let mut list = [7; 4096];
+/// let refused = read_component(Mode::Rlgr3, &[0, 0, 0, 0], &mut list).unwrap_err();
+/// assert_eq!((refused.refusal, refused.bits), (Refusal::Tail, 21)); // three bytes hold the code
+/// assert_eq!(list, [0; 4096]);
+/// ```
+pub fn read_component(mode: Mode, code: &[u8], list: &mut [i32]) -> Result<usize, CodeRefusal> {
+    let (number, bits) = edge::read_component(mode.number(), code, list);
+    judged(number, bits).map_err(|refusal| CodeRefusal { refusal, bits })
+}
+
+/// Writes a component's code into `out`: its length in bytes. The list has 4,096 numbers (`Buffer`) from -32,767 to 32,767 (`Range`); a code
+/// over 65,535 bytes is `TooBig`, one that `out` cannot hold is `Room`. Refused, `out` is untouched; done, so are the bytes past the length.
+pub fn write_component_into(mode: Mode, list: &[i32], out: &mut [u8]) -> Result<usize, Refusal> {
+    let (number, size) = edge::write_component(mode.number(), list, out);
+    judged(number, size)
+}
+
+/// Writes a component's code: the one code that the list has in this mode. Refused as in [`write_component_into`], but never by `Room`.
+pub fn write_component(mode: Mode, list: &[i32]) -> Result<Vec<u8>, Refusal> {
+    let mut out = vec![0; MAX_COMPONENT];
+    let size = write_component_into(mode, list, &mut out)?;
+    Ok(cut_to(out, size))
+}
+
+/// Writes the four header blocks into `out`: 47. A size that is not allowed is `Field`, fewer than 47 bytes is `Room`.
+pub fn write_headers_into(width: usize, height: usize, mode: Mode, out: &mut [u8]) -> Result<usize, Refusal> {
+    let (number, size) = edge::write_headers(width, height, mode.number(), out);
+    judged(number, size)
+}
+
+/// Writes the four header blocks one behind the other; [`header_blocks`] takes them apart for four header calls.
+pub fn write_headers(width: usize, height: usize, mode: Mode) -> Result<Vec<u8>, Refusal> {
+    let mut out = vec![0; HEADERS_SIZE];
+    let size = write_headers_into(width, height, mode, &mut out)?;
+    Ok(cut_to(out, size))
+}
+
+/// The blocks of what [`write_headers`] wrote, by their lengths of 12, 10, 12 and 13 bytes. Of bytes that are fewer, the blocks there are.
+pub fn header_blocks(headers: &[u8]) -> impl Iterator<Item = &[u8]> {
+    let mut rest = headers;
+    [12, 10, 12, 13].into_iter().map_while(move |n| {
+        let (block, after) = rest.split_at_checked(n)?;
+        rest = after;
+        Some(block)
+    })
+}
+
+/// Tiles of a channel: 64 x 64 each, those at the far edges may hang over.
+pub const fn tiles(width: usize, height: usize) -> usize {
+    width.div_ceil(64).saturating_mul(height.div_ceil(64))
+}
+
+/// Bytes with which a frame of this size (within 4,096 x 2,048) always has room: 72 around the tiles, and for each a head of 19 and three
+/// codes of at most 65,535. Real frames are far shorter.
+pub const fn frame_room(width: usize, height: usize) -> usize {
+    tiles(width, height).saturating_mul(19 + 3 * MAX_COMPONENT).saturating_add(72)
+}
+
+/// Writes one frame over the whole channel into `out`: its length in bytes.
+///
+/// `pixels` are three bytes a pixel, R, G, B, row by row; `index` goes into the frame as it is; `list` and `scratch` are work lists of 4,096
+/// numbers. Judged in this order: size (`Field`), quantisers (`Quant`), lengths (`Buffer`), then component by component `Range` and `TooBig`,
+/// then `Room`. Refused, `out` is untouched; done, so are the bytes past the length. The work lists are untouched on `Field`, `Quant` and
+/// `Buffer`, and hold only zeros after every other answer.
+#[allow(clippy::too_many_arguments)] // what a frame is made of, and the memory for it
+pub fn write_frame_into(
+    width: usize,
+    height: usize,
+    mode: Mode,
+    quant: Quant,
+    index: u32,
+    pixels: &[u8],
+    list: &mut [i32],
+    scratch: &mut [i32],
+    out: &mut [u8],
+) -> Result<usize, Refusal> {
+    let (number, size) = edge::write_frame(width, height, mode.number(), &quant.0, index, pixels, list, scratch, out);
+    judged(number, size)
+}
+
+/// Writes one frame over the whole channel. Refused as in [`write_frame_into`], but never by `Room`.
+///
+/// ```
+/// use xurbalenz::{write_frame, Mode, Quant, Refusal};
+/// let grey = [128; 3 * 64 * 64];
+/// let frame = write_frame(64, 64, Mode::Rlgr1, Quant::DEFAULT, 1, &grey)?;
+/// assert_eq!(frame[..6], [0xC4, 0xCC, 14, 0, 0, 0]); // frame begin
+/// assert_eq!(write_frame(64, 63, Mode::Rlgr1, Quant::DEFAULT, 1, &grey), Err(Refusal::Buffer));
+/// # Ok::<(), Refusal>(())
+/// ```
+pub fn write_frame(width: usize, height: usize, mode: Mode, quant: Quant, index: u32, pixels: &[u8]) -> Result<Vec<u8>, Refusal> {
+    let (mut list, mut scratch) = (vec![0; LIST], vec![0; LIST]);
+    // A size that is not allowed is refused before room is judged, so any room will do for it.
+    let (w, h) = (width.min(MAX_WIDTH), height.min(MAX_HEIGHT));
+    let most = frame_room(w, h);
+    // Few frames need more than a byte a pixel. Where one does, the call says so and nothing is lost.
+    let mut room = most.min(72 + tiles(w, h) * LIST);
+    loop {
+        let mut out = vec![0; room];
+        match write_frame_into(width, height, mode, quant, index, pixels, &mut list, &mut scratch, &mut out) {
+            Err(Refusal::Room) if room < most => room = most.min(4 * room),
+            answer => return answer.map(|size| cut_to(out, size)),
+        }
+    }
+}
+
+// What was written, and no memory behind it.
+fn cut_to(mut out: Vec<u8>, size: usize) -> Vec<u8> {
+    out.truncate(size);
+    out.shrink_to_fit();
+    out
+}
+
+/// Red, green and blue of a picture's word, 0 to 255 each: the five or six bits, with the high ones repeated below.
+///
+/// ```
+/// assert_eq!(xurbalenz::rgb(0xFFFF), [255, 255, 255]);
+/// assert_eq!(xurbalenz::rgb(16 << 11), [132, 0, 0]);
+/// ```
+pub const fn rgb(word: u16) -> [u8; 3] {
+    let (r, g, b) = (word >> 11, word >> 5 & 63, word & 31);
+    [(r << 3 | r >> 2) as u8, (g << 2 | g >> 4) as u8, (b << 3 | b >> 2) as u8]
+}

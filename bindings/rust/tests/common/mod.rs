@@ -1,0 +1,420 @@
+//! What the tests share: lent memory with guard words, the six calls made with the sentences on memory checked, frames put together by hand,
+//! pictures, and seeded numbers.
+#![allow(dead_code)] // no test uses all of it
+
+use std::fmt::Debug;
+use xurbalenz::{edge, Session, LIST};
+
+// ---- seeded numbers
+
+/// xorshift64*: the same numbers on every machine.
+pub struct Rng(u64);
+
+impl Rng {
+    pub fn new(seed: u64) -> Rng {
+        Rng(seed.wrapping_mul(0x9E37_79B9_7F4A_7C15) | 1)
+    }
+
+    pub fn next(&mut self) -> u64 {
+        self.0 ^= self.0 >> 12;
+        self.0 ^= self.0 << 25;
+        self.0 ^= self.0 >> 27;
+        self.0.wrapping_mul(0x2545_F491_4F6C_DD1D)
+    }
+
+    /// A number below n.
+    pub fn below(&mut self, n: usize) -> usize {
+        ((self.next() >> 32) as usize) % n
+    }
+
+    pub fn byte(&mut self) -> u8 {
+        (self.next() >> 56) as u8
+    }
+
+    pub fn bytes(&mut self, n: usize) -> Vec<u8> {
+        (0..n).map(|_| self.byte()).collect()
+    }
+
+    pub fn pick<'a, T>(&mut self, from: &'a [T]) -> &'a T {
+        &from[self.below(from.len())]
+    }
+}
+
+// ---- lent memory
+
+/// What stands before and behind every lent part.
+pub trait Guard: Copy + PartialEq + Debug {
+    const WORD: Self;
+}
+
+impl Guard for u8 {
+    const WORD: u8 = 0xC3;
+}
+
+impl Guard for u16 {
+    const WORD: u16 = 0xC35A;
+}
+
+impl Guard for i32 {
+    const WORD: i32 = 0x4335_A5C3;
+}
+
+const GUARDS: usize = 64;
+
+/// A part to lend, with guard words on both sides.
+pub struct Lent<T: Guard>(Vec<T>);
+
+impl<T: Guard> Lent<T> {
+    pub fn of(part: &[T]) -> Lent<T> {
+        let mut all = vec![T::WORD; GUARDS];
+        all.extend_from_slice(part);
+        all.resize(part.len() + 2 * GUARDS, T::WORD);
+        Lent(all)
+    }
+
+    pub fn filled(word: T, len: usize) -> Lent<T> {
+        let mut all = vec![word; len + 2 * GUARDS];
+        all[..GUARDS].fill(T::WORD);
+        all[GUARDS + len..].fill(T::WORD);
+        Lent(all)
+    }
+
+    pub fn part(&self) -> &[T] {
+        &self.0[GUARDS..self.0.len() - GUARDS]
+    }
+
+    pub fn part_mut(&mut self) -> &mut [T] {
+        let end = self.0.len() - GUARDS;
+        &mut self.0[GUARDS..end]
+    }
+
+    /// The part after the call; the guard words must stand.
+    pub fn taken(self) -> Vec<T> {
+        let Lent(mut all) = self;
+        let end = all.len() - GUARDS;
+        assert_eq!(all[..GUARDS], [T::WORD; GUARDS], "a word before a lent part was changed");
+        assert_eq!(all[end..], [T::WORD; GUARDS], "a word behind a lent part was changed");
+        all.truncate(end);
+        all.drain(..GUARDS);
+        all
+    }
+}
+
+/// A record with guard bytes on both sides.
+#[repr(C)]
+struct LentSession {
+    before: [u8; 16],
+    session: Session,
+    behind: [u8; 16],
+}
+
+impl LentSession {
+    fn of(session: Session) -> LentSession {
+        LentSession { before: [0xC3; 16], session, behind: [0xC3; 16] }
+    }
+
+    fn taken(self) -> Session {
+        assert_eq!((self.before, self.behind), ([0xC3; 16], [0xC3; 16]), "a byte beside the record was changed");
+        self.session
+    }
+}
+
+fn untouched(list: &[i32]) -> bool {
+    list.iter().all(|&v| v == 7)
+}
+
+fn zeros(list: &[i32]) -> bool {
+    list.iter().all(|&v| v == 0)
+}
+
+fn kept<T: Guard>(lent: Lent<T>, before: &[T]) {
+    assert_eq!(lent.taken(), before, "what is only read was changed");
+}
+
+// ---- the six calls, with what the scope document says of memory checked after every one: lists are filled with 7, outputs with A5 before
+
+/// The header call: the number and the record.
+pub fn header(session: Session, message: &[u8]) -> (u8, Session) {
+    let mut s = LentSession::of(session);
+    let m = Lent::of(message);
+    let number = edge::read_header(&mut s.session, m.part());
+    let after = s.taken();
+    kept(m, message);
+    assert!(number <= 13, "number {number}");
+    // "A refused header or frame changes neither record nor picture."
+    assert!(number == 0 || after == session, "refused {number}, and the record changed");
+    (number, after)
+}
+
+/// What a frame call came to.
+#[derive(Clone, Debug, PartialEq)]
+pub struct Shown {
+    pub number: u8,
+    pub tiles: usize,
+    pub picture: Vec<u16>,
+    /// Untouched, or all zeros.
+    pub zeros: bool,
+}
+
+/// The frame call with work lists of these lengths.
+pub fn frame_with(session: Session, message: &[u8], picture: &[u16], lengths: [usize; 4]) -> Shown {
+    let mut s = LentSession::of(session);
+    let m = Lent::of(message);
+    let mut p = Lent::of(picture);
+    let [mut y, mut cb, mut cr, mut scratch] = lengths.map(|n| Lent::filled(7, n));
+    let (number, tiles) = edge::read_frame(&mut s.session, m.part(), p.part_mut(), y.part_mut(), cb.part_mut(), cr.part_mut(), scratch.part_mut());
+    kept(m, message);
+    let after = p.taken();
+    let lists = [y, cb, cr, scratch].map(Lent::taken);
+    assert!(number <= 13, "number {number}");
+    // ".. a frame call leaves it equal"
+    assert_eq!(s.taken(), session, "a frame call changed the record");
+    if number != 0 {
+        assert!(after == picture, "refused {number}, and the picture changed");
+        assert_eq!(tiles, 0, "refused {number}, and tiles reported");
+    }
+    // "words past width x height are never changed"
+    let (_, w, h, _) = session.numbers();
+    let size = (w as usize * h as usize).min(picture.len());
+    assert!(after[size..] == picture[size..], "a word past the channel changed");
+    // "Work lists of a frame call are untouched on 12 and 2; after every other frame answer they hold only zeros."
+    for list in &lists {
+        match number {
+            12 | 2 => assert!(untouched(list), "a work list was touched on {number}"),
+            _ => assert!(zeros(list), "a work list is not all zeros after {number}"),
+        }
+    }
+    Shown { number, tiles, picture: after, zeros: !matches!(number, 12 | 2) }
+}
+
+/// The frame call with good work lists.
+pub fn frame(session: Session, message: &[u8], picture: &[u16]) -> Shown {
+    frame_with(session, message, picture, [LIST; 4])
+}
+
+/// The component reader: number, bits, list.
+pub fn read_component(mode: u8, code: &[u8], length: usize) -> (u8, usize, Vec<i32>) {
+    let c = Lent::of(code);
+    let mut list = Lent::filled(7, length);
+    let (number, bits) = edge::read_component(mode, c.part(), list.part_mut());
+    kept(c, code);
+    let list = list.taken();
+    // "The component reader leaves its output list untouched on 5, 2 and 6 and fills it with zeros on 1, 9, 10, 11."
+    match number {
+        0 => assert!(list.iter().all(|v| (-32_767..=32_767).contains(v)), "done, and a value is out of range"),
+        5 | 2 | 6 => assert!(untouched(&list), "the list was touched on {number}"),
+        1 | 9 | 10 | 11 => assert!(zeros(&list), "the list is not all zeros after {number}"),
+        other => panic!("the component reader never gives {other}"),
+    }
+    // "The component reader reports the code's length in bits on 0 and 11, else 0."
+    match number {
+        0 => assert!(bits <= 8 * code.len() && 8 * code.len() < bits + 8, "{bits} bits of {} bytes", code.len()),
+        11 => assert!(0 < bits && bits <= 8 * code.len(), "{bits} bits of {} bytes", code.len()),
+        _ => assert_eq!(bits, 0),
+    }
+    (number, bits, list)
+}
+
+// "Writers leave their output untouched on every refusal; when done they say the length in bytes, refused 0, and bytes past it are untouched."
+fn written(number: u8, size: usize, out: Lent<u8>) -> (u8, usize, Vec<u8>) {
+    let out = out.taken();
+    assert!(number <= 13, "number {number}");
+    assert!(number == 0 || size == 0, "refused {number}, and a length reported");
+    assert!(out[size..].iter().all(|&b| b == 0xA5), "the output past {size} bytes was touched ({number})");
+    (number, size, out)
+}
+
+/// The component writer: number, length, output.
+pub fn write_component(mode: u8, list: &[i32], room: usize) -> (u8, usize, Vec<u8>) {
+    let l = Lent::of(list);
+    let mut out = Lent::filled(0xA5, room);
+    let (number, size) = edge::write_component(mode, l.part(), out.part_mut());
+    kept(l, list);
+    written(number, size, out)
+}
+
+/// The header writer: number, length, output.
+pub fn write_headers(width: usize, height: usize, mode: u8, room: usize) -> (u8, usize, Vec<u8>) {
+    let mut out = Lent::filled(0xA5, room);
+    let (number, size) = edge::write_headers(width, height, mode, out.part_mut());
+    written(number, size, out)
+}
+
+/// What the frame writer is given, but for memory.
+#[derive(Clone, Copy)]
+pub struct Sent<'a> {
+    pub width: usize,
+    pub height: usize,
+    pub mode: u8,
+    pub quant: [u8; 10],
+    pub index: u32,
+    pub pixels: &'a [u8],
+}
+
+/// The frame writer with work lists of these lengths: number, length, output.
+pub fn write_frame_with(sent: Sent, lengths: [usize; 2], room: usize) -> (u8, usize, Vec<u8>) {
+    let pixels = Lent::of(sent.pixels);
+    let [mut list, mut scratch] = lengths.map(|n| Lent::filled(7, n));
+    let mut out = Lent::filled(0xA5, room);
+    let (number, size) = edge::write_frame(
+        sent.width,
+        sent.height,
+        sent.mode,
+        &sent.quant,
+        sent.index,
+        pixels.part(),
+        list.part_mut(),
+        scratch.part_mut(),
+        out.part_mut(),
+    );
+    kept(pixels, sent.pixels);
+    // "The frame writer's work lists are untouched on 5, 7 and 2 and hold only zeros after every other answer."
+    for list in [list, scratch].map(Lent::taken) {
+        match number {
+            5 | 7 | 2 => assert!(untouched(&list), "a work list was touched on {number}"),
+            _ => assert!(zeros(&list), "a work list is not all zeros after {number}"),
+        }
+    }
+    written(number, size, out)
+}
+
+/// The frame writer with good work lists.
+pub fn write_frame(sent: Sent, room: usize) -> (u8, usize, Vec<u8>) {
+    write_frame_with(sent, [LIST; 2], room)
+}
+
+// ---- messages put together by hand
+
+fn le16(n: usize) -> [u8; 2] {
+    (n as u16).to_le_bytes()
+}
+
+fn le32(n: usize) -> [u8; 4] {
+    (n as u32).to_le_bytes()
+}
+
+/// A block: type, length, rest.
+pub fn block(kind: u16, rest: &[u8]) -> Vec<u8> {
+    [&kind.to_le_bytes()[..], &le32(6 + rest.len()), rest].concat()
+}
+
+pub fn sync() -> Vec<u8> {
+    block(0xCCC0, &[0xCA, 0xAC, 0xCC, 0xCA, 0, 1])
+}
+
+pub fn versions() -> Vec<u8> {
+    block(0xCCC1, &[1, 1, 0, 1])
+}
+
+pub fn channels(width: usize, height: usize) -> Vec<u8> {
+    block(0xCCC2, &[&[1, 0][..], &le16(width), &le16(height)].concat())
+}
+
+pub fn context(mode: u8) -> Vec<u8> {
+    let properties = 1 << 3 | 1 << 5 | (mode as usize) << 9 | 1 << 13;
+    block(0xCCC3, &[&[1, 0xFF, 0, 64, 0][..], &le16(properties)].concat())
+}
+
+/// A tile: quantiser indices, place in tiles, three codes.
+#[derive(Clone, Debug)]
+pub struct Tile {
+    pub quants: [u8; 3],
+    pub place: (usize, usize),
+    pub codes: [Vec<u8>; 3],
+}
+
+impl Tile {
+    /// All zeros: grey.
+    pub fn grey(x: usize, y: usize) -> Tile {
+        Tile { quants: [0; 3], place: (x, y), codes: [vec![0; 3], vec![0; 3], vec![0; 3]] }
+    }
+
+    pub fn bytes(&self) -> Vec<u8> {
+        let [y, cb, cr] = &self.codes;
+        let lengths = [le16(y.len()), le16(cb.len()), le16(cr.len())].concat();
+        block(0xCAC3, &[&self.quants[..], &le16(self.place.0), &le16(self.place.1), &lengths, y, cb, cr].concat())
+    }
+}
+
+/// A frame, block by block.
+#[derive(Clone, Debug)]
+pub struct Frame {
+    pub mode: u8,
+    pub rects: Vec<[usize; 4]>,
+    pub quants: Vec<[u8; 5]>,
+    pub tiles: Vec<Tile>,
+}
+
+impl Frame {
+    /// One rectangle over everything, the common quantisers, these tiles.
+    pub fn of(mode: u8, tiles: Vec<Tile>) -> Frame {
+        Frame { mode, rects: vec![[0, 0, 4096, 2048]], quants: vec![[0x66, 0x66, 0x77, 0x88, 0x98]], tiles }
+    }
+
+    pub fn begin(&self) -> Vec<u8> {
+        block(0xCCC4, &[1, 0, 0, 0, 0, 0, 1, 0])
+    }
+
+    pub fn region(&self) -> Vec<u8> {
+        let rects: Vec<u8> = self.rects.iter().flatten().flat_map(|&v| le16(v)).collect();
+        block(0xCCC6, &[&[1, 0, 1][..], &le16(self.rects.len()), &rects, &[0xC1, 0xCA, 1, 0]].concat())
+    }
+
+    pub fn tileset(&self) -> Vec<u8> {
+        let data: Vec<u8> = self.tiles.iter().flat_map(Tile::bytes).collect();
+        let properties = 1 | 1 << 4 | 1 << 6 | (self.mode as usize) << 10 | 1 << 14;
+        let counts = [&[self.quants.len() as u8, 64][..], &le16(self.tiles.len()), &le32(data.len())].concat();
+        block(0xCCC7, &[&[1, 0, 0xC2, 0xCA, 0, 0][..], &le16(properties), &counts, &self.quants.concat(), &data].concat())
+    }
+
+    pub fn end(&self) -> Vec<u8> {
+        block(0xCCC5, &[1, 0])
+    }
+
+    pub fn bytes(&self) -> Vec<u8> {
+        [self.begin(), self.region(), self.tileset(), self.end()].concat()
+    }
+}
+
+/// Bits, high bit first, from a string of 0 and 1 (blanks are for the reader); filled up with zero bits.
+pub fn bits(text: &str) -> Vec<u8> {
+    let all: Vec<u8> = text.bytes().filter(|b| *b != b' ').map(|b| b - b'0').collect();
+    all.chunks(8).map(|eight| eight.iter().enumerate().fold(0, |byte, (i, bit)| byte | bit << (7 - i))).collect()
+}
+
+// ---- pictures
+
+#[derive(Clone, Copy, Debug)]
+pub enum Kind {
+    Flat,
+    Gradient,
+    Check,
+    Noise,
+    Text,
+}
+
+pub const KINDS: [Kind; 5] = [Kind::Flat, Kind::Gradient, Kind::Check, Kind::Noise, Kind::Text];
+
+/// Pixels, three bytes each.
+pub fn picture(kind: Kind, width: usize, height: usize, rng: &mut Rng) -> Vec<u8> {
+    let flat = [rng.byte(), rng.byte(), rng.byte()];
+    let mut out = Vec::with_capacity(3 * width * height);
+    for y in 0..height {
+        for x in 0..width {
+            out.extend(match kind {
+                Kind::Flat => flat,
+                Kind::Gradient => [(x * 255 / width) as u8, (y * 255 / height) as u8, ((x + y) * 255 / (width + height)) as u8],
+                Kind::Check if (x / 8 + y / 8) % 2 == 0 => flat,
+                Kind::Check => flat.map(|v| 255 - v),
+                Kind::Noise => [rng.byte(), rng.byte(), rng.byte()],
+                Kind::Text => [if rng.below(5) == 0 { 0 } else { 255 }; 3],
+            });
+        }
+    }
+    out
+}
+
+/// A picture of words to draw over: no two neighbours alike.
+pub fn words(n: usize) -> Vec<u16> {
+    (0..n).map(|i| (i * 25_173 + 13_849) as u16).collect()
+}

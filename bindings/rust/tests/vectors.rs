@@ -1,0 +1,230 @@
+//! Recorded calls of an independent implementation (`bindings/vectors`, its FORMAT.md says how to read them): answer, value, record and the hash of
+//! what is lent must be the same.
+mod common;
+
+use common::*;
+use std::{fmt::Write, fs, path::Path};
+use xurbalenz::{Session, LIST};
+
+fn fnv(bytes: impl IntoIterator<Item = u8>) -> String {
+    let hash = bytes.into_iter().fold(0xCBF2_9CE4_8422_2325_u64, |h, b| (h ^ b as u64).wrapping_mul(0x100_0000_01B3));
+    format!("{hash:016x}")
+}
+
+fn number<T: std::str::FromStr>(word: &str) -> T {
+    word.parse().unwrap_or_else(|_| panic!("{word} is no number that fits here"))
+}
+
+/// A word of items joined by commas, each once or `*`N times.
+fn items<T: Clone>(word: &str, one: impl Fn(&str) -> Vec<T>) -> Vec<T> {
+    let mut all = vec![];
+    for item in word.split(',').filter(|_| word != "-") {
+        let (item, times) = item.split_once('*').map_or((item, 1), |(item, n)| (item, number(n)));
+        let part = one(item);
+        (0..times).for_each(|_| all.extend_from_slice(&part));
+    }
+    all
+}
+
+fn bytes(word: &str) -> Vec<u8> {
+    items(word, |hex| (0..hex.len() / 2).map(|i| u8::from_str_radix(&hex[2 * i..2 * i + 2], 16).expect("hex")).collect())
+}
+
+fn pixels(word: &str, width: usize, length: usize) -> Vec<u8> {
+    let (kind, seed) = word.split_once(':').expect("KIND:SEED");
+    let width = width.max(1);
+    let s: u64 = if kind == "flat" { 0 } else { number(seed) };
+    let mut state = s;
+    let mut step = move || {
+        state = (state * 1_103_515_245 + 12_345) % (1 << 31);
+        state >> 16
+    };
+    let flat = if kind == "flat" { bytes(seed) } else { vec![] };
+    let pixel = |i: usize| (i % 3, (i / 3 % width) as u64, (i / 3 / width) as u64);
+    (0..length)
+        .map(|i| match (kind, pixel(i)) {
+            ("flat", (c, _, _)) => flat[c],
+            ("noise", _) => (step() % 256) as u8,
+            ("text", _) => {
+                if step() % 5 == 0 {
+                    0
+                } else {
+                    255
+                }
+            }
+            ("grad", (0, x, _)) => (x + s) as u8,
+            ("grad", (1, _, y)) => (y + 2 * s) as u8,
+            ("grad", (_, x, y)) => (x + y) as u8,
+            ("check", (c, x, y)) => (s * (37 + 100 * ((x / 8 + y / 8) % 2)) + 85 * c as u64) as u8,
+            _ => panic!("no such picture: {kind}"),
+        })
+        .collect()
+}
+
+/// What a case carries from line to line.
+#[derive(Default)]
+struct Case {
+    session: Session,
+    picture: Vec<u16>,
+    headers: Vec<u8>,
+    component: Vec<u8>,
+    frame: Vec<u8>,
+}
+
+fn record(s: Session) -> String {
+    let (headers, width, height, mode) = s.numbers();
+    format!("{headers} {width} {height} {mode}")
+}
+
+impl Case {
+    fn show(&mut self, message: &[u8], lengths: &[&str]) -> String {
+        let lengths: Vec<usize> = lengths.iter().map(|n| number(n)).collect();
+        let shown = frame_with(self.session, message, &self.picture, [lengths[0], lengths[1], lengths[2], LIST]);
+        let work = if shown.zeros { 'z' } else { 'u' };
+        self.picture = shown.picture;
+        let hash = fnv(self.picture.iter().flat_map(|w| w.to_le_bytes()));
+        format!("{} {} {work} {} {hash}", shown.number, shown.tiles, record(self.session))
+    }
+
+    fn read(mode: u8, code: &[u8], length: usize) -> String {
+        let (number, bits, list) = read_component(mode, code, length);
+        format!("{number} {bits} {}", fnv(list.iter().flat_map(|v| v.to_le_bytes())))
+    }
+
+    /// Makes the call of a line's left side; what comes out, as the right side has it.
+    fn call(&mut self, words: &[&str]) -> String {
+        match words {
+            ["hdr", message] => {
+                let (number, after) = header(self.session, &bytes(message));
+                self.session = after;
+                format!("{number} {}", record(after))
+            }
+            ["frm", message, lengths @ ..] => self.show(&bytes(message), lengths),
+            ["frw", lengths @ ..] => {
+                let message = self.frame.clone();
+                self.show(&message, lengths)
+            }
+            ["rdc", mode, code, length] => Case::read(number(mode), &bytes(code), number(length)),
+            ["rdw", mode] => Case::read(number(mode), &self.component, LIST),
+            ["wrc", mode, list, room] => {
+                let list: Vec<i32> = items(list, |v| vec![number(v)]);
+                let (number, size, out) = write_component(number(mode), &list, number(room));
+                self.component = out[..size].to_vec();
+                format!("{number} {size} {}", fnv(out))
+            }
+            ["wrh", width, height, mode, room] => {
+                let (number, size, out) = write_headers(number(width), number(height), number(mode), number(room));
+                self.headers = out[..size].to_vec();
+                format!("{number} {size} {}", fnv(out))
+            }
+            ["hdw"] => {
+                let mut answers = String::new();
+                for block in xurbalenz::header_blocks(&self.headers) {
+                    let (number, after) = header(self.session, block);
+                    self.session = after;
+                    write!(answers, "{number} ").expect("a string takes all");
+                }
+                answers + &record(self.session)
+            }
+            ["wrf", width, height, mode, quant, index, pix, length, l1, l2, l3, room] => {
+                let quant: Vec<u8> = items(quant, |v| vec![number(v)]);
+                let pixels = pixels(pix, number(width), number(length));
+                let sent = Sent {
+                    width: number(width),
+                    height: number(height),
+                    mode: number(mode),
+                    quant: quant.try_into().expect("ten quantisers"),
+                    index: number(index),
+                    pixels: &pixels,
+                };
+                // two lists for three lengths: those that are not 4,096 first
+                let mut lengths = [l1, l2, l3].map(|n| number::<usize>(n));
+                lengths.sort_by_key(|&n| n == LIST);
+                let (number, size, out) = write_frame_with(sent, [lengths[0], lengths[1]], number(room));
+                self.frame = out[..size].to_vec();
+                let work = if matches!(number, 5 | 7 | 2) { 'u' } else { 'z' };
+                format!("{number} {size} {work} {}", fnv(out))
+            }
+            _ => panic!("no such call: {words:?}"),
+        }
+    }
+
+    fn set(&mut self, words: &[&str]) {
+        match words {
+            ["rec", headers, width, height, mode] => self.session = Session::of_numbers(number(headers), number(width), number(height), number(mode)),
+            ["pic", length, seed] => {
+                let (length, seed): (usize, usize) = (number(length), number(seed));
+                self.picture = (0..length).map(|i| (i * 25_173 + seed * 13_849 + 1) as u16).collect();
+            }
+            _ => panic!("no such setting: {words:?}"),
+        }
+    }
+}
+
+/// Runs a file: how many cases and calls.
+fn run(name: &str) -> (usize, usize) {
+    let path = Path::new(env!("CARGO_MANIFEST_DIR")).join("../vectors").join(name);
+    let text = fs::read_to_string(&path).unwrap_or_else(|e| panic!("{}: {e}", path.display()));
+    let (mut cases, mut calls, mut case) = (0, 0, Case::default());
+    for (i, line) in text.lines().enumerate().filter(|(_, line)| !line.is_empty() && !line.starts_with('#')) {
+        let (left, right) = line.split_once(" -> ").map_or((line, None), |(left, right)| (left, Some(right)));
+        let words: Vec<&str> = left.split(' ').collect();
+        match right {
+            Some(right) => {
+                let start: String = left.chars().take(60).collect();
+                assert_eq!(case.call(&words), right, "{name}, line {}: {start}", i + 1);
+                calls += 1;
+            }
+            None if words[0] == "case" => {
+                case = Case::default();
+                cases += 1;
+            }
+            None => case.set(&words),
+        }
+    }
+    println!("{name}: {cases} cases, {calls} calls agree");
+    (cases, calls)
+}
+
+// The counts stand here so that a file that was cut is noticed.
+#[test]
+fn components() {
+    assert_eq!(run("component.vec"), (1080, 2902));
+}
+
+#[test]
+fn written_components() {
+    assert_eq!(run("writer.vec"), (320, 456));
+}
+
+#[test]
+fn headers() {
+    assert_eq!(run("header.vec"), (576, 2492));
+}
+
+#[test]
+fn frames() {
+    assert_eq!(run("frame.vec"), (511, 557));
+}
+
+#[test]
+fn frames_with_faults() {
+    assert_eq!(run("frame_fault1.vec"), (403, 403));
+    assert_eq!(run("frame_fault2.vec"), (438, 438));
+    assert_eq!(run("frame_fault3.vec"), (150, 150));
+}
+
+#[test]
+fn written_frames() {
+    assert_eq!(run("framewriter.vec"), (67, 318));
+}
+
+#[test]
+fn sessions() {
+    assert_eq!(run("walk.vec"), (108, 833));
+}
+
+#[test]
+fn the_worked_sample() {
+    assert_eq!(run("sample001.vec"), (21, 27));
+}
