@@ -1,0 +1,52 @@
+use mathlib.Core.Path.{refl, ap, sym, _∙_}
+use native.Mathlib.Omega.{arith}
+use Rattle.wire.specs.Le.{bytes16, bytes32, patch, written}
+use Rattle.wire.specs.LeLaws.{patch-next, patch-front}
+use Rattle.bmp.specs.Bmp.{infoRest}
+use borrow.Author.Needs.{needs}
+use Rattle.bmp.proofs.put_info_rest.Statement.{statement}
+use Rattle.bmp.proofs.put_info_rest.Tie as tie
+use Rattle.bmp.proofs.put_info_rest.Reads as reads
+use Rattle.bmp.proofs.put_info_rest.Lts as lts
+use Rattle.wire.proofs.put32_at.Reads as put32-at-reads
+
+-- src/lib.rt:40:5
+put32-at-requires : tie.Need-put32-at-requires
+put32-at-requires c κs = search needs
+
+-- src/lib.rt:41:5
+put32-at-requires-2 : tie.Need-put32-at-requires-2
+put32-at-requires-2 c κs = search needs
+
+-- src/lib.rt:42:5
+put32-at-requires-3 : tie.Need-put32-at-requires-3
+put32-at-requires-3 c κs = search needs
+
+-- src/lib.rt:43:5
+put32-at-requires-4 : tie.Need-put32-at-requires-4
+put32-at-requires-4 c κs = search needs
+
+-- src/lib.rt:44:5
+put32-at-requires-5 : tie.Need-put32-at-requires-5
+put32-at-requires-5 c κs = search needs
+
+-- src/lib.rt:36:1
+same-length : tie.Need-same-length
+same-length c = search needs
+
+-- src/lib.rt:36:1
+returns : tie.Need-returns
+unfolding bytes16 bytes32 infoRest
+returns c = let w1 = patch-next _ _ _ _ _ _ _ (c .before .before .before .before .before .before .before .before .before .before .before .before .before .before .before .before .before .before .put32-at .ensures) (c .before .before .before .before .before .before .before .before .before .before .before .before .before .before .put32-at2 .ensures) refl (omega arith) in let w2 = patch-next _ _ _ _ _ _ _ w1 (c .before .before .before .before .before .before .before .before .before .before .put32-at3 .ensures) refl (omega arith) in let w3 = patch-next _ _ _ _ _ _ _ w2 (c .before .before .before .before .before .before .put32-at4 .ensures) refl (omega arith) in let w4 = patch-next _ _ _ _ _ _ _ w3 (c .before .before .put32-at5 .ensures) refl (omega arith) in w4
+
+pub put-info-rest-spec : {M : Type 1} → statement M
+put-info-rest-spec =
+    tie.close
+    (tie.spec
+    put32-at-requires
+    put32-at-requires-2
+    put32-at-requires-3
+    put32-at-requires-4
+    put32-at-requires-5
+    same-length
+    returns)

@@ -1,0 +1,2 @@
+pub mod Ppm
+pub mod PpmLaws
