@@ -123,9 +123,10 @@ uint8_t xurbalenz_read_header(XurbalenzSession *s, const uint8_t *message, size_
  *
  * Judged in this order: a record with all four headers (12); the four lists and the picture's length (2); then the blocks in wire order,
  * each: head there (1), kind due (3), blockLen against its fixed or least size (4), whole block there (1), fixed fields (5), counts (6),
- * blockLen against counts (4), contents. Contents of the tileset: the quantisers (7), then tile by tile its head, kind, size and presence
- * within the tileset's data (1, 3, 4, 1), lengths (4), quantiser indices (7), place (8), then Y, Cb, Cr in turn: the code (1, 9, 10, 11),
- * then LL3 sums and scaling (9); data left over after the last tile is 4. Bytes after the frame end are 4.
+ * blockLen against counts (4), contents; the two fields behind a region's rectangles come last of it (5). Contents of the tileset: the
+ * quantisers (7), then tile by tile its head, kind, size and presence within the tileset's data (1, 3, 4, 1), lengths (4), quantiser
+ * indices (7), place (8), then Y, Cb, Cr in turn: the code (1, 9, 10, 11), then LL3 sums and scaling (9); data left over after the last tile
+ * is 4. Bytes after the frame end are 4.
  *
  * Afterwards: done - a word of the picture has changed exactly if it lies in the channel, in some rectangle of the region and in some
  * listed tile (the last such tile decides); *tiles is how many tiles the frame lists; refused - the picture is what it was, *tiles is 0.
