@@ -47,6 +47,9 @@ static void plain_forth(int32_t *w) {
 static uint64_t seed = 42;
 static int rnd(int most) { seed = seed * 6364136223846793005u + 1442695040888963407u; return (int)((seed >> 33) % (2u * most + 1)) - most; }
 static int32_t a[4096], b[4096], tmp[4096];
+/* what is counted, by the syscalls (qemu's plugin) or by the functions' names (callgrind) */
+__attribute__((noinline)) void mark_back(void) { syscall(0x5eed, 0); wave_back(a, 4096, tmp, 4096); syscall(0x5eed, 1); }
+__attribute__((noinline)) void mark_forth(void) { syscall(0x5eed, 2); wave_forth(a, 4096, tmp, 4096); syscall(0x5eed, 3); }
 int main(void) {
   for (int t = 0; t < 200; t++) {
     int most = t % 2 ? 32767 : 300;
@@ -60,8 +63,8 @@ int main(void) {
   }
   puts("200 tiles, both ways: equal");
   for (int i = 0; i < 4096; i++) a[i] = rnd(32767);
-  syscall(0x5eed, 0); wave_back(a, 4096, tmp, 4096); syscall(0x5eed, 1);
+  mark_back();
   for (int i = 0; i < 4096; i++) a[i] = rnd(4096);
-  syscall(0x5eed, 2); wave_forth(a, 4096, tmp, 4096); syscall(0x5eed, 3);
+  mark_forth();
   return 0;
 }

@@ -1,0 +1,302 @@
+// The benchmark: the library's calls (the archive of `rt staticlib panel`) beside plain Rust, both in one process, on the same inputs.
+// First every list, code and picture is compared; then the sides take turns, and the best of N counts.
+//   main N        CPU time, best of N
+//   main count    each case once, inside a function mark_K, for callgrind (by name) or the qemu plugin (by the syscall before and after)
+//   main stack    how deep the stack goes in each call
+mod plain;
+mod screens;
+use plain::{Lists, Size, PLACES};
+use screens::{HEIGHT, WIDTH};
+use std::hint::black_box;
+
+#[repr(C)]
+#[derive(Clone, Copy, Default)]
+struct Session {
+    headers: u8,
+    width: u16,
+    height: u16,
+    mode: u8,
+}
+
+extern "C" {
+    fn xurbalenz_read_header(session: *mut Session, message: *const u8, len: usize) -> u8;
+    fn xurbalenz_read_frame(session: *mut Session, message: *const u8, len: usize, picture: *mut u16, words: usize, y: *mut i32, ny: usize,
+        cb: *mut i32, ncb: usize, cr: *mut i32, ncr: usize, scratch: *mut i32, nscratch: usize, tiles: *mut usize) -> u8;
+    fn xurbalenz_read_component(mode: u8, code: *const u8, len: usize, list: *mut i32, places: usize, bits: *mut usize) -> u8;
+    fn xurbalenz_write_component(mode: u8, list: *const i32, places: usize, out: *mut u8, room: usize, size: *mut usize) -> u8;
+    fn xurbalenz_write_headers(width: usize, height: usize, mode: u8, out: *mut u8, room: usize, size: *mut usize) -> u8;
+    fn xurbalenz_write_frame(width: usize, height: usize, mode: u8, quant: *const u8, index: u32, pixels: *const u8, len: usize,
+        list: *mut i32, places: usize, scratch: *mut i32, nscratch: usize, out: *mut u8, room: usize, size: *mut usize) -> u8;
+    fn syscall(n: i64, id: i64) -> i64;
+    fn clock_gettime(clock: i32, time: *mut [i64; 2]) -> i32;
+}
+
+/// The CPU time of this thread in seconds: what else the machine does counts little.
+fn now() -> f64 {
+    let mut t = [0; 2];
+    unsafe { clock_gettime(3, &mut t) };
+    t[0] as f64 + t[1] as f64 * 1e-9
+}
+
+// ---- the library's calls
+
+fn read_component(mode: u8, code: &[u8], list: &mut [i32]) -> (u8, usize) {
+    let mut bits = 0;
+    let number = unsafe { xurbalenz_read_component(mode, code.as_ptr(), code.len(), list.as_mut_ptr(), list.len(), &mut bits) };
+    (number, bits)
+}
+
+fn write_component(mode: u8, list: &[i32], out: &mut [u8]) -> (u8, usize) {
+    let mut size = 0;
+    let number = unsafe { xurbalenz_write_component(mode, list.as_ptr(), list.len(), out.as_mut_ptr(), out.len(), &mut size) };
+    (number, size)
+}
+
+fn read_frame(s: &mut Session, m: &[u8], picture: &mut [u16], l: &mut Lists) -> (u8, usize) {
+    let mut tiles = 0;
+    let number = unsafe {
+        xurbalenz_read_frame(s, m.as_ptr(), m.len(), picture.as_mut_ptr(), picture.len(), l.y.as_mut_ptr(), l.y.len(), l.cb.as_mut_ptr(), l.cb.len(),
+            l.cr.as_mut_ptr(), l.cr.len(), l.sheet.as_mut_ptr(), l.sheet.len(), &mut tiles)
+    };
+    (number, tiles)
+}
+
+const QUANT: [u8; 10] = [6, 6, 6, 6, 7, 7, 8, 8, 8, 9];
+
+fn write_frame(mode: u8, pixels: &[u8], l: &mut Lists, out: &mut [u8]) -> (u8, usize) {
+    let mut size = 0;
+    let number = unsafe {
+        xurbalenz_write_frame(WIDTH, HEIGHT, mode, QUANT.as_ptr(), 1, pixels.as_ptr(), pixels.len(), l.y.as_mut_ptr(), l.y.len(),
+            l.cb.as_mut_ptr(), l.cb.len(), out.as_mut_ptr(), out.len(), &mut size)
+    };
+    (number, size)
+}
+
+/// A session after our own four headers.
+fn session(mode: u8) -> Session {
+    let (mut s, mut out, mut size) = (Session::default(), [0u8; 47], 0);
+    assert_eq!(unsafe { xurbalenz_write_headers(WIDTH, HEIGHT, mode, out.as_mut_ptr(), out.len(), &mut size) }, 0);
+    let mut at = 0;
+    for n in [12, 10, 12, 13] {
+        assert_eq!(unsafe { xurbalenz_read_header(&mut s, out[at..].as_ptr(), n) }, 0);
+        at += n;
+    }
+    s
+}
+
+// ---- inputs
+
+struct Component {
+    mode: u8,
+    kind: usize,
+    list: Vec<i32>,
+    code: Vec<u8>,
+}
+
+const KINDS: [&str; 4] = ["flat", "sparse", "dense", "text"];
+
+fn components() -> Vec<Component> {
+    let mut seed = screens::Seed(0x9e3779b97f4a7c15);
+    let make = |c: usize| {
+        let (kind, mode) = (c % 4, if c / 4 % 2 == 0 { 1 } else { 4 });
+        let list = screens::component(kind, &mut seed);
+        Component { mode, kind, code: plain::write_component(mode, &list), list }
+    };
+    (0..1000).map(make).collect()
+}
+
+struct Frame {
+    name: &'static str,
+    mode: u8,
+    pixels: Vec<u8>,
+    bytes: Vec<u8>,
+}
+
+fn frames() -> Vec<Frame> {
+    let (mut l, mut out, mut all) = (Lists::new(), vec![0u8; 8 << 20], Vec::new());
+    for (name, pixels) in [("control", screens::control_room()), ("text", screens::text_screen())] {
+        for mode in [1, 4] {
+            let (number, size) = write_frame(mode, &pixels, &mut l, &mut out);
+            assert_eq!(number, 0, "the frame writer refused {name}");
+            all.push(Frame { name, mode, pixels: pixels.clone(), bytes: out[..size].to_vec() });
+        }
+    }
+    all
+}
+
+/// Every answer, list, code and picture of both sides is the same, on whole inputs and on cut ones.
+fn compare(cs: &[Component], fs: &[Frame]) {
+    let (mut a, mut b, mut out) = (vec![7; PLACES], vec![9; PLACES], vec![0u8; 65536]);
+    for c in cs {
+        let (number, size) = write_component(c.mode, &c.list, &mut out);
+        assert!(number == 0 && out[..size] == c.code, "codes differ");
+        assert!(plain::read_component(c.mode, &c.code, &mut a).0 == 0 && a == c.list, "plain Rust does not read its own code");
+        for code in [&c.code[..], &c.code[..c.code.len() / 2], &[&c.code[..], &[0]].concat()] {
+            for mode in [1, 4] {
+                let x = plain::read_component(mode, code, &mut a);
+                let y = read_component(mode, code, &mut b);
+                assert!(x == y && a == b, "components differ: {x:?} {y:?}");
+            }
+        }
+    }
+    let words = WIDTH * HEIGHT;
+    let (mut p, mut q, mut r, mut l) = (vec![1u16; words + 9], vec![1u16; words + 9], vec![1u16; words + 9], Lists::new());
+    for f in fs {
+        let size = Size { width: WIDTH, height: HEIGHT, mode: f.mode };
+        let mut s = session(f.mode);
+        for m in [&f.bytes[..], &f.bytes[..f.bytes.len() - 1], &f.bytes[..f.bytes.len() / 3], &[&f.bytes[..], &[0]].concat()] {
+            let x = plain::read_frame(size, m, &mut p, &mut l);
+            let z = plain::read_frame_shadow(size, m, &mut r, &mut l);
+            let y = read_frame(&mut s, m, &mut q, &mut l);
+            assert!(x == y && x == z && p == q && p == r, "frames differ: {x:?} {y:?} {z:?}");
+            p.fill(1);
+            q.fill(1);
+            r.fill(1);
+        }
+    }
+}
+
+// ---- cases
+
+type Case<'a> = (String, Vec<(&'static str, Box<dyn FnMut() + 'a>)>);
+
+fn cases<'a>(cs: &'a [Component], fs: &'a [Frame]) -> Vec<Case<'a>> {
+    let mut all: Vec<Case> = Vec::new();
+    let mut reading = |name: String, cs: Vec<&'a Component>| {
+        let ds = cs.clone();
+        let (mut a, mut b) = (vec![0; PLACES], vec![0; PLACES]);
+        all.push((name, vec![
+            ("plain", Box::new(move || for c in &cs { black_box(plain::read_component(c.mode, &c.code, black_box(&mut a))); })),
+            ("rattle", Box::new(move || for c in &ds { black_box(read_component(c.mode, &c.code, black_box(&mut b))); })),
+        ]));
+    };
+    reading("read 1,000 components".into(), cs.iter().collect());
+    for mode in [1, 4] {
+        for kind in 0..4 {
+            reading(format!("read 125 components, {}, RLGR{}", KINDS[kind], if mode == 1 { 1 } else { 3 }), cs.iter().filter(|c| c.mode == mode && c.kind == kind).collect());
+        }
+    }
+    let mut out = vec![0u8; 65536];
+    all.push(("write 1,000 components".into(), vec![
+        ("plain", Box::new(move || for c in cs { black_box(plain::write_component(c.mode, &c.list)); })),
+        ("rattle", Box::new(move || for c in cs { black_box(write_component(c.mode, &c.list, black_box(&mut out))); })),
+    ]));
+    for f in fs {
+        let size = Size { width: WIDTH, height: HEIGHT, mode: f.mode };
+        let mut s = session(f.mode);
+        let picture = || vec![0u16; WIDTH * HEIGHT];
+        let (mut p, mut q, mut r) = (picture(), picture(), picture());
+        let (mut k, mut l, mut n) = (Lists::new(), Lists::new(), Lists::new());
+        all.push((format!("read frame, {} screen, RLGR{}", f.name, if f.mode == 1 { 1 } else { 3 }), vec![
+            ("plain", Box::new(move || { black_box(plain::read_frame(size, &f.bytes, &mut p, &mut k)); })),
+            ("rattle", Box::new(move || { black_box(read_frame(&mut s, &f.bytes, &mut q, &mut l)); })),
+            ("one-pass", Box::new(move || { black_box(plain::read_frame_shadow(size, &f.bytes, &mut r, &mut n)); })),
+        ]));
+    }
+    for f in fs {
+        let (mut l, mut out) = (Lists::new(), vec![0u8; f.bytes.len()]);
+        all.push((format!("write frame, {} screen, RLGR{}", f.name, if f.mode == 1 { 1 } else { 3 }), vec![
+            ("rattle", Box::new(move || { black_box(write_frame(f.mode, &f.pixels, &mut l, &mut out)); })),
+        ]));
+    }
+    all
+}
+
+// ---- marks: a function of its own for each case and side, which callgrind finds by name
+
+macro_rules! marks {
+    ($($name:ident $k:literal),*) => {
+        $(#[inline(never)] #[no_mangle] pub fn $name(f: &mut dyn FnMut()) { black_box($k); f(); black_box($k); })*
+        const MARKS: &[fn(&mut dyn FnMut())] = &[$($name),*];
+    };
+}
+marks!(mark_00 0, mark_01 1, mark_02 2, mark_03 3, mark_04 4, mark_05 5, mark_06 6, mark_07 7, mark_08 8, mark_09 9, mark_10 10, mark_11 11,
+    mark_12 12, mark_13 13, mark_14 14, mark_15 15, mark_16 16, mark_17 17, mark_18 18, mark_19 19, mark_20 20, mark_21 21, mark_22 22,
+    mark_23 23, mark_24 24, mark_25 25, mark_26 26, mark_27 27, mark_28 28, mark_29 29, mark_30 30, mark_31 31, mark_32 32, mark_33 33,
+    mark_34 34, mark_35 35, mark_36 36, mark_37 37, mark_38 38, mark_39 39);
+
+fn count(all: &mut [Case]) {
+    let mut k = 0;
+    for (name, sides) in all {
+        for (side, f) in sides {
+            println!("mark {k:02} {side} {name}");
+            unsafe { syscall(0x5eed, 2 * k as i64) };
+            MARKS[k](f.as_mut());
+            unsafe { syscall(0x5eed, 2 * k as i64 + 1) };
+            k += 1;
+        }
+    }
+}
+
+// ---- the stack: painted below where we stand, then searched for what the call left
+
+#[cfg(target_arch = "x86_64")]
+#[inline(never)]
+fn depth(f: &mut dyn FnMut()) -> usize {
+    const DEEP: usize = 256 << 10;
+    let here: usize;
+    unsafe { std::arch::asm!("mov {}, rsp", out(reg) here) };
+    let from = (here - DEEP) as *mut u8;
+    for i in 0..DEEP {
+        unsafe { from.add(i).write_volatile(0xA5) };
+    }
+    f();
+    let mut i = 0;
+    while i < DEEP && unsafe { from.add(i).read_volatile() } == 0xA5 {
+        i += 1;
+    }
+    DEEP - i
+}
+
+#[cfg(target_arch = "x86_64")]
+fn stack(cs: &[Component], fs: &[Frame]) {
+    println!("stack nothing {} bytes: an empty call, which is in every figure", depth(&mut || { black_box(()); }));
+    for (name, sides) in &mut cases(cs, fs) {
+        for (side, f) in sides {
+            f();
+            println!("stack {side} {} bytes: {name}", depth(f.as_mut()));
+        }
+    }
+}
+
+fn times(all: &mut [Case], reps: usize) {
+    for (name, sides) in all {
+        let n = sides.len();
+        let mut best = vec![f64::MAX; n];
+        for r in 0..reps {
+            for k in 0..n {
+                let j = (r + k) % n;
+                let t = now();
+                (sides[j].1)();
+                best[j] = best[j].min(now() - t);
+            }
+        }
+        for j in 0..n {
+            println!("time {} {:.3} ms, ratio {:.2}: {name}", sides[j].0, best[j] * 1e3, best[j] / best[0]);
+        }
+    }
+}
+
+fn main() {
+    let what = std::env::args().nth(1).unwrap_or("31".into());
+    let (cs, fs) = (components(), frames());
+    if what == "count" {
+        return count(&mut cases(&cs, &fs));
+    }
+    compare(&cs, &fs);
+    println!("equal: {} components and {} frames, whole, cut and with a byte more", cs.len(), fs.len());
+    for (k, kind) in KINDS.iter().enumerate() {
+        for mode in [1, 4] {
+            let n: usize = cs.iter().filter(|c| c.kind == k && c.mode == mode).map(|c| c.code.len()).sum();
+            println!("input 125 components, {kind}, RLGR{}: {n} bytes", if mode == 1 { 1 } else { 3 });
+        }
+    }
+    for f in &fs {
+        println!("input frame, {} screen, RLGR{}: {} bytes", f.name, if f.mode == 1 { 1 } else { 3 }, f.bytes.len());
+    }
+    #[cfg(target_arch = "x86_64")]
+    if what == "stack" {
+        return std::thread::Builder::new().stack_size(8 << 20).spawn(move || stack(&cs, &fs)).unwrap().join().unwrap();
+    }
+    times(&mut cases(&cs, &fs), what.parse().expect("a number of rounds"));
+}
