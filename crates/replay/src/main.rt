@@ -1,253 +1,214 @@
 // Makes the calls of a recording (standard input) on the public functions of `panel`, and prints one line for each: 01's number, its values, the record, and a
 // hash of the lent memory. A record of the recording is a letter and little-endian numbers of four bytes, then bytes; lent lists hold 7 and lent output A5.
+// Here are the records of frames and the loop; the others are in `records`, the calls with their lines in `replay_calls`.
+use bands::Quant;
+use recording::Four;
 use recording::In;
-use session::Session;
+use recording::Three;
+use records::Desk;
+use replay_calls::Asked;
 
-// What goes on from record to record: the input, the session, the words of picture that are lent, the bytes last written, and whether it goes on.
-struct Desk {
-    from: In,
-    s: Session,
-    picture: usize,
-    written: usize,
-    go: bool,
+// The longest message of a frame.
+const MESSAGE: usize = 262144;
+
+// The frame call on the parts that are lent; false where the recording asks for more than there is.
+fn frame_part(
+    d: Desk,
+    g: Three,
+    message: &[u8],
+    picture: &mut [u16],
+    y: &mut [i32],
+    cb: &mut [i32],
+    cr: &mut [i32],
+    scratch: &mut [i32],
+) -> bool {
+    let words = d.picture;
+    let one = g.a;
+    let two = g.b;
+    let three = g.c;
+    if picture.len() < words || scratch.len() < 4096 {
+        return false;
+    }
+    if y.len() < one || cb.len() < two || cr.len() < three {
+        return false;
+    }
+    replay_calls::frame_call(
+        d.s,
+        message,
+        &mut picture[0..words],
+        &mut y[0..one],
+        &mut cb[0..two],
+        &mut cr[0..three],
+        &mut scratch[0..4096],
+    );
+    true
 }
 
-fn going(d: Desk, c: In) -> Desk {
-    let s = d.s;
-    Desk {
-        from: c,
-        s: s,
-        picture: d.picture,
-        written: d.written,
-        go: true,
+// The first n bytes, none where there are fewer.
+fn first(s: &[u8], n: usize) -> &[u8] {
+    if n <= s.len() {
+        return &s[0..n];
     }
+    &s[0..0]
 }
 
-fn stopped(d: Desk) -> Desk {
-    let c = d.from;
-    let s = d.s;
-    Desk {
-        from: c,
-        s: s,
-        picture: d.picture,
-        written: d.written,
-        go: false,
-    }
-}
-
-// The recording asks for too much, or is cut.
-fn bad(d: Desk) -> Desk {
-    report::say(b"bad recording\n");
-    stopped(d)
-}
-
-fn fresh(c: In) -> Desk {
-    Desk {
-        from: c,
-        s: Session {
-            headers: 0,
-            width: 0,
-            height: 0,
-            mode: 0,
-        },
-        picture: 0,
-        written: 0,
-        go: true,
-    }
-}
-
-fn with_session(d: Desk, c: In, s: Session) -> Desk {
-    Desk {
-        from: c,
-        s: s,
-        picture: d.picture,
-        written: d.written,
-        go: true,
-    }
-}
-
-fn with_written(d: Desk, c: In, n: usize) -> Desk {
-    let s = d.s;
-    Desk {
-        from: c,
-        s: s,
-        picture: d.picture,
-        written: n,
-        go: true,
-    }
-}
-
-fn with_picture(d: Desk, c: In, n: usize) -> Desk {
-    let s = d.s;
-    Desk {
-        from: c,
-        s: s,
-        picture: n,
-        written: d.written,
-        go: true,
-    }
-}
-
-// 'R': the session record, whatever it is.
-fn set_record(d: Desk, input: &mut [u8]) -> Desk {
-    let g = recording::take_four(input, d.from);
-    let from = g.from;
-    if !from.whole {
-        return bad(d);
-    }
-    let s = Session {
-        headers: recording::byte_of(g.a),
-        width: recording::word_of(g.b),
-        height: recording::word_of(g.c),
-        mode: recording::byte_of(g.d),
-    };
-    with_session(d, from, s)
-}
-
-// 'P': a new picture.
-fn set_picture(d: Desk, input: &mut [u8], picture: &mut [u16]) -> Desk {
-    let g = recording::take_two(input, d.from);
-    let from = g.from;
-    let n = g.a;
-    if !from.whole {
-        return bad(d);
-    }
-    if picture.len() < n {
-        return bad(d);
-    }
-    lent::fill_picture(&mut picture[0..n], g.b);
-    with_picture(d, from, n)
-}
-
-fn header_part(s: Session, message: &[u8], n: usize) -> Session {
-    if message.len() < n {
-        return s;
-    }
-    replay_calls::header_call(s, &message[0..n])
-}
-
-// 'H'
-fn header(d: Desk, input: &mut [u8], message: &mut [u8]) -> Desk {
-    let a = recording::number(input, d.from);
-    let from = recording::take_message(input, a.from, message, a.value);
-    if !from.whole {
-        return bad(d);
-    }
-    with_session(d, from, header_part(d.s, message, a.value))
-}
-
-// 'C'
-fn component(d: Desk, input: &mut [u8], message: &mut [u8], list: &mut [i32]) -> Desk {
-    let g = recording::take_three(input, d.from);
-    let len = g.b;
-    let n = g.c;
-    if list.len() < len {
-        return bad(d);
-    }
-    if message.len() < n {
-        return bad(d);
-    }
-    let m = &mut message[0..n];
-    let from = recording::take_bytes(input, g.from, m);
-    if !from.whole {
-        return bad(d);
-    }
-    replay_calls::component_call(recording::byte_of(g.a), m, &mut list[0..len]);
-    going(d, from)
-}
-
-// 'D'
-fn component_again(d: Desk, input: &mut [u8], out: &[u8], list: &mut [i32]) -> Desk {
-    let a = recording::number(input, d.from);
-    let from = a.from;
-    let n = d.written;
-    if !from.whole {
-        return bad(d);
-    }
-    if out.len() < n {
-        return bad(d);
-    }
-    if list.len() < 4096 {
-        return bad(d);
-    }
-    replay_calls::component_call(recording::byte_of(a.value), &out[0..n], &mut list[0..4096]);
-    going(d, from)
-}
-
-fn writer_part(mode: usize, list: &[i32], n: usize, out: &mut [u8], room: usize) -> usize {
-    if list.len() < n {
-        return 0;
-    }
-    if out.len() < room {
-        return 0;
-    }
-    replay_calls::writer_call(recording::byte_of(mode), &list[0..n], &mut out[0..room])
-}
-
-// What a 'W' asks for: mode, room, and a list of so many numbers.
-struct Asked {
-    mode: usize,
-    room: usize,
+// What an 'F' asks for: the lengths of three lists, and a message of so many bytes.
+struct Framed {
+    lists: Three,
     count: usize,
-    good: bool,
     from: In,
 }
 
-fn take_asked(input: &mut [u8], c: In, list: &mut [i32]) -> Asked {
+fn take_framed(input: &mut [u8], c: In, message: &mut [u8]) -> Framed {
     let g = recording::take_three(input, c);
-    let r = recording::take_runs(input, g.from, g.c, list);
-    let from = r.from;
-    Asked {
-        mode: g.a,
-        room: g.b,
-        count: r.count,
-        good: from.whole && r.fits,
+    let n = recording::number(input, g.from);
+    let from = recording::take_message(input, n.from, message, n.value);
+    Framed {
+        lists: g,
+        count: n.value,
         from: from,
     }
 }
 
-// 'W'
-fn writer(d: Desk, input: &mut [u8], list: &mut [i32], out: &mut [u8]) -> Desk {
-    let a = take_asked(input, d.from, list);
-    let from = a.from;
-    if !a.good {
-        return bad(d);
+// 'F'
+fn frame(
+    d: Desk,
+    input: &mut [u8],
+    message: &mut [u8],
+    picture: &mut [u16],
+    y: &mut [i32],
+    cb: &mut [i32],
+    cr: &mut [i32],
+    scratch: &mut [i32],
+) -> Desk {
+    let f = take_framed(input, d.from, message);
+    let from = f.from;
+    let n = f.count;
+    if MESSAGE < n || !from.whole {
+        return records::bad(d);
     }
-    if out.len() < a.room {
-        return bad(d);
+    if frame_part(d, f.lists, first(message, n), picture, y, cb, cr, scratch) {
+        return records::going(d, from);
     }
-    let k = writer_part(a.mode, list, a.count, out, a.room);
-    with_written(d, from, k)
+    records::bad(d)
 }
 
-// 'X'
-fn headers(d: Desk, input: &mut [u8], out: &mut [u8]) -> Desk {
-    let g = recording::take_four(input, d.from);
+// 'G'
+fn frame_again(
+    d: Desk,
+    input: &mut [u8],
+    out: &[u8],
+    picture: &mut [u16],
+    y: &mut [i32],
+    cb: &mut [i32],
+    cr: &mut [i32],
+    scratch: &mut [i32],
+) -> Desk {
+    let g = recording::take_three(input, d.from);
     let from = g.from;
-    let room = g.d;
     if !from.whole {
-        return bad(d);
+        return records::bad(d);
     }
-    if out.len() < room {
-        return bad(d);
+    if frame_part(d, g, first(out, d.written), picture, y, cb, cr, scratch) {
+        return records::going(d, from);
     }
-    let k = replay_calls::headers_call(g.a, g.b, recording::byte_of(g.c), &mut out[0..room]);
-    with_written(d, from, k)
+    records::bad(d)
 }
 
-// 'Y': the four blocks of 'X', each to a header call.
-fn headers_again(d: Desk, out: &[u8]) -> Desk {
-    if d.written < 47 {
-        return bad(d);
-    }
-    let s = replay_calls::headers_back_call(d.s, out);
-    let from = d.from;
-    with_session(d, from, s)
+// What a 'Z' asks for: size, mode and index; lists and room; the quantisers; how many bytes of pixels.
+struct Sent {
+    size: Four,
+    lists: Four,
+    v: [u8; 10],
+    count: usize,
+    from: In,
 }
 
-fn not_built(d: Desk) -> Desk {
-    report::say(b"not built\n");
-    stopped(d)
+fn take_sent(input: &mut [u8], c: In, pixels: &mut [u8]) -> Sent {
+    let size = recording::take_four(input, c);
+    let lists = recording::take_four(input, size.from);
+    let t = recording::take_ten(input, lists.from);
+    let n = recording::number(input, t.from);
+    let from = recording::take_message(input, n.from, pixels, n.value);
+    let v = t.v;
+    Sent {
+        size: size,
+        lists: lists,
+        v: v,
+        count: n.value,
+        from: from,
+    }
+}
+
+fn asked(size: Four, v: [u8; 10]) -> Asked {
+    Asked {
+        width: size.a,
+        height: size.b,
+        mode: recording::byte_of(size.c),
+        index: recording::index_of(size.d),
+        q: Quant { v: v },
+    }
+}
+
+// The length of the second work list: the third's, where that is not 4,096.
+fn second_length(lists: Four) -> usize {
+    if lists.c == 4096 {
+        return lists.b;
+    }
+    lists.c
+}
+
+// The frame writer on the parts that are lent; a count of bytes beyond the output where the recording asks for more than there is.
+fn frame_writer_part(
+    a: Asked,
+    lists: Four,
+    pixels: &[u8],
+    list: &mut [i32],
+    scratch: &mut [i32],
+    out: &mut [u8],
+) -> usize {
+    let one = lists.a;
+    let two = second_length(lists);
+    let room = lists.d;
+    if out.len() < room || list.len() < one || scratch.len() < two {
+        return usize::MAX;
+    }
+    replay_calls::frame_writer_call(
+        a,
+        pixels,
+        &mut list[0..one],
+        &mut scratch[0..two],
+        &mut out[0..room],
+    )
+}
+
+// 'Z'
+fn frame_writer(
+    d: Desk,
+    input: &mut [u8],
+    pixels: &mut [u8],
+    list: &mut [i32],
+    scratch: &mut [i32],
+    out: &mut [u8],
+) -> Desk {
+    let a = take_sent(input, d.from, pixels);
+    let from = a.from;
+    let v = a.v;
+    if !from.whole {
+        return records::bad(d);
+    }
+    let n = frame_writer_part(
+        asked(a.size, v),
+        a.lists,
+        first(pixels, a.count),
+        list,
+        scratch,
+        out,
+    );
+    if out.len() < n {
+        return records::bad(d);
+    }
+    records::with_written(d, from, n)
 }
 
 // One record of the recording, by its letter.
@@ -259,19 +220,15 @@ fn replayed(
     out: &mut [u8],
     picture: &mut [u16],
     list: &mut [i32],
+    cb: &mut [i32],
+    cr: &mut [i32],
+    scratch: &mut [i32],
 ) -> Desk {
     match letter {
-        b'N' => fresh(d.from),
-        b'R' => set_record(d, input),
-        b'P' => set_picture(d, input, picture),
-        b'H' => header(d, input, message),
-        b'C' => component(d, input, message, list),
-        b'D' => component_again(d, input, out, list),
-        b'W' => writer(d, input, list, out),
-        b'X' => headers(d, input, out),
-        b'Y' => headers_again(d, out),
-        b'F' | b'G' | b'Z' => not_built(d),
-        _ => bad(d),
+        b'F' => frame(d, input, message, picture, list, cb, cr, scratch),
+        b'G' => frame_again(d, input, out, picture, list, cb, cr, scratch),
+        b'Z' => frame_writer(d, input, message, list, scratch, out),
+        _ => records::record(d, letter, input, message, out, picture, list),
     }
 }
 
@@ -283,13 +240,27 @@ fn step(
     out: &mut [u8],
     picture: &mut [u16],
     list: &mut [i32],
+    cb: &mut [i32],
+    cr: &mut [i32],
+    scratch: &mut [i32],
 ) -> Desk {
     let b = recording::next(input, d.from);
     let from = b.from;
     if !from.whole {
-        return stopped(d);
+        return records::stopped(d);
     }
-    replayed(going(d, from), b.value, input, message, out, picture, list)
+    replayed(
+        records::going(d, from),
+        b.value,
+        input,
+        message,
+        out,
+        picture,
+        list,
+        cb,
+        cr,
+        scratch,
+    )
 }
 
 // A proved loop ends, and nothing says that an input does: the turns are counted down from a number that no run uses up.
@@ -299,31 +270,49 @@ fn run(
     out: &mut [u8],
     picture: &mut [u16],
     list: &mut [i32],
+    cb: &mut [i32],
+    cr: &mut [i32],
+    scratch: &mut [i32],
 ) {
-    let mut d = fresh(recording::start());
+    let mut d = records::fresh(recording::start());
     let mut turns = u64::MAX;
     while 0 < turns && d.go {
-        d = step(d, input, message, out, picture, list);
+        d = step(d, input, message, out, picture, list, cb, cr, scratch);
         turns -= 1;
     }
 }
 
-// The two large ones come as arrays: their lengths are known without counting to a million.
+// The large ones come as arrays: their lengths are known without counting to a million.
 fn run_in(
     input: &mut [u8],
-    message: &mut [u8],
+    message: &mut [u8; 1048576],
     out: &mut [u8; 1048576],
     picture: &mut [u16; 1048576],
     list: &mut [i32],
+    cb: &mut [i32],
+    cr: &mut [i32],
+    scratch: &mut [i32],
 ) {
-    run(input, message, out, picture, list);
+    run(input, message, out, picture, list, cb, cr, scratch);
 }
 
 fn main() {
     let mut input = [0u8; 65536];
-    let mut message = [0u8; 262144];
+    let mut message = [0u8; 1048576];
     let mut out = [0u8; 1048576];
     let mut picture = [0u16; 1048576];
     let mut list = [0i32; 8192];
-    run_in(&mut input, &mut message, &mut out, &mut picture, &mut list);
+    let mut cb = [0i32; 8192];
+    let mut cr = [0i32; 8192];
+    let mut scratch = [0i32; 8192];
+    run_in(
+        &mut input,
+        &mut message,
+        &mut out,
+        &mut picture,
+        &mut list,
+        &mut cb,
+        &mut cr,
+        &mut scratch,
+    );
 }

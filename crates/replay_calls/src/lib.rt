@@ -1,5 +1,6 @@
 // The calls of a recording on the public functions of `panel`, each with its line of text: 01's number, its values, the record after it, and a hash of the
 // lent memory. Lent lists hold 7 before a call, and lent output A5. What 01 says of lent memory ("untouched", "only zeros") shows in the line.
+use bands::Quant;
 use session::Session;
 
 // ---- the lines
@@ -26,6 +27,54 @@ fn say_header(number: u8, s: Session) {
     let text: &mut [u8] = &mut space;
     let a = report::put_number(text, 0, number as usize);
     let k = put_record(text, a, s);
+    report::print(text, k);
+}
+
+fn both_are(a: &[i32], b: &[i32], v: i32) -> bool {
+    if lent::all_are(a, v) {
+        return lent::all_are(b, v);
+    }
+    false
+}
+
+// u: the two lists are untouched (7); z: they hold only zeros.
+fn pair_letter(a: &[i32], b: &[i32]) -> u8 {
+    if both_are(a, b, 7) {
+        return b'u';
+    }
+    if both_are(a, b, 0) {
+        return b'z';
+    }
+    b'?'
+}
+
+// Four lists, two and two: the letter that both pairs have.
+fn work_letter(one: u8, two: u8) -> u8 {
+    if one == two {
+        return one;
+    }
+    b'?'
+}
+
+fn say_frame(number: u8, tiles: usize, letter: u8, s: Session, h: u64) {
+    let mut space = [0u8; 128];
+    let text: &mut [u8] = &mut space;
+    let a = report::put_number(text, 0, number as usize);
+    let b = report::put_number(text, a, tiles);
+    let c = report::put_letter(text, b, letter);
+    let e = put_record(text, c, s);
+    let f = report::put_byte(text, e, b' ');
+    let k = report::put_hash(text, f, h);
+    report::print(text, k);
+}
+
+fn say_written(number: u8, n: usize, letter: u8, h: u64) {
+    let mut space = [0u8; 128];
+    let text: &mut [u8] = &mut space;
+    let a = report::put_number(text, 0, number as usize);
+    let b = report::put_number(text, a, n);
+    let c = report::put_letter(text, b, letter);
+    let k = report::put_hash(text, c, h);
     report::print(text, k);
 }
 
@@ -133,4 +182,72 @@ pub fn headers_back_call(s: Session, out: &[u8]) -> Session {
     let f = headers_back(s, out);
     say_fourfold(f);
     f.session
+}
+
+fn fill_two(a: &mut [i32], b: &mut [i32]) {
+    lent::fill_list(a, 7);
+    lent::fill_list(b, 7);
+}
+
+// One frame call.
+pub fn frame_call(
+    s: Session,
+    message: &[u8],
+    picture: &mut [u16],
+    y: &mut [i32],
+    cb: &mut [i32],
+    cr: &mut [i32],
+    scratch: &mut [i32],
+) {
+    fill_two(y, cb);
+    fill_two(cr, scratch);
+    let r = panel::read_frame(s, message, picture, y, cb, cr, scratch);
+    say_frame(
+        panel::frame_number(r),
+        panel::frame_tiles(r),
+        work_letter(pair_letter(y, cb), pair_letter(cr, scratch)),
+        s,
+        lent::hash_words(picture),
+    );
+}
+
+// What the frame writer is asked for, beside memory.
+pub struct Asked {
+    pub width: usize,
+    pub height: usize,
+    pub mode: u8,
+    pub index: u32,
+    pub q: Quant,
+}
+
+// One call of the frame writer; the bytes that it wrote.
+pub fn frame_writer_call(
+    a: Asked,
+    pixels: &[u8],
+    list: &mut [i32],
+    scratch: &mut [i32],
+    out: &mut [u8],
+) -> usize {
+    fill_two(list, scratch);
+    lent::fill_bytes(out, 0xA5);
+    let q = a.q;
+    let w = panel::write_frame(
+        a.width,
+        a.height,
+        a.mode,
+        q,
+        a.index,
+        pixels,
+        list,
+        scratch,
+        out,
+    );
+    let n = code_write::writing_length(w);
+    say_written(
+        code_write::writing_number(w),
+        n,
+        pair_letter(list, scratch),
+        lent::hash_bytes(out),
+    );
+    n
 }

@@ -1,0 +1,274 @@
+// The records of a recording but for frames: a new case, the session record, a picture, and the calls on headers and components (vec-to-calls says the
+// form of each). No section of document 01 is made true here: `replay` shows by these calls that the proved library does what the recording says.
+use recording::In;
+use session::Session;
+
+// What goes on from record to record: the input, the session, the words of picture that are lent, the bytes last written, and whether it goes on.
+pub struct Desk {
+    pub from: In,
+    pub s: Session,
+    pub picture: usize,
+    pub written: usize,
+    pub go: bool,
+}
+
+// The next record.
+pub fn going(d: Desk, c: In) -> Desk {
+    let s = d.s;
+    Desk {
+        from: c,
+        s: s,
+        picture: d.picture,
+        written: d.written,
+        go: true,
+    }
+}
+
+// No record more.
+pub fn stopped(d: Desk) -> Desk {
+    let c = d.from;
+    let s = d.s;
+    Desk {
+        from: c,
+        s: s,
+        picture: d.picture,
+        written: d.written,
+        go: false,
+    }
+}
+
+// The recording asks for too much, or is cut.
+pub fn bad(d: Desk) -> Desk {
+    report::say(b"bad recording\n");
+    stopped(d)
+}
+
+// A new case: a fresh session, no picture, nothing written.
+pub fn fresh(c: In) -> Desk {
+    Desk {
+        from: c,
+        s: Session {
+            headers: 0,
+            width: 0,
+            height: 0,
+            mode: 0,
+        },
+        picture: 0,
+        written: 0,
+        go: true,
+    }
+}
+
+fn with_session(d: Desk, c: In, s: Session) -> Desk {
+    Desk {
+        from: c,
+        s: s,
+        picture: d.picture,
+        written: d.written,
+        go: true,
+    }
+}
+
+// After a call that wrote n bytes.
+pub fn with_written(d: Desk, c: In, n: usize) -> Desk {
+    let s = d.s;
+    Desk {
+        from: c,
+        s: s,
+        picture: d.picture,
+        written: n,
+        go: true,
+    }
+}
+
+fn with_picture(d: Desk, c: In, n: usize) -> Desk {
+    let s = d.s;
+    Desk {
+        from: c,
+        s: s,
+        picture: n,
+        written: d.written,
+        go: true,
+    }
+}
+
+// 'R': the session record, whatever it is.
+fn set_record(d: Desk, input: &mut [u8]) -> Desk {
+    let g = recording::take_four(input, d.from);
+    let from = g.from;
+    if !from.whole {
+        return bad(d);
+    }
+    let s = Session {
+        headers: recording::byte_of(g.a),
+        width: recording::word_of(g.b),
+        height: recording::word_of(g.c),
+        mode: recording::byte_of(g.d),
+    };
+    with_session(d, from, s)
+}
+
+// 'P': a new picture.
+fn set_picture(d: Desk, input: &mut [u8], picture: &mut [u16]) -> Desk {
+    let g = recording::take_two(input, d.from);
+    let from = g.from;
+    let n = g.a;
+    if !from.whole {
+        return bad(d);
+    }
+    if picture.len() < n {
+        return bad(d);
+    }
+    lent::fill_picture(&mut picture[0..n], g.b);
+    with_picture(d, from, n)
+}
+
+fn header_part(s: Session, message: &[u8], n: usize) -> Session {
+    if message.len() < n {
+        return s;
+    }
+    replay_calls::header_call(s, &message[0..n])
+}
+
+// 'H'
+fn header(d: Desk, input: &mut [u8], message: &mut [u8]) -> Desk {
+    let a = recording::number(input, d.from);
+    let from = recording::take_message(input, a.from, message, a.value);
+    if !from.whole {
+        return bad(d);
+    }
+    with_session(d, from, header_part(d.s, message, a.value))
+}
+
+// 'C'
+fn component(d: Desk, input: &mut [u8], message: &mut [u8], list: &mut [i32]) -> Desk {
+    let g = recording::take_three(input, d.from);
+    let len = g.b;
+    let n = g.c;
+    if list.len() < len {
+        return bad(d);
+    }
+    if message.len() < n {
+        return bad(d);
+    }
+    let m = &mut message[0..n];
+    let from = recording::take_bytes(input, g.from, m);
+    if !from.whole {
+        return bad(d);
+    }
+    replay_calls::component_call(recording::byte_of(g.a), m, &mut list[0..len]);
+    going(d, from)
+}
+
+// 'D'
+fn component_again(d: Desk, input: &mut [u8], out: &[u8], list: &mut [i32]) -> Desk {
+    let a = recording::number(input, d.from);
+    let from = a.from;
+    let n = d.written;
+    if !from.whole {
+        return bad(d);
+    }
+    if out.len() < n {
+        return bad(d);
+    }
+    if list.len() < 4096 {
+        return bad(d);
+    }
+    replay_calls::component_call(recording::byte_of(a.value), &out[0..n], &mut list[0..4096]);
+    going(d, from)
+}
+
+fn writer_part(mode: usize, list: &[i32], n: usize, out: &mut [u8], room: usize) -> usize {
+    if list.len() < n {
+        return 0;
+    }
+    if out.len() < room {
+        return 0;
+    }
+    replay_calls::writer_call(recording::byte_of(mode), &list[0..n], &mut out[0..room])
+}
+
+// What a 'W' asks for: mode, room, and a list of so many numbers.
+struct Asked {
+    mode: usize,
+    room: usize,
+    count: usize,
+    good: bool,
+    from: In,
+}
+
+fn take_asked(input: &mut [u8], c: In, list: &mut [i32]) -> Asked {
+    let g = recording::take_three(input, c);
+    let r = recording::take_runs(input, g.from, g.c, list);
+    let from = r.from;
+    Asked {
+        mode: g.a,
+        room: g.b,
+        count: r.count,
+        good: from.whole && r.fits,
+        from: from,
+    }
+}
+
+// 'W'
+fn writer(d: Desk, input: &mut [u8], list: &mut [i32], out: &mut [u8]) -> Desk {
+    let a = take_asked(input, d.from, list);
+    let from = a.from;
+    if !a.good {
+        return bad(d);
+    }
+    if out.len() < a.room {
+        return bad(d);
+    }
+    let k = writer_part(a.mode, list, a.count, out, a.room);
+    with_written(d, from, k)
+}
+
+// 'X'
+fn headers(d: Desk, input: &mut [u8], out: &mut [u8]) -> Desk {
+    let g = recording::take_four(input, d.from);
+    let from = g.from;
+    let room = g.d;
+    if !from.whole {
+        return bad(d);
+    }
+    if out.len() < room {
+        return bad(d);
+    }
+    let k = replay_calls::headers_call(g.a, g.b, recording::byte_of(g.c), &mut out[0..room]);
+    with_written(d, from, k)
+}
+
+// 'Y': the four blocks of 'X', each to a header call.
+fn headers_again(d: Desk, out: &[u8]) -> Desk {
+    if d.written < 47 {
+        return bad(d);
+    }
+    let s = replay_calls::headers_back_call(d.s, out);
+    let from = d.from;
+    with_session(d, from, s)
+}
+
+// One record, by its letter.
+pub fn record(
+    d: Desk,
+    letter: u8,
+    input: &mut [u8],
+    message: &mut [u8],
+    out: &mut [u8],
+    picture: &mut [u16],
+    list: &mut [i32],
+) -> Desk {
+    match letter {
+        b'N' => fresh(d.from),
+        b'R' => set_record(d, input),
+        b'P' => set_picture(d, input, picture),
+        b'H' => header(d, input, message),
+        b'C' => component(d, input, message, list),
+        b'D' => component_again(d, input, out, list),
+        b'W' => writer(d, input, list, out),
+        b'X' => headers(d, input, out),
+        b'Y' => headers_again(d, out),
+        _ => bad(d),
+    }
+}
