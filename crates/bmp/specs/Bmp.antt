@@ -2,7 +2,7 @@
 -- rows from below, each filled up to a multiple of four bytes.
 use Prim.Native.Nat.{ℕ, _+_, _*_, _%_, _/_}
 use mathlib.Core.List.{List, [], _∷_, _++_}
-use lib.ListN.{length}
+use lib.ListN.{length, take, drop}
 use lib.Dec.{leb}
 use Rattle.wire.specs.Le.{bytes16, bytes32, written}
 use Rattle.wire.specs.Row.{_!_⨾_}
@@ -39,3 +39,11 @@ wordBytes (w ∷ ws) = bytes16 w ++ wordBytes ws
 -- words at the start of an output, which is left as it is where there is no room
 unfoldable pub putWords : List ℕ → List ℕ → List ℕ
 putWords ws out = leb (length ws) (length out / 2) ! out ⨾ written (wordBytes ws) out
+
+-- the words of a picture's row, "row by row, width words a row"; none where they are not all there
+unfoldable pub rowOf : List ℕ → ℕ → ℕ → List ℕ
+rowOf picture width r =
+    leb width 4096 ! take 0 picture ⨾
+    leb r 2048 ! take 0 picture ⨾
+    leb (r * width + width) (length picture) ! take 0 picture ⨾
+    take width (drop (r * width) picture)

@@ -60,3 +60,6 @@ pub head-all :
     (w h s t : ℕ) (out x : List ℕ) → x ≡ written (headOf w h s) out → s ≡ t → length out ≡ 66 → x ≡ headOf w h t
 unfolding headOf fileHead infoHead infoRest masks bytes16 bytes32
 head-all w h s t out x e f l = e ∙ (written-all (headOf w h s) out l ∙ ap (λ (k : ℕ). headOf w h k) f)
+
+pub row-bound : (r w : ℕ) → r ≤ 2048 → w ≤ 4096 → r * w ≤ 8388608
+row-bound r w a b = mul-le-mul {n₂ = 2048} {m₂ = 4096} a b

@@ -3,7 +3,7 @@ ghost use mathlib.Core.Path.{_≡_};
 ghost use Prim.Native.Nat.{_+_, _*_, _≤_, _<_};
 ghost use lib.ListN.{length};
 ghost use Rattle.wire.specs.Le.{patch, written};
-ghost use Rattle.bmp.specs.Bmp.{rowSize, fileHead, infoHead, infoRest, masks, headOf, wordBytes, putWords};
+ghost use Rattle.bmp.specs.Bmp.{rowSize, fileHead, infoHead, infoRest, masks, headOf, rowOf, putWords};
 
 // The bytes of a row in the file: two for each word, filled up to a multiple of four.
 pub fn row_size(width: u16) -> usize
@@ -96,4 +96,22 @@ pub fn put_words(words: &[u16], out: &mut [u8])
         wire::put16_at(out, 2 * i, wide(words[i]));
         i += 1;
     }
+}
+
+// The words of a picture's row, none where they are not all there.
+pub fn row(picture: &[u16], width: usize, r: usize) -> &[u16]
+    ensures { λ s. ⌜ now s ≡ rowOf (now (picture .entry)) width r ⌝ }
+{
+    if 4096 < width {
+        return &picture[..0];
+    }
+    if 2048 < r {
+        return &picture[..0];
+    }
+    let a = r * width;
+    let e = a + width;
+    if picture.len() < e {
+        return &picture[..0];
+    }
+    &picture[a..e]
 }

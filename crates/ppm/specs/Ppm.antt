@@ -90,3 +90,35 @@ headOf m =
     eqb (fieldAt m 2 .at) 0 ⇒ Refused 2 ∣
     eqb (fieldAt m (fieldAt m 2 .at) .at) 0 ⇒ Refused 2 ∣
     closedOf m (fieldAt m 2 .value) (fieldAt m (fieldAt m 2 .at) .value) (fieldAt m (fieldAt m (fieldAt m 2 .at) .at))
+
+-- "1..4096 x 1..2048" (fault 4), and at most 2^20 pixels, for which the program has room (fault 5)
+unfoldable pub sizeFault : ℕ → ℕ → ℕ
+sizeFault width height =
+    leb 1 width ! 4 ⨾
+    leb width 4096 ! 4 ⨾
+    leb 1 height ! 4 ⨾
+    leb height 2048 ! 4 ⨾
+    leb (width * height) 1048576 ! 5 ⨾
+    0
+
+-- the bytes from a place to the end are as many as are needed: fewer are fault 6, more fault 7
+unfoldable pub bytesFault : ℕ → ℕ → ℕ → ℕ
+bytesFault need at n =
+    leb at n ! 6 ⨾
+    leb need (n - at) ! 6 ⨾
+    leb (n - at) need ! 7 ⨾
+    0
+
+unfoldable pub sizedOf : ℕ → ℕ → ℕ → ℕ → Head
+sizedOf width height at n =
+    eqb (sizeFault width height) 0 ! Refused (sizeFault width height) ⨾
+    eqb (bytesFault (3 * (width * height)) at n) 0 ! Refused (bytesFault (3 * (width * height)) at n) ⨾
+    Good width height at
+
+unfoldable pub sizedHead : List ℕ → Head → Head
+sizedHead m (Good width height at) = sizedOf width height at (length m)
+sizedHead m (Refused fault) = Refused fault
+
+-- a whole picture: its head, its size, three bytes a pixel and no more
+unfoldable pub pictureOf : List ℕ → Head
+pictureOf m = sizedHead m (headOf m)

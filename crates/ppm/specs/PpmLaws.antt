@@ -1,18 +1,19 @@
 -- The steps of the walks over a head's bytes.
-use Prim.Native.Nat.{ℕ, zero, suc, _+_, _-_, _≤_, _<_}
+use Prim.Native.Nat.{ℕ, zero, suc, _+_, _*_, _-_, _≤_, _<_}
 use mathlib.Core.Path.{_≡_, refl, ap, sym, _∙_}
 use mathlib.Core.Bool.{Bool, true, false, true≢false}
 use mathlib.Core.List.{List}
 use native.Mathlib.Omega.{arith}
+use native.Mathlib.Nat.{mul-le-mul}
 use lib.ListN.{length}
 use lib.Dec.{eqb}
-use borrow.Author.Tests.{eq-eqb, ltb-true}
+use borrow.Author.Tests.{eq-eqb, ltb-true, leb-true}
 use Rattle.wire.specs.Le.{byteAt}
 use Rattle.wire.specs.RowLaws.{fails, passes, held, case-yes, case-no, ne-is}
 use Rattle.ppm.specs.declared.Figure.{Figure}
 use Rattle.ppm.specs.declared.Head.{Head}
-use Rattle.ppm.specs.declared.Head.the-variants.{Refused}
-use Rattle.ppm.specs.Ppm.{isDigit, moreOf, figure, digitsFrom, figureAt, afterOf, skipFrom, skipAt, fieldOf, fieldAt, isP6, blankAt, closedOf, headOf}
+use Rattle.ppm.specs.declared.Head.the-variants.{Good, Refused}
+use Rattle.ppm.specs.Ppm.{isDigit, moreOf, figure, digitsFrom, figureAt, afterOf, skipFrom, skipAt, fieldOf, fieldAt, isP6, blankAt, closedOf, headOf, sizeFault, bytesFault, sizedOf, sizedHead, pictureOf}
 
 left : (n at : ℕ) → at < n → n - at ≡ suc (n - (at + 1))
 left n at l = omega arith
@@ -97,3 +98,39 @@ module _ (m : List ℕ) (p : Bool) (is : p ≡ isP6 m) where
           (case-no _ _ _ _ (ne-is (ap (λ (f : Figure). f .at) first) refl some)
           (case-no _ _ _ _ (ne-is (ap (λ (f : Figure). f .at) height-is) refl e)
           (let k = height-is in cc)))
+
+-- a size without fault has at most 2^20 pixels
+pub size-pixels : (w h r : ℕ) → r ≡ sizeFault w h → r ≡ 0 → w * h ≤ 1048576
+unfolding sizeFault
+size-pixels w h r e z =
+    let a = held _ _ _ r (λ q. omega arith) e in
+    let b = held _ _ _ r (λ q. omega arith) (a .1) in
+    let c = held _ _ _ r (λ q. omega arith) (b .1) in
+    let d = held _ _ _ r (λ q. omega arith) (c .1) in
+    leb-true _ _ (held _ _ _ r (λ q. omega arith) (d .1) .0)
+
+pub size-bound : (w h : ℕ) → w ≤ 4096 → h ≤ 2048 → w * h ≤ 8388608
+size-bound w h a b = mul-le-mul {n₂ = 4096} {m₂ = 2048} a b
+
+-- the three ways out of a picture's judgement
+module _ (w h at n size : ℕ) (first : size ≡ sizeFault w h) where
+  pub sized-not : (size ≡ 0 → ⊥) → Refused size ≡ sizedOf w h at n
+  unfolding sizedOf
+  sized-not z = fails _ _ _ _ (ne-is first refl z) (ap Refused first)
+
+  module _ (good : size ≡ 0) (bytes : ℕ) (second : bytes ≡ bytesFault (3 * (w * h)) at n) where
+    pub sized-bytes : (bytes ≡ 0 → ⊥) → Refused bytes ≡ sizedOf w h at n
+    unfolding sizedOf
+    sized-bytes z = passes _ _ _ _ (eq-eqb _ _ (sym first ∙ good)) (fails _ _ _ _ (ne-is second refl z) (ap Refused second))
+
+    pub sized-good : bytes ≡ 0 → Good w h at ≡ sizedOf w h at n
+    unfolding sizedOf
+    sized-good z = passes _ _ _ _ (eq-eqb _ _ (sym first ∙ good)) (passes _ _ _ _ (eq-eqb _ _ (sym second ∙ z)) refl)
+
+pub picture-good : (m : List ℕ) (w h at : ℕ) (k r : Head) → k ≡ headOf m → k ≡ Good w h at → r ≡ sizedOf w h at (length m) → r ≡ pictureOf m
+unfolding pictureOf sizedHead
+picture-good m w h at k r e f g = g ∙ ap (λ (x : Head). sizedHead m x) (sym f ∙ e)
+
+pub picture-refused : (m : List ℕ) (fault : ℕ) (k : Head) → k ≡ headOf m → k ≡ Refused fault → Refused fault ≡ pictureOf m
+unfolding pictureOf sizedHead
+picture-refused m fault k e f = ap (λ (x : Head). sizedHead m x) (sym f ∙ e)

@@ -1,8 +1,8 @@
-// The head of a binary PPM picture (P6, 255 the largest value; issue 8.4), and decimal numbers in text. specs/Ppm has the rule.
+// A binary PPM picture (P6, 255 the largest value; issue 8.4): its head, whether it is one that `send` takes, and decimal numbers in text. specs/Ppm has the rule.
 ghost use mathlib.Core.Path.{_≡_};
 ghost use Prim.Native.Nat.{_-_, _≤_, _<_};
 ghost use lib.ListN.{length};
-ghost use Rattle.ppm.specs.Ppm.{isDigit, isBlank, moreOf, figureAt, afterOf, skipAt, fieldOf, fieldAt, isP6, blankAt, closedOf, headOf};
+ghost use Rattle.ppm.specs.Ppm.{isDigit, isBlank, moreOf, figureAt, afterOf, skipAt, fieldOf, fieldAt, isP6, blankAt, closedOf, headOf, sizeFault, bytesFault, sizedOf, pictureOf};
 
 // A number in text and the place behind it.
 pub struct Figure {
@@ -10,7 +10,8 @@ pub struct Figure {
     pub at: usize,
 }
 
-// What a head came to: width, height and the place of the first pixel, or which fault: 1 not P6, 2 no head, 3 a largest value other than 255.
+// What a head or a picture came to: width, height and the place of the first pixel, or which fault: 1 not P6, 2 no head, 3 a largest value other than 255,
+// 4 a size that is not allowed, 5 more than 2^20 pixels, 6 too few bytes, 7 too many.
 pub enum Head {
     Good(usize, usize, usize),
     Refused(u8),
@@ -178,7 +179,7 @@ fn closed(m: &[u8], width: usize, height: usize, most: Figure) -> Head
 }
 
 // The head of a picture.
-pub fn read_head(m: &[u8]) -> Head
+fn read_head(m: &[u8]) -> Head
     ensures { λ r. ⌜ r ≡ headOf (now (m .entry)) ⌝ }
 {
     if is_p6(m) {
@@ -193,4 +194,68 @@ pub fn read_head(m: &[u8]) -> Head
         return closed(m, w.value, h.value, field(m, h.at));
     }
     Head::Refused(1)
+}
+
+// 01's sizes, and what the program has room for.
+fn size_fault(width: usize, height: usize) -> u8
+    ensures { λ r. ⌜ r ≡ sizeFault width height ⌝ }
+{
+    if width < 1 {
+        return 4;
+    }
+    if 4096 < width {
+        return 4;
+    }
+    if height < 1 {
+        return 4;
+    }
+    if 2048 < height {
+        return 4;
+    }
+    if 1048576 < width * height {
+        return 5;
+    }
+    0
+}
+
+// Three bytes a pixel, from a place to the end.
+fn bytes_fault(need: usize, at: usize, n: usize) -> u8
+    ensures { λ r. ⌜ r ≡ bytesFault need at n ⌝ }
+{
+    if n < at {
+        return 6;
+    }
+    if n - at < need {
+        return 6;
+    }
+    if need < n - at {
+        return 7;
+    }
+    0
+}
+
+// A picture of a size, whose pixels begin at a place of n bytes.
+fn sized(width: usize, height: usize, at: usize, n: usize) -> Head
+    ensures { λ r. ⌜ r ≡ sizedOf width height at n ⌝ }
+{
+    let size = size_fault(width, height);
+    if size != 0 {
+        return Head::Refused(size);
+    }
+    let bytes = bytes_fault(3 * (width * height), at, n);
+    if bytes != 0 {
+        return Head::Refused(bytes);
+    }
+    Head::Good(width, height, at)
+}
+
+// A whole picture.
+pub fn read_picture(m: &[u8]) -> Head
+    ensures { λ r. ⌜ r ≡ pictureOf (now (m .entry)) ⌝ }
+{
+    let h = read_head(m);
+    match h {
+        Head::Good(width, height, at) => sized(width, height, at, m.len()),
+        Head::Refused(fault) => Head::Refused(fault),
+    }
 }
