@@ -1,15 +1,13 @@
 -- What a list that was found in range gives its readers.
 -- Assumes nothing.
-use mathlib.Core.Path.{_≡_, sym, _∙_, subst}
+use mathlib.Core.Path.{_≡_, sym, _∙_}
 use mathlib.Core.Bool.{Bool, true}
 use mathlib.Core.List.{List}
-use Prim.Native.Nat.{ℕ, _*_, _≤_, _<_}
+use Prim.Native.Nat.{ℕ, _*_, _≤_}
 use native.Mathlib.Nat.{mul-le-mul}
-use native.Mathlib.Omega.{arith}
-use lib.IntN.{ℤ, pos}
+use lib.IntN.{ℤ}
 use lib.Dec.{lit≤}
 use lib.ListN.{length}
-use Rattle.whole.specs.Near.{Near}
 use Rattle.whole.specs.Tab.{AllNear}
 use Rattle.line.specs.More.{all-wide}
 use Rattle.code_write.specs.Write.{inRange}
@@ -21,10 +19,6 @@ near-of zs r e t = record { all = λ i. record { near = range-is zs (sym e ∙ t
 
 pub plane-of : (zs : List ℤ) (r : Bool) → length zs ≡ 4096 → r ≡ inRange zs → r ≡ true → Plane zs
 plane-of zs r l e t = record { len = l; near = all-wide (lit≤ tt) (near-of zs r e t) }
-
--- a byte is near 0
-pub byte-near : {z : ℤ} (n : ℕ) → n < 256 → z ≡ pos n → Near 255 z
-byte-near n h e = subst (Near 255) (sym e) (record { near = omega arith })
 
 -- the bands of a level fit the list
 pub square : (n : ℕ) → n ≤ 32 → n * n ≤ 1024

@@ -2,8 +2,8 @@ use mir.Syntax.{w32}
 use lib.IntN.{pos, _+ℤ_, _*ℤ_}
 use Rattle.whole.specs.Calc.{Calc, fits, arg, lit, add, sub, mul}
 use borrow.Author.Needs.{needs}
-use Rattle.sample.proofs.number.Statement.{statement}
-use Rattle.sample.proofs.number.Tie as tie
+use Rattle.stages.proofs.number.Statement.{statement}
+use Rattle.stages.proofs.number.Tie as tie
 
 abbrev upper : (c : tie.Start) → Calc w32 (pos 256 *ℤ c .args .high)
 upper c = mul (lit w32 (pos 256) tt) (arg w32 (c .pre .1) tt) tt

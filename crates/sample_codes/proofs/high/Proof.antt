@@ -1,8 +1,8 @@
 use native.Mathlib.Nat.{div-mul-le-self}
 use native.Mathlib.Omega.{arith}
 use borrow.Author.Needs.{needs}
-use Rattle.sample.proofs.high.Statement.{statement}
-use Rattle.sample.proofs.high.Tie as tie
+use Rattle.sample_codes.proofs.high.Statement.{statement}
+use Rattle.sample_codes.proofs.high.Tie as tie
 
 mul-result : tie.Need-mul-result
 mul-result c = omega (arith, div-mul-le-self (c .before .args .b) (c .before .args .w), c .before .fits .b)

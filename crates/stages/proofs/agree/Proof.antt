@@ -1,17 +1,24 @@
--- As many bits agree as were looked at, at most.
+-- As many places agree as were looked at, at most.
 use Prim.Native.Nat.{_≤_, _-_}
 use native.Mathlib.Omega.{arith}
-use Rattle.sample.proofs.agree_bits.Statement.{statement}
-use Rattle.sample.proofs.agree_bits.Tie as tie
+use lib.ListN.{length}
+use Rattle.stages.proofs.agree.Statement.{statement}
+use Rattle.stages.proofs.agree.Tie as tie
 
 abbrev Inv-loop : tie.InvT-loop
-Inv-loop s t n same₀ i₀ same i = same ≤ i
+Inv-loop got want same₀ i₀ same i = same ≤ i
 
 abbrev μ-loop : tie.MeasureT-loop
-μ-loop s t n same₀ i₀ same i = n - i
+μ-loop got want same₀ i₀ same i = length got - i
 
 loop-holds : tie.Need-loop-holds Inv-loop μ-loop
 loop-holds c = omega arith
+
+mul-holds : tie.Need-mul-holds Inv-loop μ-loop
+mul-holds c = omega arith
+
+shared-slice-copy-out-holds : tie.Need-shared-slice-copy-out-holds Inv-loop μ-loop
+shared-slice-copy-out-holds c = c .loop-test .taken
 
 add-same : tie.Need-add-same Inv-loop μ-loop
 add-same c = omega (arith, c .before .before .before .before .loop .inv, c .one .ensures, c .before .before .before .loop-test .taken)
@@ -25,7 +32,7 @@ loop-less c = omega (arith, c .before .before .before .loop-test .taken)
 loop-again : tie.Need-loop-again Inv-loop μ-loop
 loop-again c = omega (arith, c .before .before .before .before .loop .inv, c .one .ensures)
 
-pub agree-bits-spec : {M : Type 1} → statement M
-agree-bits-spec =
+pub agree-spec : {M : Type 1} → statement M
+agree-spec =
     tie.close
-    (tie.spec Inv-loop μ-loop loop-holds (λ c κs. tt) (λ c κs. tt) (λ c κs. tt) add-same add-i loop-less loop-again (λ c. tt))
+    (tie.spec Inv-loop μ-loop loop-holds mul-holds shared-slice-copy-out-holds (λ c κs. tt) (λ c κs. tt) add-same add-i loop-less loop-again (λ c. tt))

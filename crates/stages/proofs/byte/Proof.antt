@@ -2,8 +2,8 @@ use native.Mathlib.Omega.{arith}
 use mir.Syntax.{w32}
 use mir.Facts.{toZ-pos}
 use borrow.Author.Needs.{needs}
-use Rattle.sample.proofs.byte.Statement.{statement}
-use Rattle.sample.proofs.byte.Tie as tie
+use Rattle.stages.proofs.byte.Statement.{statement}
+use Rattle.stages.proofs.byte.Tie as tie
 
 cast-result : tie.Need-cast-result
 cast-result c = search needs

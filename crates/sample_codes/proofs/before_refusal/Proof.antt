@@ -1,7 +1,7 @@
 -- Nothing has to hold from turn to turn; fewer places are left after each.
 use native.Mathlib.Omega.{arith}
-use Rattle.sample.proofs.before_refusal.Statement.{statement}
-use Rattle.sample.proofs.before_refusal.Tie as tie
+use Rattle.sample_codes.proofs.before_refusal.Statement.{statement}
+use Rattle.sample_codes.proofs.before_refusal.Tie as tie
 
 abbrev Inv-loop : tie.InvT-loop
 Inv-loop s c₀ left₀ c left = Unit {0}

@@ -3,8 +3,8 @@ use Prim.Native.Nat.{_-_}
 use mathlib.Core.Path.{_≡_, refl}
 use native.Mathlib.Omega.{arith}
 use lib.ListN.{length, length-set}
-use Rattle.sample.proofs.unpack.Statement.{statement}
-use Rattle.sample.proofs.unpack.Tie as tie
+use Rattle.stages.proofs.unpack.Statement.{statement}
+use Rattle.stages.proofs.unpack.Tie as tie
 
 abbrev Inv-loop : tie.InvT-loop
 Inv-loop «data» list₀ i₀ list i = length list ≡ length list₀
