@@ -18,10 +18,10 @@ impl Seed {
         (self.next() >> 20) % n
     }
 
-    /// Small numbers often, large ones seldom, either sign: a magnitude with about that mean.
-    fn around(&mut self, mean: u64) -> i32 {
+    /// Small numbers often, large ones seldom, either sign; none above 225, as the quantiser 6 makes of 8-bit colours. More steps: larger.
+    fn around(&mut self, steps: u64) -> i32 {
         let mut m = 1;
-        while m < 2000 && self.below(mean + 1) != 0 {
+        while m < 200 && self.below(steps + 1) != 0 {
             m += 1 + m / 8;
         }
         if self.below(2) == 0 { m as i32 } else { -(m as i32) }
