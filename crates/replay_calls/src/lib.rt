@@ -3,33 +3,6 @@
 use bands::Quant;
 use session::Session;
 
-// ---- the lines
-
-// The record, and no blank after it.
-fn put_record(text: &mut [u8], n: usize, s: Session) -> usize {
-    let a = report::put_number(text, n, s.headers as usize);
-    let b = report::put_number(text, a, s.width as usize);
-    let c = report::put_number(text, b, s.height as usize);
-    report::put_decimal(text, c, s.mode as u64)
-}
-
-fn say_hash(number: u8, value: usize, h: u64) {
-    let mut space = [0u8; 128];
-    let text: &mut [u8] = &mut space;
-    let a = report::put_number(text, 0, number as usize);
-    let b = report::put_number(text, a, value);
-    let k = report::put_hash(text, b, h);
-    report::print(text, k);
-}
-
-fn say_header(number: u8, s: Session) {
-    let mut space = [0u8; 128];
-    let text: &mut [u8] = &mut space;
-    let a = report::put_number(text, 0, number as usize);
-    let k = put_record(text, a, s);
-    report::print(text, k);
-}
-
 fn both_are(a: &[i32], b: &[i32], v: i32) -> bool {
     if lent::all_are(a, v) {
         return lent::all_are(b, v);
@@ -56,35 +29,11 @@ fn work_letter(one: u8, two: u8) -> u8 {
     b'?'
 }
 
-fn say_frame(number: u8, tiles: usize, letter: u8, s: Session, h: u64) {
-    let mut space = [0u8; 128];
-    let text: &mut [u8] = &mut space;
-    let a = report::put_number(text, 0, number as usize);
-    let b = report::put_number(text, a, tiles);
-    let c = report::put_letter(text, b, letter);
-    let e = put_record(text, c, s);
-    let f = report::put_byte(text, e, b' ');
-    let k = report::put_hash(text, f, h);
-    report::print(text, k);
-}
-
-fn say_written(number: u8, n: usize, letter: u8, h: u64) {
-    let mut space = [0u8; 128];
-    let text: &mut [u8] = &mut space;
-    let a = report::put_number(text, 0, number as usize);
-    let b = report::put_number(text, a, n);
-    let c = report::put_letter(text, b, letter);
-    let k = report::put_hash(text, c, h);
-    report::print(text, k);
-}
-
-// ---- the calls
-
 // One header call: its number is said with the record after it.
 pub fn header_call(s: Session, message: &[u8]) -> Session {
     let h = panel::read_header(s, message);
     let after = panel::header_record(h, s);
-    say_header(panel::header_number(h), after);
+    lines::say_header(panel::header_number(h), after);
     after
 }
 
@@ -92,7 +41,7 @@ pub fn header_call(s: Session, message: &[u8]) -> Session {
 pub fn component_call(mode: u8, code: &[u8], list: &mut [i32]) {
     lent::fill_list(list, 7);
     let r = panel::read_component(mode, code, list);
-    say_hash(
+    lines::say_hash(
         code_read::reading_number(r),
         code_read::reading_bits(r),
         lent::hash_list(list),
@@ -104,7 +53,7 @@ pub fn writer_call(mode: u8, list: &[i32], out: &mut [u8]) -> usize {
     lent::fill_bytes(out, 0xA5);
     let w = panel::write_component(mode, list, out);
     let n = code_write::writing_length(w);
-    say_hash(code_write::writing_number(w), n, lent::hash_bytes(out));
+    lines::say_hash(code_write::writing_number(w), n, lent::hash_bytes(out));
     n
 }
 
@@ -113,7 +62,7 @@ pub fn headers_call(width: usize, height: usize, mode: u8, out: &mut [u8]) -> us
     lent::fill_bytes(out, 0xA5);
     let w = panel::write_headers(width, height, mode, out);
     let n = code_write::writing_length(w);
-    say_hash(code_write::writing_number(w), n, lent::hash_bytes(out));
+    lines::say_hash(code_write::writing_number(w), n, lent::hash_bytes(out));
     n
 }
 
@@ -166,21 +115,10 @@ pub fn headers_back(s: Session, out: &[u8]) -> Fourfold {
     }
 }
 
-fn say_fourfold(f: Fourfold) {
-    let mut space = [0u8; 128];
-    let text: &mut [u8] = &mut space;
-    let a = report::put_number(text, 0, f.one as usize);
-    let b = report::put_number(text, a, f.two as usize);
-    let c = report::put_number(text, b, f.three as usize);
-    let e = report::put_number(text, c, f.four as usize);
-    let k = put_record(text, e, f.session);
-    report::print(text, k);
-}
-
 // The same with its line; the record after the last.
 pub fn headers_back_call(s: Session, out: &[u8]) -> Session {
     let f = headers_back(s, out);
-    say_fourfold(f);
+    lines::say_fourfold(f.one, f.two, f.three, f.four, f.session);
     f.session
 }
 
@@ -202,7 +140,7 @@ pub fn frame_call(
     fill_two(y, cb);
     fill_two(cr, scratch);
     let r = panel::read_frame(s, message, picture, y, cb, cr, scratch);
-    say_frame(
+    lines::say_frame(
         panel::frame_number(r),
         panel::frame_tiles(r),
         work_letter(pair_letter(y, cb), pair_letter(cr, scratch)),
@@ -243,7 +181,7 @@ pub fn frame_writer_call(
         out,
     );
     let n = code_write::writing_length(w);
-    say_written(
+    lines::say_written(
         code_write::writing_number(w),
         n,
         pair_letter(list, scratch),

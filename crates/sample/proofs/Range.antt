@@ -1,25 +1,15 @@
 -- What a list that was found in range gives its readers.
 -- Assumes nothing.
-use mathlib.Core.Path.{_≡_, sym, _∙_}
+use mathlib.Core.Path.{_≡_}
 use mathlib.Core.Bool.{Bool, true}
 use mathlib.Core.List.{List}
-use Prim.Native.Nat.{ℕ, _*_, _≤_}
-use native.Mathlib.Nat.{mul-le-mul}
 use lib.IntN.{ℤ}
 use lib.Dec.{lit≤}
 use lib.ListN.{length}
-use Rattle.whole.specs.Tab.{AllNear}
 use Rattle.line.specs.More.{all-wide}
 use Rattle.code_write.specs.Write.{inRange}
-use Rattle.code_write.specs.WriteLaws.{range-is}
 use Rattle.tile.specs.Word.{Plane}
-
-pub near-of : (zs : List ℤ) (r : Bool) → r ≡ inRange zs → r ≡ true → AllNear 32767 zs
-near-of zs r e t = record { all = λ i. record { near = range-is zs (sym e ∙ t) i } }
+use Rattle.sample_waves.specs.Range.{near-of}
 
 pub plane-of : (zs : List ℤ) (r : Bool) → length zs ≡ 4096 → r ≡ inRange zs → r ≡ true → Plane zs
 plane-of zs r l e t = record { len = l; near = all-wide (lit≤ tt) (near-of zs r e t) }
-
--- the bands of a level fit the list
-pub square : (n : ℕ) → n ≤ 32 → n * n ≤ 1024
-square n h = mul-le-mul h h

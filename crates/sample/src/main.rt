@@ -43,103 +43,6 @@ fn samples(q: Quant, code: &[u8], work: &mut [i32], tmp: &mut [i32]) -> u8 {
     0
 }
 
-// The row pass of the level whose bands, n by n, begin at place a: whether its numbers are such that it is made.
-fn rows(work: &[i32], tmp: &mut [i32], a: usize, n: usize) -> bool {
-    if n < 2 {
-        return false;
-    }
-    if 32 < n {
-        return false;
-    }
-    let e = work.len();
-    let k = 4 * (n * n);
-    if e != 4096 {
-        return false;
-    }
-    if a != 4096 - k {
-        return false;
-    }
-    if tmp.len() != 4096 {
-        return false;
-    }
-    if !code_write::in_range(work) {
-        return false;
-    }
-    let z = 0;
-    wavelet::row_pass(&work[a..e], &mut tmp[z..k], n);
-    true
-}
-
-// The whole level.
-fn level(work: &mut [i32], tmp: &mut [i32], a: usize, n: usize) -> bool {
-    if n < 2 {
-        return false;
-    }
-    if 32 < n {
-        return false;
-    }
-    if work.len() != 4096 {
-        return false;
-    }
-    if a != 4096 - 4 * (n * n) {
-        return false;
-    }
-    if tmp.len() != 4096 {
-        return false;
-    }
-    if !code_write::in_range(work) {
-        return false;
-    }
-    wavelet::level_from(work, tmp, a, n, 2 * n);
-    true
-}
-
-fn third_bands(work: &[i32]) {
-    stages::shown(b"4.2.4.3.1.1_Y_LL3", work, 4032, 64);
-    stages::shown(b"4.2.4.3.1.2_Y_HL3", work, 3840, 64);
-    stages::shown(b"4.2.4.3.1.3_Y_LH3", work, 3904, 64);
-    stages::shown(b"4.2.4.3.1.4_Y_HH3", work, 3968, 64);
-}
-
-fn third_level(work: &mut [i32], tmp: &mut [i32]) {
-    third_bands(work);
-    rows(work, tmp, 3840, 8);
-    stages::shown(b"4.2.4.3.1.5_Y_L2", tmp, 0, 128);
-    stages::shown(b"4.2.4.3.1.6_Y_H2", tmp, 128, 128);
-    level(work, tmp, 3840, 8);
-    stages::shown(b"4.2.4.3.1.7_Y_LL2", work, 3840, 256);
-}
-
-fn second_bands(work: &[i32]) {
-    stages::shown(b"4.2.4.3.2.2_Y_HL2", work, 3072, 256);
-    stages::shown(b"4.2.4.3.2.3_Y_LH2", work, 3328, 256);
-    stages::shown(b"4.2.4.3.2.4_Y_HH2", work, 3584, 256);
-}
-
-fn second_level(work: &mut [i32], tmp: &mut [i32]) {
-    second_bands(work);
-    rows(work, tmp, 3072, 16);
-    stages::shown(b"4.2.4.3.2.5_Y_L1", tmp, 0, 512);
-    stages::shown(b"4.2.4.3.2.6_Y_H1", tmp, 512, 512);
-    level(work, tmp, 3072, 16);
-    stages::shown(b"4.2.4.3.2.7_Y_LL1", work, 3072, 1024);
-}
-
-fn first_bands(work: &[i32]) {
-    stages::shown(b"4.2.4.3.3.2_Y_HL1", work, 0, 1024);
-    stages::shown(b"4.2.4.3.3.3_Y_LH1", work, 1024, 1024);
-    stages::shown(b"4.2.4.3.3.4_Y_HH1", work, 2048, 1024);
-}
-
-fn first_level(work: &mut [i32], tmp: &mut [i32]) {
-    first_bands(work);
-    rows(work, tmp, 0, 32);
-    stages::shown(b"4.2.4.3.3.5_Y_L0", tmp, 0, 2048);
-    stages::shown(b"4.2.4.3.3.6_Y_H0", tmp, 2048, 2048);
-    level(work, tmp, 0, 32);
-    stages::shown(b"4.2.4.3.3.7_Y_LL0", work, 0, 4096);
-}
-
 // ---- colour
 
 // The words of a tile: whether the samples are such that they are made.
@@ -250,9 +153,9 @@ fn codes() {
 // Y of 4.2.4, stage by stage.
 fn luma(q: Quant, ys: &mut [i32], tmp: &mut [i32]) {
     luma_code(q, ys);
-    third_level(ys, tmp);
-    second_level(ys, tmp);
-    first_level(ys, tmp);
+    sample_waves::third_level(ys, tmp);
+    sample_waves::second_level(ys, tmp);
+    sample_waves::first_level(ys, tmp);
     stages::stage(b"4.2.4.3.4_y", ys);
 }
 

@@ -8,9 +8,9 @@ use lib.ListN.{length}
 use lib.Seq.{length-take-le}
 use Rattle.whole.specs.Part.{part-near}
 use Rattle.line.specs.More.{all-wide, tail-length}
-use Rattle.sample.proofs.Range.{near-of, square}
-use Rattle.sample.proofs.rows.Statement.{statement}
-use Rattle.sample.proofs.rows.Tie as tie
+use Rattle.sample_waves.specs.Range.{near-of, square}
+use Rattle.sample_waves.proofs.rows.Statement.{statement}
+use Rattle.sample_waves.proofs.rows.Tie as tie
 
 mul-k : tie.Need-mul-k
 mul-k c = omega (arith, square (c .before .before .args .n) (omega (arith, c .if2 .left)))

@@ -1,14 +1,14 @@
 use borrow.Author.Needs.{needs}
-use Rattle.replay.proofs.frame_writer.Statement.{statement}
-use Rattle.replay.proofs.frame_writer.Tie as tie
-use Rattle.replay.proofs.frame_writer.Reads as reads
-use Rattle.replay.proofs.frame_writer.Lts as lts
+use Rattle.frame_records.proofs.frame_writer.Statement.{statement}
+use Rattle.frame_records.proofs.frame_writer.Tie as tie
+use Rattle.frame_records.proofs.frame_writer.Reads as reads
+use Rattle.frame_records.proofs.frame_writer.Lts as lts
 use Rattle.records.proofs.bad.Reads as bad-reads
 use Rattle.records.proofs.with_written.Reads as with-written-reads
-use Rattle.replay.proofs.asked.Reads as asked-reads
-use Rattle.replay.proofs.first.Reads as first-reads
-use Rattle.replay.proofs.frame_writer_part.Reads as frame-writer-part-reads
-use Rattle.replay.proofs.take_sent.Reads as take-sent-reads
+use Rattle.frame_records.proofs.asked.Reads as asked-reads
+use Rattle.frame_records.proofs.first.Reads as first-reads
+use Rattle.frame_records.proofs.frame_writer_part.Reads as frame-writer-part-reads
+use Rattle.frame_records.proofs.take_sent.Reads as take-sent-reads
 
 -- src/main.rt:194:9
 take-sent-requires : tie.Need-take-sent-requires

@@ -6,9 +6,9 @@ use borrow.Author.Tests.{not-false}
 use lib.Dec.{lit≤}
 use lib.ListN.{length}
 use Rattle.line.specs.More.{all-wide}
-use Rattle.sample.proofs.Range.{near-of, square}
-use Rattle.sample.proofs.level.Statement.{statement}
-use Rattle.sample.proofs.level.Tie as tie
+use Rattle.sample_waves.specs.Range.{near-of, square}
+use Rattle.sample_waves.proofs.level.Statement.{statement}
+use Rattle.sample_waves.proofs.level.Tie as tie
 
 mul-if4 : tie.Need-mul-if4
 mul-if4 c = omega (arith, square (c .before .before .before .args .n) (omega (arith, c .before .if2 .left)))

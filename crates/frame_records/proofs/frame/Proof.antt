@@ -1,13 +1,13 @@
 use borrow.Author.Needs.{needs}
-use Rattle.replay.proofs.frame.Statement.{statement}
-use Rattle.replay.proofs.frame.Tie as tie
-use Rattle.replay.proofs.frame.Reads as reads
-use Rattle.replay.proofs.frame.Lts as lts
+use Rattle.frame_records.proofs.frame.Statement.{statement}
+use Rattle.frame_records.proofs.frame.Tie as tie
+use Rattle.frame_records.proofs.frame.Reads as reads
+use Rattle.frame_records.proofs.frame.Lts as lts
 use Rattle.records.proofs.bad.Reads as bad-reads
 use Rattle.records.proofs.going.Reads as going-reads
-use Rattle.replay.proofs.first.Reads as first-reads
-use Rattle.replay.proofs.frame_part.Reads as frame-part-reads
-use Rattle.replay.proofs.take_framed.Reads as take-framed-reads
+use Rattle.frame_records.proofs.first.Reads as first-reads
+use Rattle.frame_records.proofs.frame_part.Reads as frame-part-reads
+use Rattle.frame_records.proofs.take_framed.Reads as take-framed-reads
 
 -- src/main.rt:84:9
 take-framed-requires : tie.Need-take-framed-requires
