@@ -1,62 +1,64 @@
-// The lines that `replay` prints, one for each call: 01's number, its values, the record, a letter for the work lists, a hash of the lent memory. No section
-// of document 01 is made true here; the expected output of the recording has the same lines.
-use session::Session;
+// Lines of text on standard error, with 01's words for its numbers ("Numbers the fitter sees"; issues 8.3 and 8.4).
+use libc::STDERR_FILENO;
 
-// The record, and no blank after it.
-fn put_record(text: &mut [u8], n: usize, s: Session) -> usize {
-    let a = report::put_number(text, n, s.headers as usize);
-    let b = report::put_number(text, a, s.width as usize);
-    let c = report::put_number(text, b, s.height as usize);
-    report::put_decimal(text, c, s.mode as u64)
+pub fn say(text: &[u8]) {
+    io::write_all(STDERR_FILENO, text);
 }
 
-pub fn say_hash(number: u8, value: usize, h: u64) {
-    let mut space = [0u8; 128];
-    let text: &mut [u8] = &mut space;
-    let a = report::put_number(text, 0, number as usize);
-    let b = report::put_number(text, a, value);
-    let k = report::put_hash(text, b, h);
-    report::print(text, k);
+pub fn say_number(n: u64) {
+    io::print_decimal(STDERR_FILENO, n);
 }
 
-pub fn say_header(number: u8, s: Session) {
-    let mut space = [0u8; 128];
-    let text: &mut [u8] = &mut space;
-    let a = report::put_number(text, 0, number as usize);
-    let k = put_record(text, a, s);
-    report::print(text, k);
+// 01's word for a number, behind a blank.
+fn say_word(number: u8) {
+    match number {
+        1 => say(b" cut"),
+        2 => say(b" buffer"),
+        3 => say(b" kind"),
+        4 => say(b" length"),
+        5 => say(b" field"),
+        6 => say(b" too big"),
+        7 => say(b" quant"),
+        8 => say(b" place"),
+        9 => say(b" range"),
+        10 => say(b" overrun"),
+        11 => say(b" tail"),
+        12 => say(b" order"),
+        13 => say(b" room"),
+        _ => say(b""),
+    }
 }
 
-pub fn say_frame(number: u8, tiles: usize, letter: u8, s: Session, h: u64) {
-    let mut space = [0u8; 128];
-    let text: &mut [u8] = &mut space;
-    let a = report::put_number(text, 0, number as usize);
-    let b = report::put_number(text, a, tiles);
-    let c = report::put_letter(text, b, letter);
-    let e = put_record(text, c, s);
-    let f = report::put_byte(text, e, b' ');
-    let k = report::put_hash(text, f, h);
-    report::print(text, k);
+// The end of a line: refused, the number and its word.
+pub fn say_refused(number: u8) {
+    say(b"refused ");
+    say_number(number as u64);
+    say_word(number);
+    say(b"\n");
 }
 
-pub fn say_written(number: u8, n: usize, letter: u8, h: u64) {
-    let mut space = [0u8; 128];
-    let text: &mut [u8] = &mut space;
-    let a = report::put_number(text, 0, number as usize);
-    let b = report::put_number(text, a, n);
-    let c = report::put_letter(text, b, letter);
-    let k = report::put_hash(text, c, h);
-    report::print(text, k);
+// What a header call came to.
+pub fn say_header(count: u64, number: u8) {
+    say(b"header ");
+    say_number(count);
+    say(b": ");
+    if number == 0 {
+        say(b"done\n");
+        return;
+    }
+    say_refused(number);
 }
 
-// The numbers of four header calls, and the record after the last.
-pub fn say_fourfold(one: u8, two: u8, three: u8, four: u8, s: Session) {
-    let mut space = [0u8; 128];
-    let text: &mut [u8] = &mut space;
-    let a = report::put_number(text, 0, one as usize);
-    let b = report::put_number(text, a, two as usize);
-    let c = report::put_number(text, b, three as usize);
-    let e = report::put_number(text, c, four as usize);
-    let k = put_record(text, e, s);
-    report::print(text, k);
+// What a frame call came to.
+pub fn say_frame(count: u64, number: u8, tiles: usize) {
+    say(b"frame ");
+    say_number(count);
+    say(b": ");
+    if number == 0 {
+        say(b"done, ");
+        say_number(tiles as u64);
+        say(b" tiles\n");
+        return;
+    }
+    say_refused(number);
 }

@@ -1,6 +1,6 @@
 // Makes the calls of a recording (standard input) on the public functions of `panel`, and prints one line for each: 01's number, its values, the record, and a
 // hash of the lent memory. A record of the recording is a letter and little-endian numbers of four bytes, then bytes; lent lists hold 7 and lent output A5.
-// The records are in `records` and `frame_records`, the calls in `replay_calls`, their lines in `lines`; here is the loop.
+// The records are in `records` and `frame_records`, the calls in `replay_calls`, their lines in `replay_lines`; here is the loop.
 use records::Desk;
 
 // One record of the recording, by its letter.

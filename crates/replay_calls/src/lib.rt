@@ -33,7 +33,7 @@ fn work_letter(one: u8, two: u8) -> u8 {
 pub fn header_call(s: Session, message: &[u8]) -> Session {
     let h = panel::read_header(s, message);
     let after = panel::header_record(h, s);
-    lines::say_header(panel::header_number(h), after);
+    replay_lines::say_header(panel::header_number(h), after);
     after
 }
 
@@ -41,7 +41,7 @@ pub fn header_call(s: Session, message: &[u8]) -> Session {
 pub fn component_call(mode: u8, code: &[u8], list: &mut [i32]) {
     lent::fill_list(list, 7);
     let r = panel::read_component(mode, code, list);
-    lines::say_hash(
+    replay_lines::say_hash(
         code_read::reading_number(r),
         code_read::reading_bits(r),
         lent::hash_list(list),
@@ -53,7 +53,7 @@ pub fn writer_call(mode: u8, list: &[i32], out: &mut [u8]) -> usize {
     lent::fill_bytes(out, 0xA5);
     let w = panel::write_component(mode, list, out);
     let n = code_write::writing_length(w);
-    lines::say_hash(code_write::writing_number(w), n, lent::hash_bytes(out));
+    replay_lines::say_hash(code_write::writing_number(w), n, lent::hash_bytes(out));
     n
 }
 
@@ -62,7 +62,7 @@ pub fn headers_call(width: usize, height: usize, mode: u8, out: &mut [u8]) -> us
     lent::fill_bytes(out, 0xA5);
     let w = panel::write_headers(width, height, mode, out);
     let n = code_write::writing_length(w);
-    lines::say_hash(code_write::writing_number(w), n, lent::hash_bytes(out));
+    replay_lines::say_hash(code_write::writing_number(w), n, lent::hash_bytes(out));
     n
 }
 
@@ -118,7 +118,7 @@ pub fn headers_back(s: Session, out: &[u8]) -> Fourfold {
 // The same with its line; the record after the last.
 pub fn headers_back_call(s: Session, out: &[u8]) -> Session {
     let f = headers_back(s, out);
-    lines::say_fourfold(f.one, f.two, f.three, f.four, f.session);
+    replay_lines::say_fourfold(f.one, f.two, f.three, f.four, f.session);
     f.session
 }
 
@@ -140,7 +140,7 @@ pub fn frame_call(
     fill_two(y, cb);
     fill_two(cr, scratch);
     let r = panel::read_frame(s, message, picture, y, cb, cr, scratch);
-    lines::say_frame(
+    replay_lines::say_frame(
         panel::frame_number(r),
         panel::frame_tiles(r),
         work_letter(pair_letter(y, cb), pair_letter(cr, scratch)),
@@ -181,7 +181,7 @@ pub fn frame_writer_call(
         out,
     );
     let n = code_write::writing_length(w);
-    lines::say_written(
+    replay_lines::say_written(
         code_write::writing_number(w),
         n,
         pair_letter(list, scratch),
