@@ -4,111 +4,8 @@
 // height of 2 bytes, then the words, all little-endian. The picture starts black. A stream has at most 3,145,728 bytes, a picture at most 1,920 x 1,080 words.
 // The kit has no exit status: where nothing is written, a line on standard error says why.
 use session::Session;
+use show_args::Options;
 use stream::Call;
-
-// ---- arguments
-
-// The arguments by their number, 0 for none; what the next one belongs to (1 -o, 2 -p); whether all is well so far.
-struct Options {
-    file: usize,
-    bmp: usize,
-    pic: usize,
-    wants: u8,
-    good: bool,
-}
-
-// What an argument is: 1 for -o, 2 for -p, 3 for any other that begins with '-', else 0.
-fn option_kind(i: usize) -> u8 {
-    let mut text = [0u8; 3];
-    let n = os::arg(i, &mut text);
-    if text[0] != b'-' {
-        return 0;
-    }
-    if n != 2 {
-        return 3;
-    }
-    match text[1] {
-        b'o' => 1,
-        b'p' => 2,
-        _ => 3,
-    }
-}
-
-fn none() -> Options {
-    Options {
-        file: 0,
-        bmp: 0,
-        pic: 0,
-        wants: 0,
-        good: true,
-    }
-}
-
-fn with_file(o: Options, i: usize) -> Options {
-    Options {
-        file: i,
-        bmp: o.bmp,
-        pic: o.pic,
-        wants: 0,
-        good: o.good && o.file == 0,
-    }
-}
-
-fn with_bmp(o: Options, i: usize) -> Options {
-    Options {
-        file: o.file,
-        bmp: i,
-        pic: o.pic,
-        wants: 0,
-        good: o.good && o.bmp == 0,
-    }
-}
-
-fn with_pic(o: Options, i: usize) -> Options {
-    Options {
-        file: o.file,
-        bmp: o.bmp,
-        pic: i,
-        wants: 0,
-        good: o.good && o.pic == 0,
-    }
-}
-
-fn wanting(o: Options, kind: u8) -> Options {
-    Options {
-        file: o.file,
-        bmp: o.bmp,
-        pic: o.pic,
-        wants: kind,
-        good: o.good && kind < 3,
-    }
-}
-
-// The options with one argument more.
-fn with_argument(o: Options, i: usize) -> Options {
-    if o.wants == 1 {
-        return with_bmp(o, i);
-    }
-    if o.wants == 2 {
-        return with_pic(o, i);
-    }
-    let kind = option_kind(i);
-    if kind == 0 {
-        return with_file(o, i);
-    }
-    wanting(o, kind)
-}
-
-fn arguments() -> Options {
-    let n = os::arg_count();
-    let mut o = none();
-    let mut i: usize = 1;
-    while i < n {
-        o = with_argument(o, i);
-        i += 1;
-    }
-    o
-}
 
 // ---- the calls
 
@@ -181,19 +78,14 @@ fn after_frame(d: Desk, end: usize, count: u64) -> Desk {
 }
 
 // One frame call; a refused one leaves the picture as it was.
-fn frame(
-    d: Desk,
-    input: &[u8],
-    end: usize,
-    picture: &mut [u16],
-    y: &mut [i32],
-    cb: &mut [i32],
-    cr: &mut [i32],
-    scratch: &mut [i32],
-) -> Desk {
+fn frame(d: Desk, input: &[u8], end: usize, picture: &mut [u16]) -> Desk {
     let count = std::num::wrapping_add_u64(d.frames, 1);
     let m = stream::message(input, d.at, end);
-    let f = panel::read_frame(d.s, m, picture, y, cb, cr, scratch);
+    let mut y = [0i32; 4096];
+    let mut cb = [0i32; 4096];
+    let mut cr = [0i32; 4096];
+    let mut scratch = [0i32; 4096];
+    let f = panel::read_frame(d.s, m, picture, &mut y, &mut cb, &mut cr, &mut scratch);
     lines::say_frame(count, panel::frame_number(f), panel::frame_tiles(f));
     after_frame(d, end, count)
 }
@@ -211,35 +103,20 @@ fn at_end(d: Desk, end: usize) -> Desk {
 }
 
 // One call of the stream.
-fn step(
-    d: Desk,
-    input: &[u8],
-    picture: &mut [u16],
-    y: &mut [i32],
-    cb: &mut [i32],
-    cr: &mut [i32],
-    scratch: &mut [i32],
-) -> Desk {
+fn step(d: Desk, input: &[u8], picture: &mut [u16]) -> Desk {
     match stream::call_at(input, d.at) {
         Call::Header(end) => header(d, input, end),
-        Call::Frame(end) => frame(d, input, end, picture, y, cb, cr, scratch),
+        Call::Frame(end) => frame(d, input, end, picture),
         Call::End => at_end(d, input.len()),
     }
 }
 
 // All calls of the stream: each takes at least a byte, so there are no more of them than bytes.
-fn run(
-    input: &[u8],
-    picture: &mut [u16],
-    y: &mut [i32],
-    cb: &mut [i32],
-    cr: &mut [i32],
-    scratch: &mut [i32],
-) -> Desk {
+fn run(input: &[u8], picture: &mut [u16]) -> Desk {
     let mut d = fresh();
     let mut turns = input.len();
     while 0 < turns && d.at < input.len() {
-        d = step(d, input, picture, y, cb, cr, scratch);
+        d = step(d, input, picture);
         turns -= 1;
     }
     d
@@ -265,28 +142,12 @@ fn finish(o: Options, d: Desk, picture: &[u16]) {
     picture_out::pic_out(o.pic, picture, w, h);
 }
 
-fn show(
-    o: Options,
-    input: &[u8],
-    picture: &mut [u16],
-    y: &mut [i32],
-    cb: &mut [i32],
-    cr: &mut [i32],
-    scratch: &mut [i32],
-) {
-    let d = run(input, picture, y, cb, cr, scratch);
+fn show(o: Options, input: &[u8], picture: &mut [u16]) {
+    let d = run(input, picture);
     finish(o, d, picture);
 }
 
-fn load_and_show(
-    o: Options,
-    input: &mut [u8],
-    picture: &mut [u16],
-    y: &mut [i32],
-    cb: &mut [i32],
-    cr: &mut [i32],
-    scratch: &mut [i32],
-) {
+fn load_and_show(o: Options, input: &mut [u8], picture: &mut [u16]) {
     let l = loading::load(
         o.file,
         input,
@@ -299,40 +160,20 @@ fn load_and_show(
     if input.len() < n {
         return;
     }
-    show(o, &input[0..n], picture, y, cb, cr, scratch);
+    show(o, &input[0..n], picture);
 }
 
 // The two large ones come as arrays: their lengths are known without counting to a million.
-fn show_in(
-    o: Options,
-    input: &mut [u8; 3145728],
-    picture: &mut [u16; 2073600],
-    y: &mut [i32],
-    cb: &mut [i32],
-    cr: &mut [i32],
-    scratch: &mut [i32],
-) {
-    load_and_show(o, input, picture, y, cb, cr, scratch);
+fn show_in(o: Options, input: &mut [u8; 3145728], picture: &mut [u16; 2073600]) {
+    load_and_show(o, input, picture);
 }
 
 fn main() {
     let mut input = [0u8; 3145728];
     let mut picture = [0u16; 2073600];
-    let mut y = [0i32; 4096];
-    let mut cb = [0i32; 4096];
-    let mut cr = [0i32; 4096];
-    let mut scratch = [0i32; 4096];
-    let o = arguments();
+    let o = show_args::arguments();
     if o.good && o.wants == 0 {
-        show_in(
-            o,
-            &mut input,
-            &mut picture,
-            &mut y,
-            &mut cb,
-            &mut cr,
-            &mut scratch,
-        );
+        show_in(o, &mut input, &mut picture);
         return;
     }
     lines::say(b"usage: show [FILE] [-o OUT.bmp] [-p OUT.pic]\n");

@@ -11,80 +11,48 @@ use Rattle.show.proofs.fresh.Reads as fresh-reads
 use Rattle.show.proofs.step.Reads as step-reads
 
 abbrev Inv-loop : tie.InvT-loop
-Inv-loop input picture₀ y₀ cb₀ cr₀ scratch₀ d₀ turns₀ picture y cb cr scratch d turns = (length picture ≡ length picture₀) × (length y ≡ length y₀) × (length cb ≡ length cb₀) × (length cr ≡ length cr₀) × (length scratch ≡ length scratch₀)
+Inv-loop input picture₀ d₀ turns₀ picture d turns = length picture ≡ length picture₀
 
 abbrev μ-loop : tie.MeasureT-loop
-μ-loop input picture₀ y₀ cb₀ cr₀ scratch₀ d₀ turns₀ picture y cb cr scratch d turns = turns
+μ-loop input picture₀ d₀ turns₀ picture d turns = turns
 
--- src/main.rt:322:9
+-- src/main.rt:116:9
 fresh-requires : tie.Need-fresh-requires Inv-loop μ-loop
 fresh-requires c κs = search needs
 
--- src/main.rt:324:5
+-- src/main.rt:118:5
 loop-holds : tie.Need-loop-holds Inv-loop μ-loop
-loop-holds c = (refl, refl, refl, refl, refl)
+loop-holds c = refl
 
--- src/main.rt:325:9
+-- src/main.rt:119:9
 step-requires : tie.Need-step-requires Inv-loop μ-loop
 step-requires c κs = search needs
 
--- src/main.rt:326:9
+-- src/main.rt:120:9
 sub-turns : tie.Need-sub-turns Inv-loop μ-loop
 sub-turns c = search needs
 
--- src/main.rt:324:5
+-- src/main.rt:118:5
 loop-less : tie.Need-loop-less Inv-loop μ-loop
 loop-less c = search needs
 
--- src/main.rt:324:5
+-- src/main.rt:118:5
 loop-again : tie.Need-loop-again Inv-loop μ-loop
-loop-again c = (search needs, search needs, search needs, search needs, search needs)
+loop-again c = search needs
 
--- src/main.rt:314:1
+-- src/main.rt:115:1
 same-length : tie.Need-same-length Inv-loop μ-loop
 same-length c = search needs
 
--- src/main.rt:314:1
-same-length-2 : tie.Need-same-length-2 Inv-loop μ-loop
-same-length-2 c = search needs
-
--- src/main.rt:314:1
-same-length-3 : tie.Need-same-length-3 Inv-loop μ-loop
-same-length-3 c = search needs
-
--- src/main.rt:314:1
-same-length-4 : tie.Need-same-length-4 Inv-loop μ-loop
-same-length-4 c = search needs
-
--- src/main.rt:314:1
-same-length-5 : tie.Need-same-length-5 Inv-loop μ-loop
-same-length-5 c = search needs
-
--- src/main.rt:314:1
+-- src/main.rt:115:1
 returns : tie.Need-returns Inv-loop μ-loop
 returns c = search needs
 
--- src/main.rt:314:1
-same-length-6 : tie.Need-same-length-6 Inv-loop μ-loop
-same-length-6 c = search needs
+-- src/main.rt:115:1
+same-length-2 : tie.Need-same-length-2 Inv-loop μ-loop
+same-length-2 c = search needs
 
--- src/main.rt:314:1
-same-length-7 : tie.Need-same-length-7 Inv-loop μ-loop
-same-length-7 c = search needs
-
--- src/main.rt:314:1
-same-length-8 : tie.Need-same-length-8 Inv-loop μ-loop
-same-length-8 c = search needs
-
--- src/main.rt:314:1
-same-length-9 : tie.Need-same-length-9 Inv-loop μ-loop
-same-length-9 c = search needs
-
--- src/main.rt:314:1
-same-length-10 : tie.Need-same-length-10 Inv-loop μ-loop
-same-length-10 c = search needs
-
--- src/main.rt:314:1
+-- src/main.rt:115:1
 returns-2 : tie.Need-returns-2 Inv-loop μ-loop
 returns-2 c = search needs
 
@@ -101,14 +69,6 @@ run-spec =
     loop-less
     loop-again
     same-length
-    same-length-2
-    same-length-3
-    same-length-4
-    same-length-5
     returns
-    same-length-6
-    same-length-7
-    same-length-8
-    same-length-9
-    same-length-10
+    same-length-2
     returns-2)

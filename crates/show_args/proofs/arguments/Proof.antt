@@ -3,13 +3,13 @@ use Prim.Native.Nat.{_≤_, _-_}
 use mathlib.Core.Path.{_≡_, refl}
 use lib.ListN.{length}
 use borrow.Author.Needs.{needs}
-use Rattle.send.proofs.arguments.Statement.{statement}
-use Rattle.send.proofs.arguments.Tie as tie
-use Rattle.send.proofs.arguments.Reads as reads
-use Rattle.send.proofs.arguments.Lts as lts
+use Rattle.show_args.proofs.arguments.Statement.{statement}
+use Rattle.show_args.proofs.arguments.Tie as tie
+use Rattle.show_args.proofs.arguments.Reads as reads
+use Rattle.show_args.proofs.arguments.Lts as lts
 use Rattle.os.proofs.arg_count.Reads as arg-count-reads
-use Rattle.send.proofs.none.Reads as none-reads
-use Rattle.send.proofs.with_argument.Reads as with-argument-reads
+use Rattle.show_args.proofs.none.Reads as none-reads
+use Rattle.show_args.proofs.with_argument.Reads as with-argument-reads
 
 abbrev Inv-loop : tie.InvT-loop
 Inv-loop n o₀ i₀ o i = 1 ≤ i
@@ -17,35 +17,35 @@ Inv-loop n o₀ i₀ o i = 1 ≤ i
 abbrev μ-loop : tie.MeasureT-loop
 μ-loop n o₀ i₀ o i = n - i
 
--- src/main.rt:199:9
+-- src/main.rt:106:9
 arg-count-requires : tie.Need-arg-count-requires Inv-loop μ-loop
 arg-count-requires c κs = search needs
 
--- src/main.rt:200:9
+-- src/main.rt:107:9
 none-requires : tie.Need-none-requires Inv-loop μ-loop
 none-requires c κs = search needs
 
--- src/main.rt:202:5
+-- src/main.rt:109:5
 loop-holds : tie.Need-loop-holds Inv-loop μ-loop
 loop-holds c = omega arith
 
--- src/main.rt:203:9
+-- src/main.rt:110:9
 with-argument-requires : tie.Need-with-argument-requires Inv-loop μ-loop
 with-argument-requires c κs = search needs
 
--- src/main.rt:204:9
+-- src/main.rt:111:9
 add-i : tie.Need-add-i Inv-loop μ-loop
 add-i c = search needs
 
--- src/main.rt:202:5
+-- src/main.rt:109:5
 loop-less : tie.Need-loop-less Inv-loop μ-loop
 loop-less c = search needs
 
--- src/main.rt:202:5
+-- src/main.rt:109:5
 loop-again : tie.Need-loop-again Inv-loop μ-loop
 loop-again c = omega arith
 
--- src/main.rt:198:1
+-- src/main.rt:105:1
 returns : tie.Need-returns Inv-loop μ-loop
 returns c = search needs
 
