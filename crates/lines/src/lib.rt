@@ -1,11 +1,16 @@
-// Lines of text on standard error, with 01's words for its numbers ("Numbers the fitter sees"; issues 8.3 and 8.4).
+// Lines of text on standard error, with 01's words for its numbers ("Numbers the fitter sees"; issues 8.3 and 8.4). They answer nothing and change nothing
+// lent: they only talk to the outside.
 use libc::STDERR_FILENO;
 
-pub fn say(text: &[u8]) {
+pub fn say(text: &[u8])
+    ensures { λ _. ⌜ Unit ⌝ }
+{
     io::write_all(STDERR_FILENO, text);
 }
 
-pub fn say_number(n: u64) {
+pub fn say_number(n: u64)
+    ensures { λ _. ⌜ Unit ⌝ }
+{
     io::print_decimal(STDERR_FILENO, n);
 }
 
@@ -30,7 +35,9 @@ fn say_word(number: u8) {
 }
 
 // The end of a line: refused, the number and its word.
-pub fn say_refused(number: u8) {
+pub fn say_refused(number: u8)
+    ensures { λ _. ⌜ Unit ⌝ }
+{
     say(b"refused ");
     say_number(number as u64);
     say_word(number);
@@ -38,7 +45,9 @@ pub fn say_refused(number: u8) {
 }
 
 // What a header call came to.
-pub fn say_header(count: u64, number: u8) {
+pub fn say_header(count: u64, number: u8)
+    ensures { λ _. ⌜ Unit ⌝ }
+{
     say(b"header ");
     say_number(count);
     say(b": ");
@@ -50,7 +59,9 @@ pub fn say_header(count: u64, number: u8) {
 }
 
 // What a frame call came to.
-pub fn say_frame(count: u64, number: u8, tiles: usize) {
+pub fn say_frame(count: u64, number: u8, tiles: usize)
+    ensures { λ _. ⌜ Unit ⌝ }
+{
     say(b"frame ");
     say_number(count);
     say(b": ");

@@ -1,4 +1,6 @@
 // Reads a whole input, a file that an argument names or standard input, into a buffer (issues 8.3 and 8.4).
+ghost use Prim.Native.Nat.{_≤_};
+ghost use lib.ListN.{length};
 use libc::STDIN_FILENO;
 
 // How many bytes were read, and whether they are the whole input.
@@ -33,7 +35,9 @@ fn is_end(fd: i32, too_long: &[u8]) -> bool {
     false
 }
 
-fn load_from(fd: i32, data: &mut [u8], too_long: &[u8]) -> Loaded {
+fn load_from(fd: i32, data: &mut [u8], too_long: &[u8]) -> Loaded
+    ensures { λ l. ⌜ l .n ≤ length (now («data» .exit)) ⌝ }
+{
     let n = io::read_full(fd, data);
     Loaded {
         n: n,
@@ -42,7 +46,9 @@ fn load_from(fd: i32, data: &mut [u8], too_long: &[u8]) -> Loaded {
 }
 
 // Reads the file that argument i names, standard input where i is 0; the line is said where the input is longer than the buffer.
-pub fn load(i: usize, data: &mut [u8], too_long: &[u8]) -> Loaded {
+pub fn load(i: usize, data: &mut [u8], too_long: &[u8]) -> Loaded
+    ensures { λ l. ⌜ l .n ≤ length (now («data» .exit)) ⌝ }
+{
     if i == 0 {
         return load_from(STDIN_FILENO, data, too_long);
     }

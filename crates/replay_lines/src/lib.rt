@@ -10,7 +10,9 @@ fn put_record(text: &mut [u8], n: usize, s: Session) -> usize {
     report::put_decimal(text, c, s.mode as u64)
 }
 
-pub fn say_hash(number: u8, value: usize, h: u64) {
+pub fn say_hash(number: u8, value: usize, h: u64)
+    ensures { λ _. ⌜ Unit ⌝ }
+{
     let mut space = [0u8; 128];
     let text: &mut [u8] = &mut space;
     let a = report::put_number(text, 0, number as usize);
@@ -19,7 +21,9 @@ pub fn say_hash(number: u8, value: usize, h: u64) {
     report::print(text, k);
 }
 
-pub fn say_header(number: u8, s: Session) {
+pub fn say_header(number: u8, s: Session)
+    ensures { λ _. ⌜ Unit ⌝ }
+{
     let mut space = [0u8; 128];
     let text: &mut [u8] = &mut space;
     let a = report::put_number(text, 0, number as usize);
@@ -27,7 +31,9 @@ pub fn say_header(number: u8, s: Session) {
     report::print(text, k);
 }
 
-pub fn say_frame(number: u8, tiles: usize, letter: u8, s: Session, h: u64) {
+pub fn say_frame(number: u8, tiles: usize, letter: u8, s: Session, h: u64)
+    ensures { λ _. ⌜ Unit ⌝ }
+{
     let mut space = [0u8; 128];
     let text: &mut [u8] = &mut space;
     let a = report::put_number(text, 0, number as usize);
@@ -39,7 +45,9 @@ pub fn say_frame(number: u8, tiles: usize, letter: u8, s: Session, h: u64) {
     report::print(text, k);
 }
 
-pub fn say_written(number: u8, n: usize, letter: u8, h: u64) {
+pub fn say_written(number: u8, n: usize, letter: u8, h: u64)
+    ensures { λ _. ⌜ Unit ⌝ }
+{
     let mut space = [0u8; 128];
     let text: &mut [u8] = &mut space;
     let a = report::put_number(text, 0, number as usize);
@@ -50,7 +58,9 @@ pub fn say_written(number: u8, n: usize, letter: u8, h: u64) {
 }
 
 // The numbers of four header calls, and the record after the last.
-pub fn say_fourfold(one: u8, two: u8, three: u8, four: u8, s: Session) {
+pub fn say_fourfold(one: u8, two: u8, three: u8, four: u8, s: Session)
+    ensures { λ _. ⌜ Unit ⌝ }
+{
     let mut space = [0u8; 128];
     let text: &mut [u8] = &mut space;
     let a = report::put_number(text, 0, one as usize);
