@@ -1,70 +1,72 @@
 use native.Mathlib.Omega.{arith}
 use Prim.Native.Nat.{_≤_, _-_}
 use mathlib.Core.Path.{_≡_, refl}
-use lib.ListN.{length, length-set}
+use lib.ListN.{length, take, length-set}
 use borrow.Author.Needs.{needs}
+use Rattle.wire.specs.Le.{patch}
+use Rattle.report.specs.LineLaws.{put-not, end-not, end-fits, copied-none, copied-next, copied-all}
 use Rattle.report.proofs.append.Statement.{statement}
 use Rattle.report.proofs.append.Tie as tie
 use Rattle.report.proofs.append.Reads as reads
 use Rattle.report.proofs.append.Lts as lts
 
 abbrev Inv-loop : tie.InvT-loop
-Inv-loop text₀ n more i₀ text i = (i ≤ length more) × (length text ≡ length text₀)
+Inv-loop text₀ n more i₀ text i = (i ≤ length more) × (length text ≡ length text₀) × (text ≡ patch text₀ n (take i more))
 
 abbrev μ-loop : tie.MeasureT-loop
 μ-loop text₀ n more i₀ text i = length more - i
 
--- src/main.rt:230:9
+-- src/lib.rt:23:9
 returns : tie.Need-returns Inv-loop μ-loop
-returns c = search needs
+returns c = (put-not _ _ _ (omega arith), end-not _ _ _ (omega arith))
 
--- src/main.rt:232:8
+-- src/lib.rt:25:8
 sub-if2 : tie.Need-sub-if2 Inv-loop μ-loop
 sub-if2 c = search needs
 
--- src/main.rt:233:9
+-- src/lib.rt:26:9
 returns-2 : tie.Need-returns-2 Inv-loop μ-loop
-returns-2 c = search needs
+returns-2 c = (put-not _ _ _ (omega arith), end-not _ _ _ (omega arith))
 
--- src/main.rt:236:5
+-- src/lib.rt:29:5
 loop-holds : tie.Need-loop-holds Inv-loop μ-loop
-loop-holds c = (omega arith, refl)
+loop-holds c = (omega arith, refl, copied-none _ (c .before .before .args .more .now) _)
 
--- src/main.rt:237:23
+-- src/lib.rt:30:23
 shared-slice-read-text : tie.Need-shared-slice-read-text Inv-loop μ-loop
 shared-slice-read-text c = search needs
 
--- src/main.rt:237:14
+-- src/lib.rt:30:14
 add-text : tie.Need-add-text Inv-loop μ-loop
-add-text c = search needs
+add-text c = omega arith
 
--- src/main.rt:237:9
+-- src/lib.rt:30:9
 slice-write-text : tie.Need-slice-write-text Inv-loop μ-loop
-slice-write-text c = search needs
+slice-write-text c = omega arith
 
--- src/main.rt:238:9
+-- src/lib.rt:31:9
 add-i : tie.Need-add-i Inv-loop μ-loop
-add-i c = search needs
+add-i c = omega arith
 
--- src/main.rt:236:5
+-- src/lib.rt:29:5
 loop-less : tie.Need-loop-less Inv-loop μ-loop
-loop-less c = search needs
+loop-less c = omega arith
 
--- src/main.rt:236:5
+-- src/lib.rt:29:5
 loop-again : tie.Need-loop-again Inv-loop μ-loop
-loop-again c = (omega arith, simp length-set (c .before .before .loop .inv .1))
+loop-again c = (omega arith, simp length-set (c .before .before .loop .inv .1), copied-next _ _ _ _ _ (c .before .before .loop .inv .2) (c .before .loop-test .taken) (omega arith) (c .before .before .loop .inv .1))
 
--- src/main.rt:240:5
+-- src/lib.rt:33:5
 add-result : tie.Need-add-result Inv-loop μ-loop
-add-result c = search needs
+add-result c = omega arith
 
--- src/main.rt:228:1
+-- src/lib.rt:18:1
 same-length : tie.Need-same-length Inv-loop μ-loop
 same-length c = c .before .loop .inv .1
 
--- src/main.rt:228:1
+-- src/lib.rt:18:1
 returns-3 : tie.Need-returns-3 Inv-loop μ-loop
-returns-3 c = search needs
+returns-3 c = (copied-all _ _ _ _ _ (c .before .loop .inv .2) (c .loop-test .left) (omega arith), end-fits _ _ _ _ (omega arith) refl)
 
 pub append-spec : {M : Type 1} → statement M
 append-spec =
