@@ -43,6 +43,24 @@ fn frame_part(
     true
 }
 
+// The same on lists of its own.
+fn frame_on(d: Desk, g: Three, message: &[u8], picture: &mut [u16]) -> bool {
+    let mut y = [0i32; 8192];
+    let mut cb = [0i32; 8192];
+    let mut cr = [0i32; 8192];
+    let mut scratch = [0i32; 4096];
+    frame_part(
+        d,
+        g,
+        message,
+        picture,
+        &mut y,
+        &mut cb,
+        &mut cr,
+        &mut scratch,
+    )
+}
+
 // The first n bytes, none where there are fewer.
 fn first(s: &[u8], n: usize) -> &[u8] {
     if n <= s.len() {
@@ -70,45 +88,27 @@ fn take_framed(input: &mut [u8], c: In, message: &mut [u8]) -> Framed {
 }
 
 // 'F': a frame call on a message.
-pub fn frame(
-    d: Desk,
-    input: &mut [u8],
-    message: &mut [u8],
-    picture: &mut [u16],
-    y: &mut [i32],
-    cb: &mut [i32],
-    cr: &mut [i32],
-    scratch: &mut [i32],
-) -> Desk {
+pub fn frame(d: Desk, input: &mut [u8], message: &mut [u8], picture: &mut [u16]) -> Desk {
     let f = take_framed(input, d.from, message);
     let from = f.from;
     let n = f.count;
     if MESSAGE < n || !from.whole {
         return records::bad(d);
     }
-    if frame_part(d, f.lists, first(message, n), picture, y, cb, cr, scratch) {
+    if frame_on(d, f.lists, first(message, n), picture) {
         return records::going(d, from);
     }
     records::bad(d)
 }
 
 // 'G': a frame call on the bytes that the frame writer wrote last.
-pub fn frame_again(
-    d: Desk,
-    input: &mut [u8],
-    out: &[u8],
-    picture: &mut [u16],
-    y: &mut [i32],
-    cb: &mut [i32],
-    cr: &mut [i32],
-    scratch: &mut [i32],
-) -> Desk {
+pub fn frame_again(d: Desk, input: &mut [u8], out: &[u8], picture: &mut [u16]) -> Desk {
     let g = recording::take_three(input, d.from);
     let from = g.from;
     if !from.whole {
         return records::bad(d);
     }
-    if frame_part(d, g, first(out, d.written), picture, y, cb, cr, scratch) {
+    if frame_on(d, g, first(out, d.written), picture) {
         return records::going(d, from);
     }
     records::bad(d)
@@ -181,29 +181,22 @@ fn frame_writer_part(
     )
 }
 
+// The same on lists of its own.
+fn frame_writer_on(a: Asked, lists: Four, pixels: &[u8], out: &mut [u8]) -> usize {
+    let mut list = [0i32; 8192];
+    let mut scratch = [0i32; 8192];
+    frame_writer_part(a, lists, pixels, &mut list, &mut scratch, out)
+}
+
 // 'Z': the frame writer.
-pub fn frame_writer(
-    d: Desk,
-    input: &mut [u8],
-    pixels: &mut [u8],
-    list: &mut [i32],
-    scratch: &mut [i32],
-    out: &mut [u8],
-) -> Desk {
+pub fn frame_writer(d: Desk, input: &mut [u8], pixels: &mut [u8], out: &mut [u8]) -> Desk {
     let a = take_sent(input, d.from, pixels);
     let from = a.from;
     let v = a.v;
     if !from.whole {
         return records::bad(d);
     }
-    let n = frame_writer_part(
-        asked(a.size, v),
-        a.lists,
-        first(pixels, a.count),
-        list,
-        scratch,
-        out,
-    );
+    let n = frame_writer_on(asked(a.size, v), a.lists, first(pixels, a.count), out);
     if out.len() < n {
         return records::bad(d);
     }

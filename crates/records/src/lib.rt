@@ -140,88 +140,95 @@ fn header(d: Desk, input: &mut [u8], message: &mut [u8]) -> Desk {
     with_session(d, from, header_part(d.s, message, a.value))
 }
 
-// 'C'
-fn component(d: Desk, input: &mut [u8], message: &mut [u8], list: &mut [i32]) -> Desk {
-    let g = recording::take_three(input, d.from);
-    let len = g.b;
-    let n = g.c;
+// The component reader on the part of a list that is lent; false where the recording asks for more than there is.
+fn component_part(mode: usize, code: &[u8], len: usize) -> bool {
+    let mut space = [0i32; 8192];
+    let list: &mut [i32] = &mut space;
     if list.len() < len {
-        return bad(d);
+        return false;
     }
-    if message.len() < n {
-        return bad(d);
+    replay_calls::component_call(recording::byte_of(mode), code, &mut list[0..len]);
+    true
+}
+
+// The same on the first n bytes.
+fn component_on(mode: usize, s: &[u8], n: usize, len: usize) -> bool {
+    if s.len() < n {
+        return false;
     }
-    let m = &mut message[0..n];
-    let from = recording::take_bytes(input, g.from, m);
+    component_part(mode, &s[0..n], len)
+}
+
+// 'C'
+fn component(d: Desk, input: &mut [u8], message: &mut [u8]) -> Desk {
+    let g = recording::take_three(input, d.from);
+    let from = recording::take_message(input, g.from, message, g.c);
     if !from.whole {
         return bad(d);
     }
-    replay_calls::component_call(recording::byte_of(g.a), m, &mut list[0..len]);
-    going(d, from)
+    if component_on(g.a, message, g.c, g.b) {
+        return going(d, from);
+    }
+    bad(d)
 }
 
 // 'D'
-fn component_again(d: Desk, input: &mut [u8], out: &[u8], list: &mut [i32]) -> Desk {
+fn component_again(d: Desk, input: &mut [u8], out: &[u8]) -> Desk {
     let a = recording::number(input, d.from);
     let from = a.from;
-    let n = d.written;
     if !from.whole {
         return bad(d);
     }
-    if out.len() < n {
-        return bad(d);
+    if component_on(a.value, out, d.written, 4096) {
+        return going(d, from);
     }
-    if list.len() < 4096 {
-        return bad(d);
-    }
-    replay_calls::component_call(recording::byte_of(a.value), &out[0..n], &mut list[0..4096]);
-    going(d, from)
+    bad(d)
 }
 
+// The component writer on the first n numbers of a list; a count of bytes beyond the output where the recording asks for more than there is.
 fn writer_part(mode: usize, list: &[i32], n: usize, out: &mut [u8], room: usize) -> usize {
     if list.len() < n {
-        return 0;
+        return usize::MAX;
     }
     if out.len() < room {
-        return 0;
+        return usize::MAX;
     }
     replay_calls::writer_call(recording::byte_of(mode), &list[0..n], &mut out[0..room])
 }
 
-// What a 'W' asks for: mode, room, and a list of so many numbers.
-struct Asked {
-    mode: usize,
-    room: usize,
+// What a 'W' came to: the bytes written, and where the input stands.
+struct Wrote {
     count: usize,
-    good: bool,
     from: In,
 }
 
-fn take_asked(input: &mut [u8], c: In, list: &mut [i32]) -> Asked {
+fn writer_asked(input: &mut [u8], c: In, out: &mut [u8]) -> Wrote {
+    let mut space = [0i32; 8192];
+    let list: &mut [i32] = &mut space;
     let g = recording::take_three(input, c);
     let r = recording::take_runs(input, g.from, g.c, list);
     let from = r.from;
-    Asked {
-        mode: g.a,
-        room: g.b,
-        count: r.count,
-        good: from.whole && r.fits,
+    if r.fits && from.whole {
+        return Wrote {
+            count: writer_part(g.a, list, r.count, out, g.b),
+            from: from,
+        };
+    }
+    Wrote {
+        count: usize::MAX,
         from: from,
     }
 }
 
 // 'W'
-fn writer(d: Desk, input: &mut [u8], list: &mut [i32], out: &mut [u8]) -> Desk {
-    let a = take_asked(input, d.from, list);
-    let from = a.from;
-    if !a.good {
+fn writer(d: Desk, input: &mut [u8], out: &mut [u8]) -> Desk {
+    let w = writer_asked(input, d.from, out);
+    let from = w.from;
+    let n = w.count;
+    if out.len() < n {
         return bad(d);
     }
-    if out.len() < a.room {
-        return bad(d);
-    }
-    let k = writer_part(a.mode, list, a.count, out, a.room);
-    with_written(d, from, k)
+    with_written(d, from, n)
 }
 
 // 'X'
@@ -257,16 +264,15 @@ pub fn record(
     message: &mut [u8],
     out: &mut [u8],
     picture: &mut [u16],
-    list: &mut [i32],
 ) -> Desk {
     match letter {
         b'N' => fresh(d.from),
         b'R' => set_record(d, input),
         b'P' => set_picture(d, input, picture),
         b'H' => header(d, input, message),
-        b'C' => component(d, input, message, list),
-        b'D' => component_again(d, input, out, list),
-        b'W' => writer(d, input, list, out),
+        b'C' => component(d, input, message),
+        b'D' => component_again(d, input, out),
+        b'W' => writer(d, input, out),
         b'X' => headers(d, input, out),
         b'Y' => headers_again(d, out),
         _ => bad(d),

@@ -11,16 +11,12 @@ fn replayed(
     message: &mut [u8],
     out: &mut [u8],
     picture: &mut [u16],
-    list: &mut [i32],
-    cb: &mut [i32],
-    cr: &mut [i32],
-    scratch: &mut [i32],
 ) -> Desk {
     match letter {
-        b'F' => frame_records::frame(d, input, message, picture, list, cb, cr, scratch),
-        b'G' => frame_records::frame_again(d, input, out, picture, list, cb, cr, scratch),
-        b'Z' => frame_records::frame_writer(d, input, message, list, scratch, out),
-        _ => records::record(d, letter, input, message, out, picture, list),
+        b'F' => frame_records::frame(d, input, message, picture),
+        b'G' => frame_records::frame_again(d, input, out, picture),
+        b'Z' => frame_records::frame_writer(d, input, message, out),
+        _ => records::record(d, letter, input, message, out, picture),
     }
 }
 
@@ -31,10 +27,6 @@ fn step(
     message: &mut [u8],
     out: &mut [u8],
     picture: &mut [u16],
-    list: &mut [i32],
-    cb: &mut [i32],
-    cr: &mut [i32],
-    scratch: &mut [i32],
 ) -> Desk {
     let b = recording::next(input, d.from);
     let from = b.from;
@@ -48,28 +40,15 @@ fn step(
         message,
         out,
         picture,
-        list,
-        cb,
-        cr,
-        scratch,
     )
 }
 
 // A proved loop ends, and nothing says that an input does: the turns are counted down from a number that no run uses up.
-fn run(
-    input: &mut [u8],
-    message: &mut [u8],
-    out: &mut [u8],
-    picture: &mut [u16],
-    list: &mut [i32],
-    cb: &mut [i32],
-    cr: &mut [i32],
-    scratch: &mut [i32],
-) {
+fn run(input: &mut [u8], message: &mut [u8], out: &mut [u8], picture: &mut [u16]) {
     let mut d = records::fresh(recording::start());
     let mut turns = u64::MAX;
     while 0 < turns && d.go {
-        d = step(d, input, message, out, picture, list, cb, cr, scratch);
+        d = step(d, input, message, out, picture);
         turns -= 1;
     }
 }
@@ -80,12 +59,8 @@ fn run_in(
     message: &mut [u8; 1048576],
     out: &mut [u8; 1048576],
     picture: &mut [u16; 1048576],
-    list: &mut [i32],
-    cb: &mut [i32],
-    cr: &mut [i32],
-    scratch: &mut [i32],
 ) {
-    run(input, message, out, picture, list, cb, cr, scratch);
+    run(input, message, out, picture);
 }
 
 fn main() {
@@ -93,18 +68,5 @@ fn main() {
     let mut message = [0u8; 1048576];
     let mut out = [0u8; 1048576];
     let mut picture = [0u16; 1048576];
-    let mut list = [0i32; 8192];
-    let mut cb = [0i32; 8192];
-    let mut cr = [0i32; 8192];
-    let mut scratch = [0i32; 8192];
-    run_in(
-        &mut input,
-        &mut message,
-        &mut out,
-        &mut picture,
-        &mut list,
-        &mut cb,
-        &mut cr,
-        &mut scratch,
-    );
+    run_in(&mut input, &mut message, &mut out, &mut picture);
 }
