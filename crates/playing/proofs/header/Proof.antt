@@ -1,0 +1,62 @@
+use native.Mathlib.Omega.{arith}
+use Prim.Native.Nat.{_≤_, _-_}
+use mathlib.Core.Path.{_≡_, refl}
+use lib.ListN.{length}
+use Rattle.playing.specs.PlayLaws.{header-is}
+use borrow.Author.Needs.{needs}
+use Rattle.playing.proofs.header.Statement.{statement}
+use Rattle.playing.proofs.header.Tie as tie
+use Rattle.playing.proofs.header.Reads as reads
+use Rattle.playing.proofs.header.Lts as lts
+use Rattle.lines.proofs.say_header.Reads as say-header-reads
+use Rattle.panel.proofs.header_number.Reads as header-number-reads
+use Rattle.panel.proofs.header_record.Reads as header-record-reads
+use Rattle.panel.proofs.read_header.Reads as read-header-reads
+use Rattle.playing.proofs.after_header.Reads as after-header-reads
+use Rattle.std.proofs.num.wrapping_add_u64.Reads as wrapping-add-u64-reads
+use Rattle.stream.proofs.message.Reads as message-reads
+
+-- src/lib.rt:64:9
+wrapping-add-u64-requires : tie.Need-wrapping-add-u64-requires
+wrapping-add-u64-requires c κs = search needs
+
+-- src/lib.rt:65:35
+message-requires : tie.Need-message-requires
+message-requires c κs = search needs
+
+-- src/lib.rt:65:9
+read-header-requires : tie.Need-read-header-requires
+read-header-requires c κs = search needs
+
+-- src/lib.rt:66:30
+header-number-requires : tie.Need-header-number-requires
+header-number-requires c κs = search needs
+
+-- src/lib.rt:66:5
+say-header-requires : tie.Need-say-header-requires
+say-header-requires c κs = search needs
+
+-- src/lib.rt:67:21
+header-record-requires : tie.Need-header-record-requires
+header-record-requires c κs = search needs
+
+-- src/lib.rt:67:5
+after-header-requires : tie.Need-after-header-requires
+after-header-requires c κs = search needs
+
+-- src/lib.rt:60:1
+returns : tie.Need-returns
+returns c = header-is _ _ _ _ _ _ _ (c .after-header .ensures) (c .before .header-record .ensures) (c .before .before .before .before .read-header .ensures) (c .before .before .before .before .before .message .ensures)
+
+pub header-spec : {M : Type 1} → statement M
+header-spec =
+    tie.close
+    (tie.spec
+    wrapping-add-u64-requires
+    message-requires
+    read-header-requires
+    header-number-requires
+    say-header-requires
+    header-record-requires
+    after-header-requires
+    returns)

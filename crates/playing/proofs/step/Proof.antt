@@ -1,0 +1,74 @@
+use native.Mathlib.Omega.{arith}
+use Prim.Native.Nat.{_≤_, _-_}
+use mathlib.Core.Path.{_≡_, refl}
+use lib.ListN.{length}
+use Rattle.playing.specs.PlayLaws.{step-header, step-frame, step-end}
+use borrow.Author.Needs.{needs}
+use Rattle.playing.proofs.step.Statement.{statement}
+use Rattle.playing.proofs.step.Tie as tie
+use Rattle.playing.proofs.step.Reads as reads
+use Rattle.playing.proofs.step.Lts as lts
+use Rattle.playing.proofs.at_end.Reads as at-end-reads
+use Rattle.playing.proofs.frame.Reads as frame-reads
+use Rattle.playing.proofs.header.Reads as header-reads
+use Rattle.stream.proofs.call_at.Reads as call-at-reads
+
+-- src/lib.rt:117:11
+call-at-requires : tie.Need-call-at-requires
+call-at-requires c κs = search needs
+
+-- src/lib.rt:118:22
+enum-known-end : tie.Need-enum-known-end
+enum-known-end c = search needs
+
+-- src/lib.rt:118:30
+header-requires : tie.Need-header-requires
+header-requires c κs = search needs
+
+-- src/lib.rt:119:21
+enum-known-end-2 : tie.Need-enum-known-end-2
+enum-known-end-2 c = search needs
+
+-- src/lib.rt:119:29
+frame-requires : tie.Need-frame-requires
+frame-requires c κs = search needs
+
+-- src/lib.rt:120:32
+enum-told : tie.Need-enum-told
+enum-told c = search needs
+
+-- src/lib.rt:120:22
+at-end-requires : tie.Need-at-end-requires
+at-end-requires c κs = search needs
+
+-- src/lib.rt:114:1
+returns : tie.Need-returns
+returns c = step-header _ _ _ _ _ (c .before .before .before .before .call-at .ensures) _ (c .before .before .end .given .1) (c .header .ensures)
+
+-- src/lib.rt:114:1
+same-length : tie.Need-same-length
+same-length c = search needs
+
+-- src/lib.rt:114:1
+returns-2 : tie.Need-returns-2
+returns-2 c = step-frame _ _ _ _ _ (c .before .before .before .before .before .before .before .call-at .ensures) _ _ (c .before .before .before .before .before .end2 .given .1) (c .before .before .frame .ensures .0) (c .before .before .frame .ensures .1)
+
+-- src/lib.rt:114:1
+returns-3 : tie.Need-returns-3
+returns-3 c = step-end _ _ _ _ _ (c .before .before .before .call-at .ensures) (c .before .enum-told .given .1) (c .at-end .ensures)
+
+pub step-spec : {M : Type 1} → statement M
+step-spec =
+    tie.close
+    (tie.spec
+    call-at-requires
+    enum-known-end
+    header-requires
+    enum-known-end-2
+    frame-requires
+    enum-told
+    at-end-requires
+    returns
+    same-length
+    returns-2
+    returns-3)
