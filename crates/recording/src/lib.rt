@@ -1,7 +1,9 @@
 // The recording that `replay` reads from standard input: bytes, little-endian numbers of four bytes, lists run by run. No section of document 01 is made
-// true here. Where something is missing the input is no longer whole, and what is handed on then is judged by nobody.
+// true here. Where something is missing the input is no longer whole, and what is handed on then is judged by nobody. What reads comes from the outside,
+// of which no contract can speak.
 ghost use mathlib.Core.Path.{_≡_};
 ghost use Prim.Native.Nat.{_+_, _*_, min};
+ghost use mathlib.Core.Bool.{true};
 
 // Where the input stands: the next byte of the buffer, how many bytes it holds, and whether nothing was missing so far.
 pub struct In {
@@ -21,7 +23,9 @@ pub struct Figure {
 }
 
 // The input before its first byte.
-pub fn start() -> In {
+pub fn start() -> In
+    ensures { λ r. ⌜ r ≡ record { at = 0; have = 0; whole = true } ⌝ }
+{
     In {
         at: 0,
         have: 0,
@@ -39,7 +43,9 @@ fn cut() -> In {
 }
 
 // The next byte; at the end of the input 0, and the input is not whole.
-pub fn next(input: &mut [u8], c: In) -> Byte {
+pub fn next(input: &mut [u8], c: In) -> Byte
+    ensures { λ _. ⌜ Unit ⌝ }
+{
     let at = c.at;
     let have = c.have;
     if at < have {
@@ -86,7 +92,9 @@ fn joined(a: u8, b: u8, c: u8, d: u8) -> usize
 }
 
 // The next four bytes as a number.
-pub fn number(input: &mut [u8], c: In) -> Figure {
+pub fn number(input: &mut [u8], c: In) -> Figure
+    ensures { λ _. ⌜ Unit ⌝ }
+{
     let a = next(input, c);
     let b = next(input, a.from);
     let d = next(input, b.from);
@@ -120,7 +128,9 @@ pub struct Four {
     pub from: In,
 }
 
-pub fn take_two(input: &mut [u8], c: In) -> Two {
+pub fn take_two(input: &mut [u8], c: In) -> Two
+    ensures { λ _. ⌜ Unit ⌝ }
+{
     let x = number(input, c);
     let y = number(input, x.from);
     let from = y.from;
@@ -131,7 +141,9 @@ pub fn take_two(input: &mut [u8], c: In) -> Two {
     }
 }
 
-pub fn take_three(input: &mut [u8], c: In) -> Three {
+pub fn take_three(input: &mut [u8], c: In) -> Three
+    ensures { λ _. ⌜ Unit ⌝ }
+{
     let x = take_two(input, c);
     let y = number(input, x.from);
     let from = y.from;
@@ -143,7 +155,9 @@ pub fn take_three(input: &mut [u8], c: In) -> Three {
     }
 }
 
-pub fn take_four(input: &mut [u8], c: In) -> Four {
+pub fn take_four(input: &mut [u8], c: In) -> Four
+    ensures { λ _. ⌜ Unit ⌝ }
+{
     let x = take_two(input, c);
     let y = take_two(input, x.from);
     let from = y.from;
@@ -157,7 +171,9 @@ pub fn take_four(input: &mut [u8], c: In) -> Four {
 }
 
 // The next bytes, as many as there is room for.
-pub fn take_bytes(input: &mut [u8], c: In, to: &mut [u8]) -> In {
+pub fn take_bytes(input: &mut [u8], c: In, to: &mut [u8]) -> In
+    ensures { λ _. ⌜ Unit ⌝ }
+{
     let mut from = c;
     let mut i: usize = 0;
     while i < to.len() {
@@ -170,7 +186,9 @@ pub fn take_bytes(input: &mut [u8], c: In, to: &mut [u8]) -> In {
 }
 
 // The n bytes of a message; a message that is too long counts as cut.
-pub fn take_message(input: &mut [u8], c: In, message: &mut [u8], n: usize) -> In {
+pub fn take_message(input: &mut [u8], c: In, message: &mut [u8], n: usize) -> In
+    ensures { λ _. ⌜ Unit ⌝ }
+{
     if message.len() < n {
         return cut();
     }
@@ -183,7 +201,9 @@ pub struct Ten {
     pub from: In,
 }
 
-pub fn take_ten(input: &mut [u8], c: In) -> Ten {
+pub fn take_ten(input: &mut [u8], c: In) -> Ten
+    ensures { λ _. ⌜ Unit ⌝ }
+{
     let mut v = [0u8; 10];
     let from = take_bytes(input, c, &mut v);
     Ten { v: v, from: from }
@@ -262,7 +282,9 @@ fn take_run(input: &mut [u8], r: Runs, list: &mut [i32]) -> Runs {
     }
 }
 
-pub fn take_runs(input: &mut [u8], c: In, runs: usize, list: &mut [i32]) -> Runs {
+pub fn take_runs(input: &mut [u8], c: In, runs: usize, list: &mut [i32]) -> Runs
+    ensures { λ _. ⌜ Unit ⌝ }
+{
     let mut r = Runs {
         from: c,
         count: 0,

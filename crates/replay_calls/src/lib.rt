@@ -30,7 +30,9 @@ fn work_letter(one: u8, two: u8) -> u8 {
 }
 
 // One header call: its number is said with the record after it.
-pub fn header_call(s: Session, message: &[u8]) -> Session {
+pub fn header_call(s: Session, message: &[u8]) -> Session
+    ensures { λ _. ⌜ Unit ⌝ }
+{
     let h = panel::read_header(s, message);
     let after = panel::header_record(h, s);
     replay_lines::say_header(panel::header_number(h), after);
@@ -38,7 +40,9 @@ pub fn header_call(s: Session, message: &[u8]) -> Session {
 }
 
 // One call of the component reader on a list lent.
-pub fn component_call(mode: u8, code: &[u8], list: &mut [i32]) {
+pub fn component_call(mode: u8, code: &[u8], list: &mut [i32])
+    ensures { λ _. ⌜ Unit ⌝ }
+{
     lent::fill_list(list, 7);
     let r = panel::read_component(mode, code, list);
     replay_lines::say_hash(
@@ -49,7 +53,9 @@ pub fn component_call(mode: u8, code: &[u8], list: &mut [i32]) {
 }
 
 // One call of the component writer; the bytes that it wrote.
-pub fn writer_call(mode: u8, list: &[i32], out: &mut [u8]) -> usize {
+pub fn writer_call(mode: u8, list: &[i32], out: &mut [u8]) -> usize
+    ensures { λ _. ⌜ Unit ⌝ }
+{
     lent::fill_bytes(out, 0xA5);
     let w = panel::write_component(mode, list, out);
     let n = code_write::writing_length(w);
@@ -58,7 +64,9 @@ pub fn writer_call(mode: u8, list: &[i32], out: &mut [u8]) -> usize {
 }
 
 // One call of the header writer; the bytes that it wrote.
-pub fn headers_call(width: usize, height: usize, mode: u8, out: &mut [u8]) -> usize {
+pub fn headers_call(width: usize, height: usize, mode: u8, out: &mut [u8]) -> usize
+    ensures { λ _. ⌜ Unit ⌝ }
+{
     lent::fill_bytes(out, 0xA5);
     let w = panel::write_headers(width, height, mode, out);
     let n = code_write::writing_length(w);
@@ -91,7 +99,9 @@ pub struct Fourfold {
 }
 
 // Four headers of our writer, each to a header call; 1 (cut) where they are not all there.
-pub fn headers_back(s: Session, out: &[u8]) -> Fourfold {
+pub fn headers_back(s: Session, out: &[u8]) -> Fourfold
+    ensures { λ _. ⌜ Unit ⌝ }
+{
     if out.len() < 47 {
         return Fourfold {
             one: 1,
@@ -116,7 +126,9 @@ pub fn headers_back(s: Session, out: &[u8]) -> Fourfold {
 }
 
 // The same with its line; the record after the last.
-pub fn headers_back_call(s: Session, out: &[u8]) -> Session {
+pub fn headers_back_call(s: Session, out: &[u8]) -> Session
+    ensures { λ _. ⌜ Unit ⌝ }
+{
     let f = headers_back(s, out);
     replay_lines::say_fourfold(f.one, f.two, f.three, f.four, f.session);
     f.session
@@ -136,7 +148,9 @@ pub fn frame_call(
     cb: &mut [i32],
     cr: &mut [i32],
     scratch: &mut [i32],
-) {
+)
+    ensures { λ _. ⌜ Unit ⌝ }
+{
     fill_two(y, cb);
     fill_two(cr, scratch);
     let r = panel::read_frame(s, message, picture, y, cb, cr, scratch);
@@ -165,7 +179,9 @@ pub fn frame_writer_call(
     list: &mut [i32],
     scratch: &mut [i32],
     out: &mut [u8],
-) -> usize {
+) -> usize
+    ensures { λ _. ⌜ Unit ⌝ }
+{
     fill_two(list, scratch);
     lent::fill_bytes(out, 0xA5);
     let q = a.q;
