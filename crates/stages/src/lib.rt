@@ -1,9 +1,10 @@
 // The files of 001's worked sample and their comparison: a file of data/ is read, a list that was made is held against it, and a line says how many values
 // agree. A list's file has two bytes for each number and 32,768, low byte first. No section of document 01 is made true here; `sample` compares by it.
 ghost use mathlib.Core.Path.{_≡_};
-ghost use Prim.Native.Nat.{_≤_};
 ghost use lib.IntN.{pos};
 ghost use Rattle.whole.specs.Near.{Near};
+ghost use Rattle.io.specs.Counts.{Counts};
+ghost use Rattle.stages.specs.Compare.{firstOf, partOf, numberOf, valueAt, Unpacked, Loaded, oneIf, holdsAt, agreeing};
 
 fn say_number(n: usize) {
     io::print_decimal(1, n as u64);
@@ -23,35 +24,42 @@ pub fn say_agree(stage: &[u8], same: usize, all: usize) {
 }
 
 // Reads a file of data/; the answer is the number of its bytes.
-pub fn load(name: &[u8], data: &mut [u8]) -> usize {
+pub fn load(name: &[u8], bytes: &mut [u8]) -> usize
+    ensures { λ r. ⌜ Counts r (now (bytes .exit)) ⌝ }
+{
     let fd = os::open_read(name);
     if fd < 0 {
         os::fail(name);
         return 0;
     }
-    let n = io::read_full(fd, data);
+    let n = io::read_full(fd, bytes);
     libc::close(fd);
     n
 }
 
 // The first n of some bytes, none where there are fewer.
-pub fn start(s: &[u8], n: usize) -> &[u8] {
-    if n <= s.len() {
-        let a = 0;
-        return &s[a..n];
+pub fn start(s: &[u8], n: usize) -> &[u8]
+    ensures { λ r. ⌜ now r ≡ firstOf (now (s .entry)) n ⌝ }
+{
+    if s.len() < n {
+        return &s[..0];
     }
-    &s[..0]
+    let a = 0;
+    &s[a..n]
 }
 
 // The n numbers of a list from place a on, none where they are not all there.
-pub fn part(list: &[i32], a: usize, n: usize) -> &[i32] {
-    if a <= list.len() {
-        if n <= list.len() - a {
-            let e = a + n;
-            return &list[a..e];
-        }
+pub fn part(list: &[i32], a: usize, n: usize) -> &[i32]
+    ensures { λ r. ⌜ now r ≡ partOf (now (list .entry)) a n ⌝ }
+{
+    if list.len() < a {
+        return &list[..0];
     }
-    &list[..0]
+    if list.len() - a < n {
+        return &list[..0];
+    }
+    let e = a + n;
+    &list[a..e]
 }
 
 fn byte(x: u8) -> i32
@@ -62,55 +70,68 @@ fn byte(x: u8) -> i32
 
 fn number(low: i32, high: i32) -> i32
     requires { ⌜ Near 255 low × Near 255 high ⌝ }
+    ensures { λ r. ⌜ r ≡ numberOf low high ⌝ }
 {
     low + 256 * high - 32768
 }
 
 // A number of a file.
-fn value(low: u8, high: u8) -> i32 {
+fn value(low: u8, high: u8) -> i32
+    ensures { λ r. ⌜ r ≡ numberOf (pos low) (pos high) ⌝ }
+{
     number(byte(low), byte(high))
 }
 
 // The number at place i of a file, 0 past the end.
-fn value_at(data: &[u8; 8192], i: usize) -> i32 {
+fn value_at(bytes: &[u8; 8192], i: usize) -> i32
+    ensures { λ r. ⌜ r ≡ valueAt (now (bytes .entry)) i ⌝ }
+{
     if 4096 <= i {
         return 0;
     }
-    value(data[2 * i], data[2 * i + 1])
+    value(bytes[2 * i], bytes[2 * i + 1])
 }
 
-fn unpack(data: &[u8; 8192], list: &mut [i32]) {
+fn unpack(bytes: &[u8; 8192], list: &mut [i32])
+    ensures { λ _. ⌜ Unpacked (now (bytes .entry)) (now (list .entry)) (now (list .exit)) ⌝ }
+{
     let mut i = 0;
     while i < list.len() {
-        list[i] = value_at(data, i);
+        list[i] = value_at(bytes, i);
         i += 1;
     }
 }
 
 // A list of a file: its numbers, and how many they are.
-pub fn load_list(name: &[u8], list: &mut [i32]) -> usize {
-    let mut data = [0u8; 8192];
-    let n = load(name, &mut data) / 2;
-    unpack(&data, list);
+pub fn load_list(name: &[u8], list: &mut [i32]) -> usize
+    ensures { λ r. ⌜ Loaded (now (list .entry)) (now (list .exit)) r ⌝ }
+{
+    let mut bytes = [0u8; 8192];
+    let n = load(name, &mut bytes) / 2;
+    unpack(&bytes, list);
     n
 }
 
 pub fn one(is: bool) -> usize
-    ensures { λ r. ⌜ r ≤ 1 ⌝ }
+    ensures { λ r. ⌜ r ≡ oneIf is ⌝ }
 {
     if is { 1 } else { 0 }
 }
 
 // Whether a list holds x at place i.
-fn holds(list: &[i32], i: usize, x: i32) -> bool {
-    if i < list.len() {
-        return list[i] == x;
+fn holds(list: &[i32], i: usize, x: i32) -> bool
+    ensures { λ r. ⌜ r ≡ holdsAt (now (list .entry)) i x ⌝ }
+{
+    if list.len() <= i {
+        return false;
     }
-    false
+    list[i] == x
 }
 
 // How many places of two lists hold the same number.
-pub fn agree(got: &[i32], want: &[i32]) -> usize {
+pub fn agree(got: &[i32], want: &[i32]) -> usize
+    ensures { λ r. ⌜ r ≡ agreeing (now (got .entry)) (now (want .entry)) ⌝ }
+{
     let mut same = 0;
     let mut i = 0;
     while i < got.len() {

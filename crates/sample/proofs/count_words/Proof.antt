@@ -1,6 +1,7 @@
 -- As many words are counted as were looked at, at most.
 use Prim.Native.Nat.{_≤_, _-_}
 use native.Mathlib.Omega.{arith}
+use Rattle.stages.specs.CompareLaws.{one-most}
 use Rattle.sample.proofs.count_words.Statement.{statement}
 use Rattle.sample.proofs.count_words.Tie as tie
 
@@ -44,10 +45,10 @@ element-copy-out-verdict-4 : tie.Need-element-copy-out-verdict-4 Inv-loop μ-loo
 element-copy-out-verdict-4 c = omega (arith, c .before .before .before .loop-test .taken)
 
 add-same : tie.Need-add-same Inv-loop μ-loop
-add-same c = omega (arith, c .before .before .before .before .before .before .before .loop .inv .0, c .one .ensures, c .before .before .before .before .before .before .loop-test .taken)
+add-same c = omega (arith, c .before .before .before .before .before .before .before .loop .inv .0, one-most _ _ (c .one .ensures), c .before .before .before .before .before .before .loop-test .taken)
 
 add-other : tie.Need-add-other Inv-loop μ-loop
-add-other c = omega (arith, c .before .before .before .before .before .before .before .before .loop .inv .1, c .one2 .ensures, c .before .before .before .before .before .before .before .loop-test .taken)
+add-other c = omega (arith, c .before .before .before .before .before .before .before .before .loop .inv .1, one-most _ _ (c .one2 .ensures), c .before .before .before .before .before .before .before .loop-test .taken)
 
 add-i : tie.Need-add-i Inv-loop μ-loop
 add-i c = omega (arith, c .before .before .before .before .before .before .before .loop-test .taken)
@@ -56,7 +57,7 @@ loop-less : tie.Need-loop-less Inv-loop μ-loop
 loop-less c = omega (arith, c .before .before .before .before .before .before .before .loop-test .taken)
 
 loop-again : tie.Need-loop-again Inv-loop μ-loop
-loop-again c = (omega (arith, c .before .before .before .before .before .before .before .before .loop .inv .0, c .before .one .ensures), omega (arith, c .before .before .before .before .before .before .before .before .loop .inv .1, c .one2 .ensures))
+loop-again c = (omega (arith, c .before .before .before .before .before .before .before .before .loop .inv .0, one-most _ _ (c .before .one .ensures)), omega (arith, c .before .before .before .before .before .before .before .before .loop .inv .1, one-most _ _ (c .one2 .ensures)))
 
 pub count-words-spec : {M : Type 1} → statement M
 count-words-spec =

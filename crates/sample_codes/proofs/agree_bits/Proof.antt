@@ -1,6 +1,7 @@
 -- As many bits agree as were looked at, at most.
 use Prim.Native.Nat.{_≤_, _-_}
 use native.Mathlib.Omega.{arith}
+use Rattle.stages.specs.CompareLaws.{one-most}
 use Rattle.sample_codes.proofs.agree_bits.Statement.{statement}
 use Rattle.sample_codes.proofs.agree_bits.Tie as tie
 
@@ -14,7 +15,7 @@ loop-holds : tie.Need-loop-holds Inv-loop μ-loop
 loop-holds c = omega arith
 
 add-same : tie.Need-add-same Inv-loop μ-loop
-add-same c = omega (arith, c .before .before .before .before .loop .inv, c .one .ensures, c .before .before .before .loop-test .taken)
+add-same c = omega (arith, c .before .before .before .before .loop .inv, one-most _ _ (c .one .ensures), c .before .before .before .loop-test .taken)
 
 add-i : tie.Need-add-i Inv-loop μ-loop
 add-i c = omega (arith, c .before .before .before .loop-test .taken)
@@ -23,7 +24,7 @@ loop-less : tie.Need-loop-less Inv-loop μ-loop
 loop-less c = omega (arith, c .before .before .before .loop-test .taken)
 
 loop-again : tie.Need-loop-again Inv-loop μ-loop
-loop-again c = omega (arith, c .before .before .before .before .loop .inv, c .one .ensures)
+loop-again c = omega (arith, c .before .before .before .before .loop .inv, one-most _ _ (c .one .ensures))
 
 pub agree-bits-spec : {M : Type 1} → statement M
 agree-bits-spec =

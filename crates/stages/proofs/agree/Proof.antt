@@ -1,38 +1,77 @@
--- As many places agree as were looked at, at most.
-use Prim.Native.Nat.{_≤_, _-_}
+use mathlib.Core.Path.{_≡_, ap, _∙_}
+use Prim.Native.Nat.{_≤_, _+_, _-_}
+use native.Mathlib.Nat.{zero-add}
 use native.Mathlib.Omega.{arith}
-use lib.ListN.{length}
+use mir.Facts.{toZ-ofZ}
+use lib.ListN.{length, drop}
+use Rattle.stages.specs.Compare.{oneIf, holdsAt, agreeing}
+use Rattle.stages.specs.CompareLaws.{one-most, agree-turn, agree-end}
 use Rattle.stages.proofs.agree.Statement.{statement}
 use Rattle.stages.proofs.agree.Tie as tie
+use Rattle.stages.proofs.agree.Reads as reads
+use Rattle.stages.proofs.agree.Lts as lts
+use Rattle.stages.proofs.holds.Reads as holds-reads
+use Rattle.stages.proofs.one.Reads as one-reads
 
 abbrev Inv-loop : tie.InvT-loop
-Inv-loop got want same₀ i₀ same i = same ≤ i
+Inv-loop got want same₀ i₀ same i = (same ≤ i) × (same + agreeing (drop i got) (drop i want) ≡ agreeing got want)
 
 abbrev μ-loop : tie.MeasureT-loop
 μ-loop got want same₀ i₀ same i = length got - i
 
+-- src/lib.rt:136:5
 loop-holds : tie.Need-loop-holds Inv-loop μ-loop
-loop-holds c = omega arith
+loop-holds c = (omega arith, zero-add _)
 
+-- src/lib.rt:137:36
 mul-holds : tie.Need-mul-holds Inv-loop μ-loop
 mul-holds c = omega arith
 
+-- src/lib.rt:137:36
 shared-slice-copy-out-holds : tie.Need-shared-slice-copy-out-holds Inv-loop μ-loop
 shared-slice-copy-out-holds c = c .loop-test .taken
 
-add-same : tie.Need-add-same Inv-loop μ-loop
-add-same c = omega (arith, c .before .before .before .before .loop .inv, c .one .ensures, c .before .before .before .loop-test .taken)
+-- src/lib.rt:137:21
+holds-requires : tie.Need-holds-requires Inv-loop μ-loop
+holds-requires c κs = tt
 
+-- src/lib.rt:137:17
+one-requires : tie.Need-one-requires Inv-loop μ-loop
+one-requires c κs = tt
+
+-- src/lib.rt:137:9
+add-same : tie.Need-add-same Inv-loop μ-loop
+add-same c = omega (arith, c .before .before .before .before .loop .inv .0, one-most _ _ (c .one .ensures), c .before .before .before .loop-test .taken)
+
+-- src/lib.rt:138:9
 add-i : tie.Need-add-i Inv-loop μ-loop
 add-i c = omega (arith, c .before .before .before .loop-test .taken)
 
+-- src/lib.rt:136:5
 loop-less : tie.Need-loop-less Inv-loop μ-loop
 loop-less c = omega (arith, c .before .before .before .loop-test .taken)
 
+-- src/lib.rt:136:5
 loop-again : tie.Need-loop-again Inv-loop μ-loop
-loop-again c = omega (arith, c .before .before .before .before .loop .inv, c .one .ensures)
+loop-again c = (omega (arith, c .before .before .before .before .loop .inv .0, one-most _ _ (c .one .ensures)), agree-turn _ _ (c .before .before .before .before .loop .i) _ _ _ (c .before .before .before .loop-test .taken) (c .one .ensures ∙ ap oneIf (c .before .holds .ensures ∙ ap (holdsAt _ _) (toZ-ofZ (record { sfits = c .before .before .holds-arg .given })))) (c .before .before .before .before .loop .inv .1))
+
+-- src/lib.rt:131:1
+returns : tie.Need-returns Inv-loop μ-loop
+returns c = agree-end _ _ (c .before .loop .i) _ _ (omega arith) (c .before .loop .inv .1)
 
 pub agree-spec : {M : Type 1} → statement M
 agree-spec =
     tie.close
-    (tie.spec Inv-loop μ-loop loop-holds mul-holds shared-slice-copy-out-holds (λ c κs. tt) (λ c κs. tt) add-same add-i loop-less loop-again (λ c. tt))
+    (tie.spec
+    Inv-loop
+    μ-loop
+    loop-holds
+    mul-holds
+    shared-slice-copy-out-holds
+    holds-requires
+    one-requires
+    add-same
+    add-i
+    loop-less
+    loop-again
+    returns)

@@ -1,9 +1,11 @@
 use mir.Syntax.{w32}
 use lib.IntN.{pos, _+ℤ_, _*ℤ_}
-use Rattle.whole.specs.Calc.{Calc, fits, arg, lit, add, sub, mul}
-use borrow.Author.Needs.{needs}
+use Rattle.whole.specs.Calc.{Calc, fits, val, arg, lit, add, sub, mul}
+use Rattle.stages.specs.Compare.{numberOf}
 use Rattle.stages.proofs.number.Statement.{statement}
 use Rattle.stages.proofs.number.Tie as tie
+use Rattle.stages.proofs.number.Reads as reads
+use Rattle.stages.proofs.number.Lts as lts
 
 abbrev upper : (c : tie.Start) → Calc w32 (pos 256 *ℤ c .args .high)
 upper c = mul (lit w32 (pos 256) tt) (arg w32 (c .pre .1) tt) tt
@@ -11,17 +13,22 @@ upper c = mul (lit w32 (pos 256) tt) (arg w32 (c .pre .1) tt) tt
 abbrev both : (c : tie.Start) → Calc w32 (c .args .low +ℤ pos 256 *ℤ c .args .high)
 both c = add (arg w32 (c .pre .0) tt) (upper c) tt
 
+-- src/lib.rt:74:11
 mul-result : tie.Need-mul-result
 mul-result c = fits (upper c)
 
+-- src/lib.rt:74:5
 add-result : tie.Need-add-result
 add-result c = fits (both c)
 
+-- src/lib.rt:74:5
 sub-result : tie.Need-sub-result
 sub-result c = fits (sub (both c) (lit w32 (pos 32768) tt) tt)
 
+-- src/lib.rt:70:1
 returns : tie.Need-returns
-returns c = search needs
+unfolding numberOf
+returns c = val (sub (both c) (lit w32 (pos 32768) tt) tt)
 
 pub number-spec : {M : Type 1} → statement M
 number-spec = tie.close (tie.spec mul-result add-result sub-result returns)

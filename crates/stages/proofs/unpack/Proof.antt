@@ -1,39 +1,72 @@
--- The list keeps its length.
-use Prim.Native.Nat.{_-_}
-use mathlib.Core.Path.{_≡_, refl}
+use Prim.Native.Nat.{ℕ, _≤_, _<_, _-_}
+use mathlib.Core.Path.{_≡_, refl, _∙_}
 use native.Mathlib.Omega.{arith}
-use lib.ListN.{length, length-set}
+use lib.IntN.{pos}
+use lib.ListN.{length, length-set, getD}
+use mir.Syntax.{w32}
+use Rattle.whole.specs.Near.{back-ok}
+use Rattle.whole.specs.Put.{put-new}
+use Rattle.stages.specs.Compare.{valueAt}
 use Rattle.stages.proofs.unpack.Statement.{statement}
 use Rattle.stages.proofs.unpack.Tie as tie
+use Rattle.stages.proofs.unpack.Reads as reads
+use Rattle.stages.proofs.unpack.Lts as lts
+use Rattle.stages.proofs.value_at.Reads as value-at-reads
 
 abbrev Inv-loop : tie.InvT-loop
-Inv-loop «data» list₀ i₀ list i = length list ≡ length list₀
+Inv-loop bytes list₀ i₀ list i = (i ≤ length list₀) × (length list ≡ length list₀) × ((n : ℕ) → n < i → getD list n (pos 0) ≡ valueAt bytes n)
 
 abbrev μ-loop : tie.MeasureT-loop
-μ-loop «data» list₀ i₀ list i = length list₀ - i
+μ-loop bytes list₀ i₀ list i = length list₀ - i
 
+-- src/lib.rt:98:5
 loop-holds : tie.Need-loop-holds Inv-loop μ-loop
-loop-holds c = refl
+loop-holds c = (omega arith, refl, λ n k. absurd (omega arith))
 
+-- src/lib.rt:99:19
+value-at-requires : tie.Need-value-at-requires Inv-loop μ-loop
+value-at-requires c κs = tt
+
+-- src/lib.rt:99:9
 mul-t4 : tie.Need-mul-t4 Inv-loop μ-loop
-mul-t4 c = omega (arith, c .before .before .loop .inv, c .before .loop-test .taken)
+mul-t4 c = omega (arith, c .before .before .loop .inv .1, c .before .loop-test .taken)
 
+-- src/lib.rt:99:9
 slice-set-from-list : tie.Need-slice-set-from-list Inv-loop μ-loop
 slice-set-from-list c = omega (arith, c .before .loop-test .taken)
 
+-- src/lib.rt:100:9
 add-i : tie.Need-add-i Inv-loop μ-loop
-add-i c = omega (arith, c .before .before .loop .inv, c .before .loop-test .taken)
+add-i c = omega (arith, c .before .before .loop .inv .1, c .before .loop-test .taken)
 
+-- src/lib.rt:98:5
 loop-less : tie.Need-loop-less Inv-loop μ-loop
-loop-less c = omega (arith, c .before .before .loop .inv, c .before .loop-test .taken)
+loop-less c = omega (arith, c .before .before .loop .inv .1, c .before .loop-test .taken)
 
+-- src/lib.rt:98:5
 loop-again : tie.Need-loop-again Inv-loop μ-loop
-loop-again c = simp length-set (omega (arith, c .before .before .loop .inv))
+loop-again c = (omega (arith, c .before .before .loop .inv .1, c .before .loop-test .taken), simp length-set (c .before .before .loop .inv .1), put-new (λ n. n) (valueAt _) (c .before .before .loop .list) (c .before .before .loop .i) _ (omega (arith, c .before .loop-test .taken)) (λ n k e. omega arith) (back-ok w32 (c .value-at .result) (c .value-at .ok) ∙ c .value-at .ensures) (c .before .before .loop .inv .2))
 
+-- src/lib.rt:94:1
 same-length : tie.Need-same-length Inv-loop μ-loop
-same-length c = c .before .loop .inv
+same-length c = c .before .loop .inv .1
+
+-- src/lib.rt:94:1
+returns : tie.Need-returns Inv-loop μ-loop
+returns c = record { long = c .before .loop .inv .1; each = λ n k. c .before .loop .inv .2 n (omega (arith, c .before .loop .inv .1)) }
 
 pub unpack-spec : {M : Type 1} → statement M
 unpack-spec =
     tie.close
-    (tie.spec Inv-loop μ-loop loop-holds (λ c κs. tt) mul-t4 slice-set-from-list add-i loop-less loop-again same-length (λ c. tt))
+    (tie.spec
+    Inv-loop
+    μ-loop
+    loop-holds
+    value-at-requires
+    mul-t4
+    slice-set-from-list
+    add-i
+    loop-less
+    loop-again
+    same-length
+    returns)

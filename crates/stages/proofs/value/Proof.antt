@@ -1,13 +1,32 @@
+use Rattle.whole.specs.Near.{back-ok}
+use mathlib.Core.Path.{_≡_, _∙_}
 use mir.Syntax.{w32}
 use native.Mathlib.Omega.{arith}
 use Rattle.whole.specs.Near.{back-near}
+use Rattle.stages.proofs.Range.{byte-near, number-of}
 use borrow.Author.Needs.{needs}
-use Rattle.stages.proofs.Range.{byte-near}
 use Rattle.stages.proofs.value.Statement.{statement}
 use Rattle.stages.proofs.value.Tie as tie
+use Rattle.stages.proofs.value.Reads as reads
+use Rattle.stages.proofs.value.Lts as lts
+use Rattle.stages.proofs.byte.Reads as byte-reads
+use Rattle.stages.proofs.number.Reads as number-reads
 
+-- src/lib.rt:81:12
+byte-requires : tie.Need-byte-requires
+byte-requires c κs = search needs
+
+-- src/lib.rt:81:23
+byte-requires-2 : tie.Need-byte-requires-2
+byte-requires-2 c κs = search needs
+
+-- src/lib.rt:81:5
 number-requires : tie.Need-number-requires
 number-requires c κs = (back-near w32 (byte-near _ (omega arith) (c .before .byte .ensures)) tt, back-near w32 (byte-near _ (omega arith) (c .byte2 .ensures)) tt)
 
+-- src/lib.rt:78:1
+returns : tie.Need-returns
+returns c = back-ok w32 (c .number .result) (c .number .ok) ∙ c .number .ensures ∙ number-of (back-ok w32 (c .before .before .byte .result) (c .before .before .byte .ok) ∙ c .before .before .byte .ensures) (back-ok w32 (c .before .byte2 .result) (c .before .byte2 .ok) ∙ c .before .byte2 .ensures)
+
 pub value-spec : {M : Type 1} → statement M
-value-spec = tie.close (tie.spec (λ c κs. tt) (λ c κs. tt) number-requires (λ c. search needs))
+value-spec = tie.close (tie.spec byte-requires byte-requires-2 number-requires returns)

@@ -1,0 +1,32 @@
+use native.Mathlib.Omega.{arith}
+use borrow.Author.Needs.{needs}
+use Rattle.stages.proofs.load_list.Statement.{statement}
+use Rattle.stages.proofs.load_list.Tie as tie
+use Rattle.stages.proofs.load_list.Reads as reads
+use Rattle.stages.proofs.load_list.Lts as lts
+use Rattle.stages.proofs.load.Reads as load-reads
+use Rattle.stages.proofs.unpack.Reads as unpack-reads
+
+-- src/lib.rt:110:24
+slice-aggregate-load : tie.Need-slice-aggregate-load
+slice-aggregate-load c = search needs
+
+-- src/lib.rt:110:13
+load-requires : tie.Need-load-requires
+load-requires c κs = search needs
+
+-- src/lib.rt:111:5
+unpack-requires : tie.Need-unpack-requires
+unpack-requires c κs = search needs
+
+-- src/lib.rt:106:1
+same-length : tie.Need-same-length
+same-length c = search needs
+
+-- src/lib.rt:106:1
+returns : tie.Need-returns
+returns c = record { bytes = _; unpacked = c .before .unpack .ensures; most = omega (arith, c .before .before .before .before .before .load .ensures .0, c .before .before .before .before .bytes2 .given) }
+
+pub load-list-spec : {M : Type 1} → statement M
+load-list-spec =
+    tie.close (tie.spec slice-aggregate-load load-requires unpack-requires same-length returns)
