@@ -1,1 +1,3 @@
 pub mod Range
+pub mod Waves
+pub mod WavesLaws

@@ -1,5 +1,8 @@
 // The wavelet of 001's worked sample (4.2.4.3), level by level, each band and each pass against the list that 001 prints: 01's "Bands and the wavelet" as
 // the sample has it. No section of document 01 is made true here; `sample` runs it.
+ghost use mathlib.Core.Path.{_≡_};
+ghost use lib.ListN.{length};
+ghost use Rattle.sample_waves.specs.Waves.{levelled};
 
 // The row pass of the level whose bands, n by n, begin at place a: whether its numbers are such that it is made.
 fn rows(work: &[i32], tmp: &mut [i32], a: usize, n: usize) -> bool {
@@ -29,7 +32,9 @@ fn rows(work: &[i32], tmp: &mut [i32], a: usize, n: usize) -> bool {
 }
 
 // The whole level.
-fn level(work: &mut [i32], tmp: &mut [i32], a: usize, n: usize) -> bool {
+fn level(work: &mut [i32], tmp: &mut [i32], a: usize, n: usize) -> bool
+    ensures { λ _. ⌜ now (work .exit) ≡ levelled a n (length (now (tmp .entry))) (now (work .entry)) ⌝ }
+{
     if n < 2 {
         return false;
     }
@@ -59,7 +64,9 @@ fn third_bands(work: &[i32]) {
     stages::shown(b"4.2.4.3.1.4_Y_HH3", work, 3968, 64);
 }
 
-pub fn third_level(work: &mut [i32], tmp: &mut [i32]) {
+pub fn third_level(work: &mut [i32], tmp: &mut [i32])
+    ensures { λ _. ⌜ now (work .exit) ≡ levelled 3840 8 (length (now (tmp .entry))) (now (work .entry)) ⌝ }
+{
     third_bands(work);
     rows(work, tmp, 3840, 8);
     stages::shown(b"4.2.4.3.1.5_Y_L2", tmp, 0, 128);
@@ -74,7 +81,9 @@ fn second_bands(work: &[i32]) {
     stages::shown(b"4.2.4.3.2.4_Y_HH2", work, 3584, 256);
 }
 
-pub fn second_level(work: &mut [i32], tmp: &mut [i32]) {
+pub fn second_level(work: &mut [i32], tmp: &mut [i32])
+    ensures { λ _. ⌜ now (work .exit) ≡ levelled 3072 16 (length (now (tmp .entry))) (now (work .entry)) ⌝ }
+{
     second_bands(work);
     rows(work, tmp, 3072, 16);
     stages::shown(b"4.2.4.3.2.5_Y_L1", tmp, 0, 512);
@@ -89,7 +98,9 @@ fn first_bands(work: &[i32]) {
     stages::shown(b"4.2.4.3.3.4_Y_HH1", work, 2048, 1024);
 }
 
-pub fn first_level(work: &mut [i32], tmp: &mut [i32]) {
+pub fn first_level(work: &mut [i32], tmp: &mut [i32])
+    ensures { λ _. ⌜ now (work .exit) ≡ levelled 0 32 (length (now (tmp .entry))) (now (work .entry)) ⌝ }
+{
     first_bands(work);
     rows(work, tmp, 0, 32);
     stages::shown(b"4.2.4.3.3.5_Y_L0", tmp, 0, 2048);

@@ -1,24 +1,82 @@
-use mathlib.Core.Path.{_≡_, refl}
+use mathlib.Core.Path.{_≡_, refl, sym, _∙_}
 use Prim.Native.Nat.{_≤_, _*_, _-_, _+_}
 use native.Mathlib.Omega.{arith}
-use borrow.Author.Needs.{needs}
-use borrow.Author.Tests.{not-false}
+use borrow.Author.Tests.{not-false, not-true}
 use lib.Dec.{lit≤}
 use lib.ListN.{length}
+use Rattle.wire.specs.RowLaws.{rows}
 use Rattle.line.specs.More.{all-wide}
 use Rattle.sample_waves.specs.Range.{near-of, square}
+use Rattle.sample_waves.specs.Waves.{levelled}
+use Rattle.sample_waves.specs.WavesLaws.{no-scratch, out-of-range, level-done}
+use borrow.Author.Needs.{needs}
 use Rattle.sample_waves.proofs.level.Statement.{statement}
 use Rattle.sample_waves.proofs.level.Tie as tie
+use Rattle.sample_waves.proofs.level.Reads as reads
+use Rattle.sample_waves.proofs.level.Lts as lts
+use Rattle.code_write.proofs.in_range.Reads as in-range-reads
+use Rattle.wavelet.proofs.level_from.Reads as level-from-reads
 
+-- src/lib.rt:39:9
+returns : tie.Need-returns
+unfolding levelled
+returns c = search rows
+
+-- src/lib.rt:42:9
+returns-2 : tie.Need-returns-2
+unfolding levelled
+returns-2 c = search rows
+
+-- src/lib.rt:45:9
+returns-3 : tie.Need-returns-3
+unfolding levelled
+returns-3 c = search rows
+
+-- src/lib.rt:47:25
 mul-if4 : tie.Need-mul-if4
 mul-if4 c = omega (arith, square (c .before .before .before .args .n) (omega (arith, c .before .if2 .left)))
 
+-- src/lib.rt:47:20
 mul-if4-2 : tie.Need-mul-if4-2
 mul-if4-2 c = omega (arith, square (c .before .before .before .args .n) (omega (arith, c .before .if2 .left)))
 
+-- src/lib.rt:47:13
 sub-if4 : tie.Need-sub-if4
 sub-if4 c = omega (arith, square (c .before .before .before .args .n) (omega (arith, c .before .if2 .left)))
 
+-- src/lib.rt:48:9
+returns-4 : tie.Need-returns-4
+unfolding levelled
+returns-4 c = search rows
+
+-- src/lib.rt:51:9
+returns-5 : tie.Need-returns-5
+returns-5 c =
+    no-scratch (c .before .before .before .before .before .args .a) (c .before .before .before .before .before .args .n) _ _
+    (omega (arith, c .before .before .before .before .if1 .left)) (omega (arith, c .before .before .before .if2 .left))
+    (c .before .before .if3 .left) (c .before .if4 .left) (c .if5 .taken)
+
+-- src/lib.rt:53:9
+in-range-requires : tie.Need-in-range-requires
+in-range-requires c κs = search needs
+
+-- src/lib.rt:54:9
+same-length : tie.Need-same-length
+same-length c = search needs
+
+-- src/lib.rt:54:9
+returns-6 : tie.Need-returns-6
+returns-6 c =
+    out-of-range (c .before .before .before .before .before .before .before .before .args .a) (c .before .before .before .before .before .before .before .before .args .n) _ _
+    (omega (arith, c .before .before .before .before .before .before .before .if1 .left)) (omega (arith, c .before .before .before .before .before .before .if2 .left))
+    (c .before .before .before .before .before .if3 .left) (c .before .before .before .before .if4 .left) (c .before .before .before .if5 .left)
+    (sym (c .before .in-range .ensures) ∙ not-true (c .before .in-range .result) (c .if6 .taken))
+
+-- src/lib.rt:56:42
+mul-level-from : tie.Need-mul-level-from
+mul-level-from c = search needs
+
+-- src/lib.rt:56:5
 level-from-requires : tie.Need-level-from-requires
 level-from-requires c κs =
     let n = c .before .before .before .before .before .before .before .before .before .before .args .n in
@@ -33,8 +91,38 @@ level-from-requires c κs =
       refl,
     )
 
+-- src/lib.rt:35:1
+same-length-2 : tie.Need-same-length-2
+same-length-2 c = search needs
+
+-- src/lib.rt:35:1
+same-length-3 : tie.Need-same-length-3
+same-length-3 c = search needs
+
+-- src/lib.rt:35:1
+returns-7 : tie.Need-returns-7
+returns-7 c =
+    level-done (c .before .before .before .before .before .before .before .before .before .before .before .before .before .args .a) (c .before .before .before .before .before .before .before .before .before .before .before .before .before .args .n) _ _
+    (omega (arith, c .before .before .before .before .before .before .before .before .before .before .before .before .if1 .left)) (omega (arith, c .before .before .before .before .before .before .before .before .before .before .before .if2 .left)) (c .before .before .before .before .before .before .before .before .before .before .if3 .left) (c .before .before .before .before .before .before .before .before .before .if4 .left) (c .before .before .before .before .before .before .before .before .if5 .left) _
+    (sym (c .before .before .before .before .before .before .in-range .ensures) ∙ not-false (c .before .before .before .before .before .before .in-range .result) (c .before .before .before .before .before .if6 .left)) (c .before .before .level-from .ensures)
+
 pub level-spec : {M : Type 1} → statement M
 level-spec =
     tie.close
-    (tie.spec (λ c. search needs) (λ c. search needs) (λ c. search needs) mul-if4 mul-if4-2 sub-if4 (λ c. search needs) (λ c. search needs)
-    (λ c κs. tt) (λ c. search needs) (λ c. search needs) (λ c. search needs) level-from-requires (λ c. search needs) (λ c. search needs) (λ c. search needs))
+    (tie.spec
+    returns
+    returns-2
+    returns-3
+    mul-if4
+    mul-if4-2
+    sub-if4
+    returns-4
+    returns-5
+    in-range-requires
+    same-length
+    returns-6
+    mul-level-from
+    level-from-requires
+    same-length-2
+    same-length-3
+    returns-7)

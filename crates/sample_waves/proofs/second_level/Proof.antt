@@ -1,0 +1,77 @@
+use Prim.Native.Nat.{ℕ}
+use mathlib.Core.Path.{_≡_, ap, _∙_}
+use Rattle.sample_waves.specs.Waves.{levelled}
+use borrow.Author.Needs.{needs}
+use Rattle.sample_waves.proofs.second_level.Statement.{statement}
+use Rattle.sample_waves.proofs.second_level.Tie as tie
+use Rattle.sample_waves.proofs.second_level.Reads as reads
+use Rattle.sample_waves.proofs.second_level.Lts as lts
+use Rattle.sample_waves.proofs.level.Reads as level-reads
+use Rattle.sample_waves.proofs.rows.Reads as rows-reads
+use Rattle.sample_waves.proofs.second_bands.Reads as second-bands-reads
+use Rattle.stages.proofs.shown.Reads as shown-reads
+
+-- src/lib.rt:87:5
+second-bands-requires : tie.Need-second-bands-requires
+second-bands-requires c κs = search needs
+
+-- src/lib.rt:88:5
+rows-requires : tie.Need-rows-requires
+rows-requires c κs = search needs
+
+-- src/lib.rt:89:19
+slice-aggregate-shown : tie.Need-slice-aggregate-shown
+slice-aggregate-shown c = search needs
+
+-- src/lib.rt:89:5
+shown-requires : tie.Need-shown-requires
+shown-requires c κs = search needs
+
+-- src/lib.rt:90:19
+slice-aggregate-shown-2 : tie.Need-slice-aggregate-shown-2
+slice-aggregate-shown-2 c = search needs
+
+-- src/lib.rt:90:5
+shown-requires-2 : tie.Need-shown-requires-2
+shown-requires-2 c κs = search needs
+
+-- src/lib.rt:91:5
+level-requires : tie.Need-level-requires
+level-requires c κs = search needs
+
+-- src/lib.rt:92:19
+slice-aggregate-shown-3 : tie.Need-slice-aggregate-shown-3
+slice-aggregate-shown-3 c = search needs
+
+-- src/lib.rt:92:5
+shown-requires-3 : tie.Need-shown-requires-3
+shown-requires-3 c κs = search needs
+
+-- src/lib.rt:84:1
+same-length : tie.Need-same-length
+same-length c = search needs
+
+-- src/lib.rt:84:1
+same-length-2 : tie.Need-same-length-2
+same-length-2 c = search needs
+
+-- src/lib.rt:84:1
+returns : tie.Need-returns
+returns c = c .before .before .before .before .before .level .ensures ∙ ap (λ (k : ℕ). levelled 3072 16 k (c .before .before .before .before .before .before .before .before .before .before .before .before .before .before .before .before .before .before .before .before .args .work .now)) (c .before .before .before .before .before .before .before .before .before .before .before .before .before .before .tmp .given)
+
+pub second-level-spec : {M : Type 1} → statement M
+second-level-spec =
+    tie.close
+    (tie.spec
+    second-bands-requires
+    rows-requires
+    slice-aggregate-shown
+    shown-requires
+    slice-aggregate-shown-2
+    shown-requires-2
+    level-requires
+    slice-aggregate-shown-3
+    shown-requires-3
+    same-length
+    same-length-2
+    returns)
