@@ -7,9 +7,6 @@ use recording::Three;
 use records::Desk;
 use replay_calls::Asked;
 
-// The longest message of a frame.
-const MESSAGE: usize = 262144;
-
 // The frame call on the parts that are lent; false where the recording asks for more than there is.
 fn frame_part(
     d: Desk,
@@ -92,7 +89,7 @@ pub fn frame(d: Desk, input: &mut [u8], message: &mut [u8], picture: &mut [u16])
     let f = take_framed(input, d.from, message);
     let from = f.from;
     let n = f.count;
-    if MESSAGE < n || !from.whole {
+    if records::MESSAGE < n || !from.whole {
         return records::bad(d);
     }
     if frame_on(d, f.lists, first(message, n), picture) {

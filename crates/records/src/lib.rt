@@ -3,6 +3,9 @@
 use recording::In;
 use session::Session;
 
+// The longest message, in bytes.
+pub const MESSAGE: usize = 262144;
+
 // What goes on from record to record: the input, the session, the words of picture that are lent, the bytes last written, and whether it goes on.
 pub struct Desk {
     pub from: In,
@@ -123,6 +126,18 @@ fn set_picture(d: Desk, input: &mut [u8], picture: &mut [u16]) -> Desk {
     with_picture(d, from, n)
 }
 
+// The n bytes of a message; one that is too long counts as cut.
+fn take_limited(input: &mut [u8], c: In, message: &mut [u8], n: usize) -> In {
+    if MESSAGE < n {
+        return In {
+            at: 0,
+            have: 0,
+            whole: false,
+        };
+    }
+    recording::take_message(input, c, message, n)
+}
+
 fn header_part(s: Session, message: &[u8], n: usize) -> Session {
     if message.len() < n {
         return s;
@@ -133,7 +148,7 @@ fn header_part(s: Session, message: &[u8], n: usize) -> Session {
 // 'H'
 fn header(d: Desk, input: &mut [u8], message: &mut [u8]) -> Desk {
     let a = recording::number(input, d.from);
-    let from = recording::take_message(input, a.from, message, a.value);
+    let from = take_limited(input, a.from, message, a.value);
     if !from.whole {
         return bad(d);
     }
@@ -162,7 +177,7 @@ fn component_on(mode: usize, s: &[u8], n: usize, len: usize) -> bool {
 // 'C'
 fn component(d: Desk, input: &mut [u8], message: &mut [u8]) -> Desk {
     let g = recording::take_three(input, d.from);
-    let from = recording::take_message(input, g.from, message, g.c);
+    let from = take_limited(input, g.from, message, g.c);
     if !from.whole {
         return bad(d);
     }
