@@ -3,8 +3,8 @@
 #include <stdio.h>
 #include <string.h>
 #include <unistd.h>
-void wave_back(int32_t *work, size_t n, int32_t *tmp, size_t m);
-void wave_forth(int32_t *work, size_t n, int32_t *tmp, size_t m);
+void bench_back(int32_t *work, size_t n, int32_t *tmp, size_t m);
+void bench_forth(int32_t *work, size_t n, int32_t *tmp, size_t m);
 static int floor2(int z) { return z >> 1; }
 /* one line back: x[2n] from L and H, then x[2n+1]; across: the average along a row, else down a column */
 static void line_back(const int *L, const int *H, int N, int *x, int across) {
@@ -48,17 +48,17 @@ static uint64_t seed = 42;
 static int rnd(int most) { seed = seed * 6364136223846793005u + 1442695040888963407u; return (int)((seed >> 33) % (2u * most + 1)) - most; }
 static int32_t a[4096], b[4096], tmp[4096];
 /* what is counted, by the syscalls (qemu's plugin) or by the functions' names (callgrind) */
-__attribute__((noinline)) void mark_back(void) { syscall(0x5eed, 0); wave_back(a, 4096, tmp, 4096); syscall(0x5eed, 1); }
-__attribute__((noinline)) void mark_forth(void) { syscall(0x5eed, 2); wave_forth(a, 4096, tmp, 4096); syscall(0x5eed, 3); }
+__attribute__((noinline)) void mark_back(void) { syscall(0x5eed, 0); bench_back(a, 4096, tmp, 4096); syscall(0x5eed, 1); }
+__attribute__((noinline)) void mark_forth(void) { syscall(0x5eed, 2); bench_forth(a, 4096, tmp, 4096); syscall(0x5eed, 3); }
 int main(void) {
   for (int t = 0; t < 200; t++) {
     int most = t % 2 ? 32767 : 300;
     for (int i = 0; i < 4096; i++) a[i] = b[i] = rnd(most);
-    wave_back(a, 4096, tmp, 4096); plain_back(b);
+    bench_back(a, 4096, tmp, 4096); plain_back(b);
     if (memcmp(a, b, sizeof a)) { printf("back differs in tile %d\n", t); return 1; }
     most = t % 2 ? 32767 : 4096;
     for (int i = 0; i < 4096; i++) a[i] = b[i] = rnd(most);
-    wave_forth(a, 4096, tmp, 4096); plain_forth(b);
+    bench_forth(a, 4096, tmp, 4096); plain_forth(b);
     if (memcmp(a, b, sizeof a)) { printf("forth differs in tile %d\n", t); return 1; }
   }
   puts("200 tiles, both ways: equal");

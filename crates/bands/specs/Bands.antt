@@ -7,7 +7,7 @@ use mathlib.Core.List.{List, [], _∷_, _++_}
 use lib.Dec.{ltb, leb}
 use lib.IntN.{ℤ, pos, natAbs, _+ℤ_, _*ℤ_}
 use lib.ListN.{length, getD, take}
-use Rattle.wire.specs.Row.{_!_⨾_, _⇒_∣_, _⨟_}
+use Rattle.whole.specs.Row.{_!_⨾_, _⇒_∣_, _⨟_}
 use Rattle.whole.specs.Tab.{at, tab}
 
 -- "A quantiser set is five bytes, low half first, ten values"

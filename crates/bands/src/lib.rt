@@ -2,14 +2,15 @@
 // on the reader's way; rounding and LL3's differences on the writer's. Bands are lent as parts of the work list.
 ghost use mathlib.Core.Path.{_≡_};
 ghost use Prim.Native.Nat.{ℕ, _+_, _-_, _*_, _<_, _≤_, _^_};
-ghost use lib.IntN.{ℤ, pos, _+ℤ_, _-ℤ_, _*ℤ_};
+ghost use lib.IntN.{pos, _+ℤ_, _-ℤ_, _*ℤ_};
 ghost use lib.Signed.{shrZ};
 ghost use lib.ListN.{length, take, drop};
 ghost use Rattle.whole.specs.Near.{Near};
-ghost use Rattle.whole.specs.Tab.{at, tab, AllNear};
-ghost use Rattle.bands.specs.Bands.{quantOf, QuantGood, isGood, bandOf, quantAt, inRange, sumTo, Summed, Scaled, coefficientsFault};
+ghost use Rattle.whole.specs.Tab.{at, tab};
+ghost use Rattle.whole.specs.laws.Tab.{AllNear};
+ghost use Rattle.bands.specs.Bands.{quantOf, QuantGood, isGood, bandOf, quantAt, sumTo, Summed, Scaled, coefficientsFault};
 ghost use Rattle.bands.specs.Rounding.{roundAt, diffAt, roundedBy};
-ghost use Rattle.bands.specs.Steps.{outOf, outs, endOf};
+ghost use Rattle.bands.specs.laws.Steps.{outOf, outs, endOf};
 
 // A quantiser set: ten values in the set's order.
 pub struct Quant {

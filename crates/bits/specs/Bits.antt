@@ -2,7 +2,7 @@
 use Prim.Native.Nat.{ℕ, zero, suc, _+_, _*_, _/_, _%_, _^_}
 use mathlib.Core.Bool.{Bool, true, false}
 use mathlib.Core.List.{List, [], _∷_, _++_}
-use lib.ListN.{length, drop, replicate}
+use lib.ListN.{drop, replicate}
 use lib.Dec.{eqb}
 use Rattle.bits.specs.declared.Num.{Num}
 use Rattle.bits.specs.declared.Num.the-variants.{Got, Cut}

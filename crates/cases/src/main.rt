@@ -4,12 +4,12 @@ use bands::Quant;
 use session::Session;
 
 fn told(name: &[u8], good: bool) {
-    report::say(name);
+    app_text::report::say(name);
     if good {
-        report::say(b": agrees\n");
+        app_text::report::say(b": agrees\n");
         return;
     }
-    report::say(b": DIFFERS\n");
+    app_text::report::say(b": DIFFERS\n");
 }
 
 // ---- the component code
@@ -22,17 +22,17 @@ fn holds(list: &[i32], first: i32) -> bool {
     if list[0] != first {
         return false;
     }
-    lent::all_are(&list[1..4096], 0)
+    app_recording::lent::all_are(&list[1..4096], 0)
 }
 
 // The component reader, on a list of 7s: its number, the bits that it reports, and the list that it leaves.
 fn reads(mode: u8, code: &[u8], number: u8, bits: usize, first: i32) -> bool {
     let mut list = [7i32; 4096];
     let r = panel::read_component(mode, code, &mut list);
-    if code_read::reading_number(r) != number {
+    if code::read::reading_number(r) != number {
         return false;
     }
-    if code_read::reading_bits(r) != bits {
+    if code::read::reading_bits(r) != bits {
         return false;
     }
     holds(&list, first)
@@ -44,7 +44,7 @@ fn writes(mode: u8, first: i32, code: &[u8]) -> bool {
     list[0] = first;
     let mut out = [0xA5u8; 8];
     let w = panel::write_component(mode, &list, &mut out);
-    let n = code_write::writing_length(w);
+    let n = code_write::call::writing_length(w);
     if n > 8 {
         return false;
     }
@@ -56,7 +56,7 @@ fn writes_short(mode: u8, first: i32) -> bool {
     list[0] = first;
     let mut out = [0xA5u8; 3];
     let w = panel::write_component(mode, &list, &mut out);
-    if code_write::writing_number(w) != 13 {
+    if code_write::call::writing_number(w) != 13 {
         return false;
     }
     check::same(&out, &[0xA5, 0xA5, 0xA5])
@@ -162,20 +162,20 @@ fn headers() {
     let w = panel::write_headers(64, 64, 4, &mut out);
     told(
         b"headers for 64 x 64, RLGR3, done",
-        code_write::writing_length(w) == 47,
+        code_write::call::writing_length(w) == 47,
     );
     told(
         b"headers for 64 x 64, RLGR3, bytes",
         check::same(&out, &want),
     );
-    let f = replay_calls::headers_back(fresh(), &out);
+    let f = app_calls::calls::headers_back(fresh(), &out);
     told(b"headers read back", is_record(f.session, 4, 64, 64, 4));
 }
 
 // The header writer's number for a width.
 fn width_written(width: usize) -> u8 {
     let mut out = [0xA5u8; 47];
-    code_write::writing_number(panel::write_headers(width, 1, 1, &mut out))
+    code_write::call::writing_number(panel::write_headers(width, 1, 1, &mut out))
 }
 
 // The header reader's number for a channels block with this width.
@@ -209,11 +209,11 @@ fn quant_with(first: u8) -> Quant {
 // The frame writer, 64 x 64, RLGR3, all pixels alike: the length of the frame, 0 where it is refused.
 fn sent(q: Quant, out: &mut [u8]) -> usize {
     let mut pixels = [0u8; 12288];
-    lent::fill_bytes(&mut pixels, 200);
+    app_recording::lent::fill_bytes(&mut pixels, 200);
     let mut list = [7i32; 4096];
     let mut scratch = [7i32; 4096];
     let w = panel::write_frame(64, 64, 4, q, 1, &pixels, &mut list, &mut scratch, out);
-    code_write::writing_length(w)
+    code_write::call::writing_length(w)
 }
 
 // The frame writer's number for a first quantiser.
@@ -233,7 +233,7 @@ fn quant_sent(first: u8) -> u8 {
         &mut scratch,
         &mut out,
     );
-    code_write::writing_number(w)
+    code_write::call::writing_number(w)
 }
 
 // The frame call on a message: its number.
@@ -255,7 +255,7 @@ fn shown(message: &[u8], picture: &mut [u16]) -> u8 {
 // The number for our own frame with one byte of it changed, and whether the picture is as it was: 99 where it is not.
 fn shown_changed(frame: &mut [u8], at: usize, byte: u8) -> u8 {
     let mut picture = [0x1234u16; 4096];
-    let before = lent::hash_words(&picture);
+    let before = app_recording::lent::hash_words(&picture);
     if frame.len() <= at {
         return 98;
     }
@@ -263,7 +263,7 @@ fn shown_changed(frame: &mut [u8], at: usize, byte: u8) -> u8 {
     frame[at] = byte;
     let number = shown(frame, &mut picture);
     frame[at] = old;
-    if lent::hash_words(&picture) != before {
+    if app_recording::lent::hash_words(&picture) != before {
         return 99;
     }
     number
@@ -316,16 +316,16 @@ fn frames() {
 }
 
 fn main() {
-    report::say(b"RLGR1\n");
+    app_text::report::say(b"RLGR1\n");
     zeros(1);
     ones(1, 28);
-    report::say(b"RLGR3\n");
+    app_text::report::say(b"RLGR3\n");
     zeros(4);
     ones(4, 27);
-    report::say(b"headers\n");
+    app_text::report::say(b"headers\n");
     headers();
     widths();
-    report::say(b"frames\n");
+    app_text::report::say(b"frames\n");
     quants();
     frames();
 }

@@ -1,13 +1,13 @@
 -- The code of a list, defined from the list alone: 01, "The component code" (001, 3.1.8.1.7).
 -- Values are folded numbers (Fold.antt). The mode is a Bool: `two` says RLGR3, else it is RLGR1.
-use Prim.Native.Nat.{ℕ, zero, suc, _+_, _*_, _-_, _/_, _%_, _^_, _≤_, min}
+use Prim.Native.Nat.{ℕ, zero, suc, _+_, _-_, _/_, _^_, _≤_, min}
 use mathlib.Core.Bool.{Bool, true, false}
 use mathlib.Core.List.{List, [], _∷_, _++_}
 use lib.ListN.{length, drop, getD}
 use lib.Dec.{ltb, leb}
 use Rattle.bits.specs.Bits.{odd, numBits, grBits}
-use Rattle.code.specs.declared.Item.{Item}
-use Rattle.code.specs.declared.Item.the-variants.{Full, Run, Single, Twin}
+use Rattle.code.specs.declared.element.Item.{Item}
+use Rattle.code.specs.declared.element.Item.the-variants.{Full, Run, Single, Twin}
 
 -- the first where the test holds, else the second
 abbrev pub pick {ℓ} : {X : Type ℓ} → Bool → X → X → X

@@ -1,9 +1,8 @@
-pub mod Fold
-pub mod FoldLaws
+pub mod Cases
 pub mod Code
-pub mod CodeLaws
+pub mod Fill
+pub mod Fold
+pub mod OneCode
 pub mod Read
-pub mod There
-pub mod Taken
-pub mod Laws
-pub mod Steps
+pub mod ReadList
+pub mod laws

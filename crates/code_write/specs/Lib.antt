@@ -1,5 +1,4 @@
+pub mod Cases
 pub mod Pack
-pub mod PackLaws
 pub mod Write
-pub mod WriteLaws
-pub mod Once
+pub mod laws

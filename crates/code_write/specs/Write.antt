@@ -6,14 +6,14 @@ use mathlib.Core.List.{List, [], _∷_}
 use lib.Dec.{leb, eqb}
 use lib.IntN.{ℤ, natAbs}
 use lib.ListN.{length}
-use Rattle.wire.specs.Row.{_!_⨾_, _⨟_}
+use Rattle.whole.specs.Row.{_!_⨾_, _⨟_}
 use Rattle.wire.specs.Le.{written}
-use Rattle.code_read.specs.Read.{isMode}
-use Rattle.code_read.specs.Once.{code}
+use Rattle.code.specs.Read.{isMode}
+use Rattle.code.specs.OneCode.{code}
 use Rattle.code_write.specs.Pack.{packed}
-use Rattle.code_write.specs.declared.Writing.{Writing}
-use Rattle.code_write.specs.declared.Writing.the-variants.{Done, Refused}
-use Rattle.code_write.specs.declared.Sized.{Sized}
+use Rattle.code_write.specs.declared.call.Writing.{Writing}
+use Rattle.code_write.specs.declared.call.Writing.the-variants.{Done, Refused}
+use Rattle.code_write.specs.declared.call.Sized.{Sized}
 
 -- ---- the answer: 01's number, and its value
 

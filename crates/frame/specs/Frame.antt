@@ -1,21 +1,21 @@
 -- What a frame call answers and leaves, for every record, message, picture and lists: document 01, "Order. Frame call", and the
 -- paragraph under the table of numbers.
-use Prim.Native.Nat.{ℕ, _+_, _*_}
+use Prim.Native.Nat.{ℕ, _*_}
 use mathlib.Core.Path.{_≡_}
-use mathlib.Core.Bool.{Bool, true, false}
+use mathlib.Core.Bool.{Bool, false}
 use mathlib.Core.List.{List}
 use lib.IntN.{ℤ, pos}
 use lib.ListN.{length, replicate}
 use lib.Dec.{eqb, leb}
-use Rattle.wire.specs.Row.{_!_⨾_, _⨟_}
-use Rattle.layout.specs.Reader.{beginFault, regionFault, frameFault, frameTiles, setPlace, tileCount, rectCount, quantAt}
-use Rattle.blocks.specs.Blocks.{rectsOf, setFront}
-use Rattle.walk.specs.Walk.{judged}
-use Rattle.draw.specs.Shown.{tilesDrawn}
-use Rattle.draw_tiles.specs.Show.{tileWord}
+use Rattle.whole.specs.Row.{_!_⨾_, _⨟_}
+use Rattle.frame_layout.specs.Reader.{beginFault, regionFault, frameFault, frameTiles, setPlace, tileCount, rectCount, quantAt}
+use Rattle.frame_blocks.specs.Blocks.{rectsOf, setFront}
+use Rattle.frame_blocks.specs.Judged.{judged}
+use Rattle.frame_draw.specs.Shown.{tilesDrawn}
+use Rattle.frame_draw.specs.Show.{tileWord}
 use Rattle.session.specs.Header.{ready}
 use Rattle.session.specs.declared.Session.{Session}
-use Rattle.frame.specs.declared.FrameAnswer.{FrameAnswer}
+use Rattle.frame.specs.declared.call.FrameAnswer.{FrameAnswer}
 
 -- "a lent work .. list is not 4,096 numbers"
 unfoldable pub full : ℕ → ℕ → ℕ → ℕ → Bool

@@ -1,4 +1,2 @@
 pub mod Frame
-pub mod FrameLaws
-pub mod Glass
-pub mod Numbers
+pub mod laws

@@ -1,9 +1,9 @@
 -- The four header blocks as bytes, and what the header writer refuses.
 use Prim.Native.Nat.{ℕ, _+_, _*_}
-use mathlib.Core.List.{List, [], _∷_, _++_}
+use mathlib.Core.List.{List, _∷_, _++_}
 use lib.Dec.{leb}
 use Rattle.wire.specs.Le.{bytes16, bytes32}
-use Rattle.wire.specs.Row.{_!_⨾_}
+use Rattle.whole.specs.Row.{_!_⨾_}
 use Rattle.session.specs.Header.{sizeGood, modeGood}
 
 -- sync: "magic CACCACCA, version 0100"

@@ -1,4 +1,2 @@
-pub mod Wrote
 pub mod Headers
-pub mod HeadersLaws
-pub mod ReadBack
+pub mod laws

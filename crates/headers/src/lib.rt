@@ -5,7 +5,7 @@ ghost use Prim.Native.Nat.{_+_, _≤_, _<_};
 ghost use lib.ListN.{length};
 ghost use mathlib.Core.List.{_++_};
 ghost use Rattle.wire.specs.Le.{bytes16, bytes32, patch, written};
-ghost use Rattle.headers.specs.Wrote.{Wrote};
+ghost use Rattle.headers.specs.laws.Wrote.{Wrote};
 ghost use Rattle.headers.specs.Headers.{syncOf, versionsOf, channelsOf, propertiesOf, contextOf, headersOf, headersFault};
 
 // 01's number, and the length in bytes (refused 0).

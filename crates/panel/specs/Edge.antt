@@ -5,13 +5,13 @@ use mathlib.Core.Path.{_≡_}
 use mathlib.Core.List.{List}
 use lib.IntN.{ℤ}
 use lib.ListN.{length}
-use Rattle.wire.specs.Row.{_⨟_}
+use Rattle.whole.specs.Row.{_⨟_}
 use Rattle.session.specs.declared.Session.{Session}
-use Rattle.code_read.specs.Read.{readingNumber, readingBits, reading, ComponentRead}
+use Rattle.code.specs.Read.{readingNumber, readingBits, reading, ComponentRead}
 use Rattle.code_write.specs.Write.{bytesOf, writeFault, lengthSaid, outLeft}
 use Rattle.headers.specs.Headers.{headersOf, headersFault}
-use Rattle.encoder_size.specs.Encode.{frameP}
-use Rattle.encoder.specs.FrameWrite.{argFault, sendFault, workLeft}
+use Rattle.frame_write.specs.Encode.{frameP}
+use Rattle.frame_write.specs.FrameWrite.{argFault, sendFault, workLeft}
 use Rattle.frame.specs.Frame.{callFault, frameNumber}
 use Rattle.panel.specs.declared.FrameReading.{FrameReading}
 use Rattle.panel.specs.Panel.{headerNumber, headerRecord, headerReading, frameReadingNumber, frameReadingTiles, frameReading, FrameRead}

@@ -5,14 +5,14 @@ use mathlib.Core.List.{List}
 use lib.Dec.{eqb}
 use lib.IntN.{ℤ}
 use lib.ListN.{length}
-use Rattle.wire.specs.Row.{_⇒_∣_}
+use Rattle.whole.specs.Row.{_⇒_∣_}
 use Rattle.session.specs.declared.Session.{Session}
 use Rattle.session.specs.declared.HeaderAnswer.{HeaderAnswer}
 use Rattle.session.specs.Header.{headerOf}
 use Rattle.headers.specs.Headers.{headersOf, headersFault}
-use Rattle.code_write.specs.declared.Writing.{Writing}
+use Rattle.code_write.specs.declared.call.Writing.{Writing}
 use Rattle.code_write.specs.Write.{Wrote}
-use Rattle.layout.specs.Reader.{tileCount, setPlace}
+use Rattle.frame_layout.specs.Reader.{tileCount, setPlace}
 use Rattle.frame.specs.Frame.{callFault, frameNumber, framePicture, frameList}
 use Rattle.panel.specs.declared.HeaderReading.{HeaderReading}
 use Rattle.panel.specs.declared.HeaderReading.the-variants.{Taken, Refused}

@@ -1,6 +1,5 @@
 // The six calls for C (issue 7, 2 and 4). A pointer is a reference, a list is a pointer and its length; the answer is 01's number, and 01's value is stored
 // behind the last reference on every answer. Each is one call of the panel's own and promises what that one does (specs/Edge). Nothing here has a `requires`.
-ghost use mathlib.Core.Path.{_≡_};
 ghost use Rattle.panel.specs.Edge.{ReadHeaderCall, ReadFrameCall, ReadComponentCall, WriteComponentCall, WriteHeadersCall, WriteFrameCall};
 use bands::Quant;
 use session::HeaderAnswer;
@@ -17,8 +16,8 @@ pub extern "C" fn xurbalenz_read_component(
     ensures { λ n. ⌜ ReadComponentCall mode (now (code .entry)) (now (list .entry)) (now (list .exit)) (now (bits .exit)) n ⌝ }
 {
     let r = crate::read_component(mode, code, list);
-    *bits = code_read::reading_bits(r);
-    code_read::reading_number(r)
+    *bits = code::read::reading_bits(r);
+    code::read::reading_number(r)
 }
 
 // Writes one component's code; `size` is its length in bytes, refused 0.
@@ -32,8 +31,8 @@ pub extern "C" fn xurbalenz_write_component(
     ensures { λ n. ⌜ WriteComponentCall mode (now (list .entry)) (now (out .entry)) (now (out .exit)) (now (size .exit)) n ⌝ }
 {
     let w = crate::write_component(mode, list, out);
-    *size = code_write::writing_length(w);
-    code_write::writing_number(w)
+    *size = code_write::call::writing_length(w);
+    code_write::call::writing_number(w)
 }
 
 // Writes the four header blocks; `size` is their length in bytes, refused 0.
@@ -48,8 +47,8 @@ pub extern "C" fn xurbalenz_write_headers(
     ensures { λ n. ⌜ WriteHeadersCall width height mode (now (out .entry)) (now (out .exit)) (now (size .exit)) n ⌝ }
 {
     let w = crate::write_headers(width, height, mode, out);
-    *size = code_write::writing_length(w);
-    code_write::writing_number(w)
+    *size = code_write::call::writing_length(w);
+    code_write::call::writing_number(w)
 }
 
 // Writes one frame over the whole channel, with the ten quantisers behind `quant`; `size` is its length in bytes, refused 0.
@@ -70,8 +69,8 @@ pub extern "C" fn xurbalenz_write_frame(
 {
     let q = Quant { v: *quant };
     let w = crate::write_frame(width, height, mode, q, index, pixels, list, scratch, out);
-    *size = code_write::writing_length(w);
-    code_write::writing_number(w)
+    *size = code_write::call::writing_length(w);
+    code_write::call::writing_number(w)
 }
 
 // The header call with the record by value: 01's number, and the record to be stored.

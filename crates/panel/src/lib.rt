@@ -1,15 +1,13 @@
 // The public edge: the calls of document 01 with its numbers ("Numbers the fitter sees"). An answer is an enum, and one definition gives 01's number and
 // values for every case of it (specs/Panel here, and those of the writers and the component reader). Any input is answered: nothing here has a `requires`.
 ghost use mathlib.Core.Path.{_≡_};
-ghost use lib.ListN.{length};
-ghost use Rattle.code_read.specs.Read.{ComponentRead};
-ghost use Rattle.code_write.specs.Write.{ComponentWritten, Wrote};
-ghost use Rattle.headers.specs.Headers.{headersOf, headersFault};
-ghost use Rattle.encoder.specs.FrameWrite.{FrameWritten};
+ghost use Rattle.code.specs.Read.{ComponentRead};
+ghost use Rattle.code_write.specs.Write.{ComponentWritten};
+ghost use Rattle.frame_write.specs.FrameWrite.{FrameWritten};
 ghost use Rattle.panel.specs.Panel.{headerReading, headerNumber, headerRecord, HeadersWritten, frameReadingNumber, frameReadingTiles, FrameRead};
 use bands::Quant;
-use code_read::Reading;
-use code_write::Writing;
+use code::read::Reading;
+use code_write::call::Writing;
 use session::Session;
 
 pub mod edge;
@@ -57,14 +55,14 @@ pub fn read_header(s: Session, message: &[u8]) -> HeaderReading
 pub fn read_component(mode: u8, code: &[u8], list: &mut [i32]) -> Reading
     ensures { λ r. ⌜ ComponentRead mode (now (code .entry)) (now (list .entry)) (now (list .exit)) r ⌝ }
 {
-    code_read::read_component(mode, code, list)
+    code::read::read_component(mode, code, list)
 }
 
 // Writes one component's code: the one code of the list.
 pub fn write_component(mode: u8, list: &[i32], out: &mut [u8]) -> Writing
     ensures { λ r. ⌜ ComponentWritten mode (now (list .entry)) (now (out .entry)) (now (out .exit)) r ⌝ }
 {
-    code_write::write_component(mode, list, out)
+    code_write::call::write_component(mode, list, out)
 }
 
 // Writes the four header blocks, 47 bytes.
@@ -118,7 +116,7 @@ pub fn read_frame(
 ) -> FrameReading
     ensures { λ r. ⌜ FrameRead s (now (message .entry)) (now (picture .entry)) (now (y .entry)) (now (cb .entry)) (now (cr .entry)) (now (scratch .entry)) (now (picture .exit)) (now (y .exit)) (now (cb .exit)) (now (cr .exit)) (now (scratch .exit)) r ⌝ }
 {
-    let a = frame::take_frame(s, message, picture, y, cb, cr, scratch);
+    let a = frame::call::take_frame(s, message, picture, y, cb, cr, scratch);
     let number = a.number;
     if number != 0 {
         return FrameReading::Refused(number);
@@ -141,5 +139,5 @@ pub fn write_frame(
 ) -> Writing
     ensures { λ r. ⌜ FrameWritten width height mode (q .v) index (now (pixels .entry)) (now (list .entry)) (now (list .exit)) (now (scratch .entry)) (now (scratch .exit)) (now (out .entry)) (now (out .exit)) r ⌝ }
 {
-    encoder::write_frame(width, height, mode, q, index, pixels, list, scratch, out)
+    frame_write::call::write_frame(width, height, mode, q, index, pixels, list, scratch, out)
 }

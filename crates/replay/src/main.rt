@@ -1,7 +1,10 @@
 // Makes the calls of a recording (standard input) on the public functions of `panel`, and prints one line for each: 01's number, its values, the record, and a
 // hash of the lent memory. A record of the recording is a letter and little-endian numbers of four bytes, then bytes; lent lists hold 7 and lent output A5.
 // The records are in `records` and `frame_records`, the calls in `replay_calls`, their lines in `replay_lines`; here is the loop.
-use records::Desk;
+mod frame_records;
+mod records;
+
+use crate::records::Desk;
 
 // One record of the recording, by its letter.
 fn replayed(
@@ -13,10 +16,10 @@ fn replayed(
     picture: &mut [u16],
 ) -> Desk {
     match letter {
-        b'F' => frame_records::frame(d, input, message, picture),
-        b'G' => frame_records::frame_again(d, input, out, picture),
-        b'Z' => frame_records::frame_writer(d, input, message, out),
-        _ => records::record(d, letter, input, message, out, picture),
+        b'F' => crate::frame_records::frame(d, input, message, picture),
+        b'G' => crate::frame_records::frame_again(d, input, out, picture),
+        b'Z' => crate::frame_records::frame_writer(d, input, message, out),
+        _ => crate::records::record(d, letter, input, message, out, picture),
     }
 }
 
@@ -28,13 +31,13 @@ fn step(
     out: &mut [u8],
     picture: &mut [u16],
 ) -> Desk {
-    let b = recording::next(input, d.from);
+    let b = app_recording::read::next(input, d.from);
     let from = b.from;
     if !from.whole {
-        return records::stopped(d);
+        return crate::records::stopped(d);
     }
     replayed(
-        records::going(d, from),
+        crate::records::going(d, from),
         b.value,
         input,
         message,
@@ -45,7 +48,7 @@ fn step(
 
 // A proved loop ends, and nothing says that an input does: the turns are counted down from a number that no run uses up.
 fn run(input: &mut [u8], message: &mut [u8], out: &mut [u8], picture: &mut [u16]) {
-    let mut d = records::fresh(recording::start());
+    let mut d = crate::records::fresh(app_recording::read::start());
     let mut turns = u64::MAX;
     while 0 < turns && d.go {
         d = step(d, input, message, out, picture);

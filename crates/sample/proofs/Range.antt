@@ -6,10 +6,10 @@ use mathlib.Core.List.{List}
 use lib.IntN.{ℤ}
 use lib.Dec.{lit≤}
 use lib.ListN.{length}
-use Rattle.line.specs.More.{all-wide}
+use Rattle.whole.specs.laws.More.{all-wide}
 use Rattle.code_write.specs.Write.{inRange}
-use Rattle.tile.specs.Word.{Plane}
-use Rattle.sample_waves.specs.Range.{near-of}
+use Rattle.tile_back.specs.Word.{Plane}
+use Rattle.sample.specs.laws.Range.{near-of}
 
 pub plane-of : (zs : List ℤ) (r : Bool) → length zs ≡ 4096 → r ≡ inRange zs → r ≡ true → Plane zs
 plane-of zs r l e t = record { len = l; near = all-wide (lit≤ tt) (near-of zs r e t) }

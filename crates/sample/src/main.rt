@@ -1,15 +1,19 @@
 // Runs 001's worked sample (the codes of 4.2.3, all stages of 4.2.4) and compares it with what 001 prints, value by value: a line for each stage.
 // The files of data/ hold 001's numbers: a list as two bytes for each number and 32,768, low byte first; the words of a tile as two bytes for
 // the 5-6-5 word and one that is 0 where the text cannot be read; codes and the tileset as they are. Each file's name is its stage's.
+mod code_stages;
+mod stages;
+mod wave_stages;
+
 use bands::Quant;
-ghost use Rattle.tile.specs.Word.{Plane};
+ghost use Rattle.tile_back.specs.Word.{Plane};
 
 // ---- a component's numbers
 
 // The quantisers of the sample, by their place in its tileset.
 fn quantisers() -> Quant {
     let mut m = [0u8; 64];
-    stages::load(b"4.2.4.1_tileset", &mut m);
+    crate::stages::load(b"4.2.4.1_tileset", &mut m);
     bands::quant_at(&m, 22)
 }
 
@@ -21,7 +25,7 @@ fn coefficients(q: Quant, code: &[u8], work: &mut [i32]) -> u8 {
     if !bands::is_good(q) {
         return 7;
     }
-    tile::coefficients(sample_codes::MODE, q, code, work)
+    tile_back::coefficients(crate::code_stages::MODE, q, code, work)
 }
 
 // A code's samples: 01's number.
@@ -35,11 +39,11 @@ fn samples(q: Quant, code: &[u8], work: &mut [i32], tmp: &mut [i32]) -> u8 {
     if !bands::is_good(q) {
         return 7;
     }
-    let n = tile::coefficients(sample_codes::MODE, q, code, work);
+    let n = tile_back::coefficients(crate::code_stages::MODE, q, code, work);
     if n != 0 {
         return n;
     }
-    tile::samples(sample_codes::MODE, q, code, work, tmp);
+    tile_back::samples(crate::code_stages::MODE, q, code, work, tmp);
     0
 }
 
@@ -56,13 +60,13 @@ fn words(ys: &[i32], cbs: &[i32], crs: &[i32], out: &mut [u16]) -> bool {
     if crs.len() != 4096 {
         return false;
     }
-    if !code_write::in_range(ys) {
+    if !code_write::call::in_range(ys) {
         return false;
     }
-    if !code_write::in_range(cbs) {
+    if !code_write::call::in_range(cbs) {
         return false;
     }
-    if !code_write::in_range(crs) {
+    if !code_write::call::in_range(crs) {
         return false;
     }
     fill_words(ys, cbs, crs, out);
@@ -75,7 +79,7 @@ fn word_at(ys: &[i32], cbs: &[i32], crs: &[i32], i: usize) -> u16
     if 4096 <= i {
         return 0;
     }
-    tile::pixel(ys, cbs, crs, i)
+    tile_back::pixel(ys, cbs, crs, i)
 }
 
 fn fill_words(ys: &[i32], cbs: &[i32], crs: &[i32], out: &mut [u16])
@@ -111,8 +115,8 @@ fn count_words(words: &[u16; 4096], data: &[u8; 12288]) -> Tally {
     let mut i = 0;
     while i < 4096 {
         let v = verdict(words[i], data[3 * i], data[3 * i + 1], data[3 * i + 2]);
-        same += stages::one(v == 1);
-        other += stages::one(v == 2);
+        same += crate::stages::one(v == 1);
+        other += crate::stages::one(v == 2);
         i += 1;
     }
     Tally {
@@ -124,14 +128,14 @@ fn count_words(words: &[u16; 4096], data: &[u8; 12288]) -> Tally {
 // The words against a file's.
 fn colours(name: &[u8], words: &[u16; 4096]) {
     let mut data = [0u8; 12288];
-    stages::load(name, &mut data);
+    crate::stages::load(name, &mut data);
     let t = count_words(words, &data);
     let same = t.same;
     let other = t.other;
-    report::say(name);
-    stages::say_with(b": ", same);
-    stages::say_with(b" agree, ", other);
-    report::say(b" differ\n");
+    app_text::report::say(name);
+    crate::stages::say_with(b": ", same);
+    crate::stages::say_with(b" agree, ", other);
+    app_text::report::say(b" differ\n");
 }
 
 // The tile's words against those of 01's integers, and against the text's, which differ: 001 gives reals, and 01's integers decide.
@@ -145,24 +149,24 @@ fn picture(ys: &[i32], cbs: &[i32], crs: &[i32]) {
 // The codes of 4.2.3.
 fn codes() {
     let mut code = [0u8; 1024];
-    sample_codes::component(b"4.2.3_y", b"4.2.3_y_list", &mut code);
-    sample_codes::component(b"4.2.3_cb", b"4.2.3_cb_list", &mut code);
-    sample_codes::component(b"4.2.3_cr", b"4.2.3_cr_list", &mut code);
+    crate::code_stages::component(b"4.2.3_y", b"4.2.3_y_list", &mut code);
+    crate::code_stages::component(b"4.2.3_cb", b"4.2.3_cb_list", &mut code);
+    crate::code_stages::component(b"4.2.3_cr", b"4.2.3_cr_list", &mut code);
 }
 
 // Y of 4.2.4, stage by stage.
 fn luma(q: Quant, ys: &mut [i32], tmp: &mut [i32]) {
     luma_code(q, ys);
-    sample_waves::third_level(ys, tmp);
-    sample_waves::second_level(ys, tmp);
-    sample_waves::first_level(ys, tmp);
-    stages::stage(b"4.2.4.3.4_y", ys);
+    crate::wave_stages::third_level(ys, tmp);
+    crate::wave_stages::second_level(ys, tmp);
+    crate::wave_stages::first_level(ys, tmp);
+    crate::stages::stage(b"4.2.4.3.4_y", ys);
 }
 
 fn luma_code(q: Quant, ys: &mut [i32]) {
     let mut code = [0u8; 1024];
-    let n = sample_codes::component(b"4.2.4.1_y", b"4.2.4.1_y_list", &mut code);
-    coefficients(q, stages::start(&code, n), ys);
+    let n = crate::code_stages::component(b"4.2.4.1_y", b"4.2.4.1_y_list", &mut code);
+    coefficients(q, crate::stages::start(&code, n), ys);
 }
 
 // Cb or Cr of 4.2.4.
@@ -175,9 +179,9 @@ fn chroma(
     tmp: &mut [i32],
 ) {
     let mut code = [0u8; 1024];
-    let n = sample_codes::component(name, list_name, &mut code);
-    samples(q, stages::start(&code, n), work, tmp);
-    stages::stage(samples_name, work);
+    let n = crate::code_stages::component(name, list_name, &mut code);
+    samples(q, crate::stages::start(&code, n), work, tmp);
+    crate::stages::stage(samples_name, work);
 }
 
 fn both_chromas(q: Quant, cbs: &mut [i32], crs: &mut [i32], tmp: &mut [i32]) {

@@ -3,31 +3,37 @@
 // output: the four header blocks (47 bytes) and one frame. -m 3 is RLGR3 (so without -m), -m 1 RLGR1; -q takes ten quantisers from 6 to 15 in the order LL3, LH3,
 // HL3, HH3, LH2, HL2, HH2, LH1, HL1, HH1 (6 6 6 6 7 7 8 8 8 9 without); INDEX is the frame's (0 without). At most 1,048,576 pixels and 4,194,304 bytes of
 // stream. Where anything is wrong, a line on standard error says what, and nothing goes to standard output (the kit has no exit status).
+mod args;
+
+use crate::args::Options;
+use app_pictures::ppm::Head;
 use libc::STDOUT_FILENO;
-use ppm::Head;
-use send_args::Options;
 
 // ---- lines on standard error
 
 // What the writers refused, with 01's number.
 fn say_refused(number: u8) {
-    lines::say(b"send: ");
-    lines::say_refused(number);
+    app_text::lines::say(b"send: ");
+    app_text::lines::say_refused(number);
     if number == 13 {
-        lines::say(b"send: the stream would be longer than 4194304 bytes\n");
+        app_text::lines::say(b"send: the stream would be longer than 4194304 bytes\n");
     }
 }
 
 // Why a picture is not taken.
 fn say_fault(fault: u8) {
     match fault {
-        1 => lines::say(b"send: not a binary PPM: it does not begin with P6\n"),
-        2 => lines::say(b"send: the PPM's head cannot be read\n"),
-        3 => lines::say(b"send: the PPM's largest value is not 255\n"),
-        4 => lines::say(b"send: the size is not allowed: width 1 to 4096, height 1 to 2048\n"),
-        5 => lines::say(b"send: the picture is too large: at most 1048576 pixels are taken\n"),
-        6 => lines::say(b"send: the picture has too few bytes\n"),
-        _ => lines::say(b"send: the picture has too many bytes\n"),
+        1 => app_text::lines::say(b"send: not a binary PPM: it does not begin with P6\n"),
+        2 => app_text::lines::say(b"send: the PPM's head cannot be read\n"),
+        3 => app_text::lines::say(b"send: the PPM's largest value is not 255\n"),
+        4 => app_text::lines::say(
+            b"send: the size is not allowed: width 1 to 4096, height 1 to 2048\n",
+        ),
+        5 => app_text::lines::say(
+            b"send: the picture is too large: at most 1048576 pixels are taken\n",
+        ),
+        6 => app_text::lines::say(b"send: the picture has too few bytes\n"),
+        _ => app_text::lines::say(b"send: the picture has too many bytes\n"),
     }
 }
 
@@ -62,15 +68,15 @@ fn make_frame(o: Options, width: usize, height: usize, pixels: &[u8], out: &mut 
         &mut out[47..e],
     );
     Made {
-        number: code_write::writing_number(w),
-        size: code_write::writing_length(w),
+        number: code_write::call::writing_number(w),
+        size: code_write::call::writing_length(w),
     }
 }
 
 // Headers and frame, one behind the other; the size is the frame's.
 fn make(o: Options, width: usize, height: usize, pixels: &[u8], out: &mut [u8]) -> Made {
     let w = panel::write_headers(width, height, o.mode, out);
-    let number = code_write::writing_number(w);
+    let number = code_write::call::writing_number(w);
     if number != 0 {
         return Made {
             number: number,
@@ -90,7 +96,7 @@ fn put(out: &[u8], size: usize) {
     }
     let e = 47 + size;
     if !io::write_all(STDOUT_FILENO, &out[0..e]) {
-        lines::say(b"send: the stream could not be written\n");
+        app_text::lines::say(b"send: the stream could not be written\n");
     }
 }
 
@@ -116,7 +122,7 @@ fn behind(data: &[u8], at: usize) -> &[u8] {
 
 // A picture, head and all, to its stream.
 fn send_picture(o: Options, data: &[u8], out: &mut [u8]) {
-    match ppm::read_picture(data) {
+    match app_pictures::ppm::read_picture(data) {
         Head::Good(width, height, at) => {
             send(o, width, height, behind(data, at), out);
         }
@@ -127,7 +133,7 @@ fn send_picture(o: Options, data: &[u8], out: &mut [u8]) {
 }
 
 fn load_and_send(o: Options, data: &mut [u8], out: &mut [u8]) {
-    let l = loading::load(
+    let l = app_text::loading::load(
         o.file,
         data,
         b"send: the picture is too large: at most 1048576 pixels are taken\n",
@@ -150,10 +156,12 @@ fn send_in(o: Options, data: &mut [u8; 3146752], out: &mut [u8; 4194304]) {
 fn main() {
     let mut data = [0u8; 3146752];
     let mut out = [0u8; 4194304];
-    let o = send_args::arguments();
+    let o = crate::args::arguments();
     if o.good && o.wants == 0 {
         send_in(o, &mut data, &mut out);
         return;
     }
-    lines::say(b"usage: send [FILE] [-m 1|3] [-q Q0 Q1 Q2 Q3 Q4 Q5 Q6 Q7 Q8 Q9] [-i INDEX]\n");
+    app_text::lines::say(
+        b"usage: send [FILE] [-m 1|3] [-q Q0 Q1 Q2 Q3 Q4 Q5 Q6 Q7 Q8 Q9] [-i INDEX]\n",
+    );
 }

@@ -5,7 +5,7 @@ use mathlib.Core.List.{List}
 use lib.ListN.{length}
 use borrow.Author.Tests.{le-leb}
 use Rattle.wire.specs.Le.{le16, le32}
-use Rattle.wire.specs.RowLaws.{passes, fails, stops, goes-on, ne-is, eq-is}
+use Rattle.whole.specs.laws.Row.{passes, fails, stops, goes-on, ne-is, eq-is}
 use Rattle.session.specs.declared.Session.{Session}
 use Rattle.session.specs.Header.{headJudge, fieldFault, headerFault}
 

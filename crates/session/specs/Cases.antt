@@ -1,13 +1,11 @@
 -- Cases of 01 on the header call, computed by the definitions.
 use Prim.Native.Nat.{ℕ, _+_}
-use mathlib.Core.Path.{_≡_, refl}
+use mathlib.Core.Path.{_≡_}
 use mathlib.Core.Bool.{true}
 use mathlib.Core.List.{List, [], _∷_, _++_}
-use Rattle.wire.specs.Le.{le16, le32}
-use Rattle.wire.specs.Row.{_!_⨾_, _⇒_∣_, _⨟_}
 use Rattle.session.specs.declared.Session.{Session}
 use Rattle.session.specs.declared.HeaderAnswer.{HeaderAnswer}
-use Rattle.session.specs.Header.{sizeGood, modeGood, made, ready, due, sizeOf, syncJudge, versionsJudge, channelsJudge, propertiesGood, contextJudge, etOf, syncFault, versionsFault, channelsFault, contextFault, fieldFault, headJudge, headerFault, recordAfter, headerOf}
+use Rattle.session.specs.Header.{made, ready, due, headerOf}
 
 -- a record, and an answer
 abbrev at : ℕ → ℕ → ℕ → ℕ → Session
@@ -49,22 +47,3 @@ pub record Cases : Type 0 where
   pub cut : headerOf (at 0 0 0 0) (0xC0 ∷ 0xCC ∷ 0x0C ∷ 0x00 ∷ 0x00 ∷ []) ≡ says 1 (at 0 0 0 0)
   -- a frame can be asked for after all four
   pub is-ready : ready (at 4 64 64 4) ≡ true
-
-pub cases : Cases
-unfolding le16 le32 _!_⨾_ _⇒_∣_ _⨟_ sizeGood modeGood made ready due sizeOf syncJudge versionsJudge channelsJudge propertiesGood contextJudge etOf syncFault versionsFault channelsFault contextFault fieldFault headJudge headerFault recordAfter headerOf
-cases = record {
-  sync-taken = refl;
-  versions-taken = refl;
-  channels-taken = refl;
-  rlgr3-taken = refl;
-  rlgr1-taken = refl;
-  wide-taken = refl;
-  wide-refused = refl;
-  sync-again = refl;
-  sync-unmade = refl;
-  early = refl;
-  unmade = refl;
-  more = refl;
-  cut = refl;
-  is-ready = refl;
-}

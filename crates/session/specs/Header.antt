@@ -1,11 +1,11 @@
 -- The session record and what a header call answers, in 01's order.
-use Prim.Native.Nat.{ℕ, _+_, _*_, _/_, _%_}
-use mathlib.Core.List.{List, [], _∷_}
+use Prim.Native.Nat.{ℕ, _+_, _/_, _%_}
+use mathlib.Core.List.{List}
 use mathlib.Core.Bool.{Bool, true, false}
 use lib.ListN.{length, getD}
 use lib.Dec.{ltb, leb, eqb}
 use Rattle.wire.specs.Le.{le16, le32}
-use Rattle.wire.specs.Row.{_!_⨾_, _⇒_∣_, _⨟_}
+use Rattle.whole.specs.Row.{_!_⨾_, _⇒_∣_, _⨟_}
 use Rattle.session.specs.declared.Session.{Session}
 use Rattle.session.specs.declared.HeaderAnswer.{HeaderAnswer}
 

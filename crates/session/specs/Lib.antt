@@ -1,3 +1,3 @@
-pub mod Header
-pub mod HeaderLaws
 pub mod Cases
+pub mod Header
+pub mod laws

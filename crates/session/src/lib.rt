@@ -4,7 +4,7 @@ ghost use mathlib.Core.Path.{_≡_};
 ghost use Prim.Native.Nat.{_+_, _≤_, _<_};
 ghost use lib.ListN.{length};
 ghost use Rattle.session.specs.Header.{sizeGood, modeGood, made, ready, due, sizeOf, syncJudge, versionsJudge, channelsJudge, propertiesGood, contextJudge, etOf, syncFault, versionsFault, channelsFault, contextFault, fieldFault, headJudge, headerFault, recordAfter, headerOf};
-ghost use Rattle.session.specs.HeaderLaws.{Good};
+ghost use Rattle.session.specs.laws.Header.{Good};
 
 // How many headers are in, width, height, mode (et); all 0 when fresh. Laid out as C does, for the edge.
 #[repr(C)]

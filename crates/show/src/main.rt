@@ -3,34 +3,39 @@
 // came to. At the end the picture goes to standard output, or to OUT.bmp, as a 16-bit BMP (5-6-5, rows from below), and with -p also to OUT.pic: width and
 // height of 2 bytes, then the words, all little-endian. The picture starts black. A stream has at most 3,145,728 bytes, a picture at most 1,920 x 1,080 words.
 // The kit has no exit status: where nothing is written, a line on standard error says why.
-use playing::Desk;
-use show_args::Options;
+mod args;
+mod playing;
+
+use crate::args::Options;
+use crate::playing::Desk;
 
 // The picture at the end, where there is one.
 fn finish(o: Options, d: Desk, picture: &[u16]) {
     let w = d.width;
     let h = d.height;
     if w == 0 {
-        lines::say(
+        app_text::lines::say(
             b"show: no channels block was taken: no size is known, and no picture is written\n",
         );
         return;
     }
     if picture.len() < w as usize * h as usize {
-        lines::say(b"show: the channel has more than 1920 x 1080 words: no picture is written\n");
+        app_text::lines::say(
+            b"show: the channel has more than 1920 x 1080 words: no picture is written\n",
+        );
         return;
     }
-    picture_out::bmp_out(o.bmp, picture, w, h);
-    picture_out::pic_out(o.pic, picture, w, h);
+    app_pictures::out::bmp_out(o.bmp, picture, w, h);
+    app_pictures::out::pic_out(o.pic, picture, w, h);
 }
 
 fn show(o: Options, input: &[u8], picture: &mut [u16]) {
-    let d = playing::run(input, picture);
+    let d = crate::playing::run(input, picture);
     finish(o, d, picture);
 }
 
 fn load_and_show(o: Options, input: &mut [u8], picture: &mut [u16]) {
-    let l = loading::load(
+    let l = app_text::loading::load(
         o.file,
         input,
         b"show: the stream is too long: at most 3145728 bytes are taken\n",
@@ -53,10 +58,10 @@ fn show_in(o: Options, input: &mut [u8; 3145728], picture: &mut [u16; 2073600]) 
 fn main() {
     let mut input = [0u8; 3145728];
     let mut picture = [0u16; 2073600];
-    let o = show_args::arguments();
+    let o = crate::args::arguments();
     if o.good && o.wants == 0 {
         show_in(o, &mut input, &mut picture);
         return;
     }
-    lines::say(b"usage: show [FILE] [-o OUT.bmp] [-p OUT.pic]\n");
+    app_text::lines::say(b"usage: show [FILE] [-o OUT.bmp] [-p OUT.pic]\n");
 }

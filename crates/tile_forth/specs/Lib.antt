@@ -1,2 +1,2 @@
 pub mod TileForth
-pub mod TileForthLaws
+pub mod laws

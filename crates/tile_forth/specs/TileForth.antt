@@ -5,10 +5,10 @@ use mathlib.Core.List.{List}
 use lib.Dec.{eqb}
 use lib.IntN.{ℤ}
 use lib.ListN.{getD}
-use Rattle.wire.specs.Row.{_⇒_∣_}
+use Rattle.whole.specs.Row.{_⇒_∣_}
 use Rattle.whole.specs.Tab.{tab}
 use Rattle.colour.specs.Colour.{lumaOf, cbOf, crOf}
-use Rattle.forth.specs.Forth.{tileForth}
+use Rattle.wave_forth.specs.Forth.{tileForth}
 use Rattle.bands.specs.Rounding.{roundedBy}
 
 -- component c of a pixel: 0 is Y, 1 is Cb, 2 is Cr

@@ -2,10 +2,11 @@
 // filled by repeating the last column and row"): one component's samples, the wavelet forth, rounding and LL3's differences.
 use bands::Quant;
 ghost use mathlib.Core.Path.{_≡_};
-ghost use Prim.Native.Nat.{_+_, _-_, _*_, min, _<_, _≤_};
+ghost use Prim.Native.Nat.{_+_, _-_, _*_, _<_, _≤_};
 ghost use lib.ListN.{length};
 ghost use Rattle.whole.specs.Near.{Near};
-ghost use Rattle.whole.specs.Tab.{tab, AllNear};
+ghost use Rattle.whole.specs.Tab.{tab};
+ghost use Rattle.whole.specs.laws.Tab.{AllNear};
 ghost use Rattle.bands.specs.Bands.{QuantGood};
 ghost use Rattle.tile_forth.specs.TileForth.{componentOf, edge, bytesAt, sampleAt, roundedOf};
 
@@ -80,6 +81,6 @@ pub fn load_component(
     ensures { λ _. ⌜ now (work .exit) ≡ roundedOf (now (pixels .entry)) w h (q .v) tx ty c ⌝ }
 {
     load(pixels, w, h, tx, ty, c, work);
-    forth::tile_forth(work, tmp);
+    wave_forth::tile::tile_forth(work, tmp);
     bands::round_all(work, q);
 }

@@ -1,59 +1,49 @@
 use mathlib.Core.Path.{refl}
 use native.Mathlib.Omega.{arith}
 use borrow.Author.Tests.{lt-ltb, le-ltb}
-use Rattle.wire.specs.RowLaws.{case-yes, case-no}
+use Rattle.whole.specs.laws.Row.{case-yes, case-no}
 use Rattle.bands.specs.Bands.{bandOf}
 use Rattle.bands.proofs.band_of.Statement.{statement}
 use Rattle.bands.proofs.band_of.Tie as tie
 use Rattle.bands.proofs.band_of.Reads as reads
 use Rattle.bands.proofs.band_of.Lts as lts
 
--- src/lib.rt:40:9
 returns : tie.Need-returns
 unfolding bandOf
 returns c = case-yes _ _ _ _ (lt-ltb (c .before .args .k) 1024 (omega arith)) refl
 
--- src/lib.rt:43:9
 returns-2 : tie.Need-returns-2
 unfolding bandOf
 returns-2 c = case-no _ _ _ _ (le-ltb (c .before .before .args .k) 1024 (omega arith)) (case-yes _ _ _ _ (lt-ltb (c .before .before .args .k) 2048 (omega arith)) refl)
 
--- src/lib.rt:46:9
 returns-3 : tie.Need-returns-3
 unfolding bandOf
 returns-3 c = case-no _ _ _ _ (le-ltb (c .before .before .before .args .k) 1024 (omega arith)) (case-no _ _ _ _ (le-ltb (c .before .before .before .args .k) 2048 (omega arith)) (case-yes _ _ _ _ (lt-ltb (c .before .before .before .args .k) 3072 (omega arith)) refl))
 
--- src/lib.rt:49:9
 returns-4 : tie.Need-returns-4
 unfolding bandOf
 returns-4 c = case-no _ _ _ _ (le-ltb (c .before .before .before .before .args .k) 1024 (omega arith)) (case-no _ _ _ _ (le-ltb (c .before .before .before .before .args .k) 2048 (omega arith)) (case-no _ _ _ _ (le-ltb (c .before .before .before .before .args .k) 3072 (omega arith)) (case-yes _ _ _ _ (lt-ltb (c .before .before .before .before .args .k) 3328 (omega arith)) refl)))
 
--- src/lib.rt:52:9
 returns-5 : tie.Need-returns-5
 unfolding bandOf
 returns-5 c = case-no _ _ _ _ (le-ltb (c .before .before .before .before .before .args .k) 1024 (omega arith)) (case-no _ _ _ _ (le-ltb (c .before .before .before .before .before .args .k) 2048 (omega arith)) (case-no _ _ _ _ (le-ltb (c .before .before .before .before .before .args .k) 3072 (omega arith)) (case-no _ _ _ _ (le-ltb (c .before .before .before .before .before .args .k) 3328 (omega arith)) (case-yes _ _ _ _ (lt-ltb (c .before .before .before .before .before .args .k) 3584 (omega arith)) refl))))
 
--- src/lib.rt:55:9
 returns-6 : tie.Need-returns-6
 unfolding bandOf
 returns-6 c = case-no _ _ _ _ (le-ltb (c .before .before .before .before .before .before .args .k) 1024 (omega arith)) (case-no _ _ _ _ (le-ltb (c .before .before .before .before .before .before .args .k) 2048 (omega arith)) (case-no _ _ _ _ (le-ltb (c .before .before .before .before .before .before .args .k) 3072 (omega arith)) (case-no _ _ _ _ (le-ltb (c .before .before .before .before .before .before .args .k) 3328 (omega arith)) (case-no _ _ _ _ (le-ltb (c .before .before .before .before .before .before .args .k) 3584 (omega arith)) (case-yes _ _ _ _ (lt-ltb (c .before .before .before .before .before .before .args .k) 3840 (omega arith)) refl)))))
 
--- src/lib.rt:58:9
 returns-7 : tie.Need-returns-7
 unfolding bandOf
 returns-7 c = case-no _ _ _ _ (le-ltb (c .before .before .before .before .before .before .before .args .k) 1024 (omega arith)) (case-no _ _ _ _ (le-ltb (c .before .before .before .before .before .before .before .args .k) 2048 (omega arith)) (case-no _ _ _ _ (le-ltb (c .before .before .before .before .before .before .before .args .k) 3072 (omega arith)) (case-no _ _ _ _ (le-ltb (c .before .before .before .before .before .before .before .args .k) 3328 (omega arith)) (case-no _ _ _ _ (le-ltb (c .before .before .before .before .before .before .before .args .k) 3584 (omega arith)) (case-no _ _ _ _ (le-ltb (c .before .before .before .before .before .before .before .args .k) 3840 (omega arith)) (case-yes _ _ _ _ (lt-ltb (c .before .before .before .before .before .before .before .args .k) 3904 (omega arith)) refl))))))
 
--- src/lib.rt:61:9
 returns-8 : tie.Need-returns-8
 unfolding bandOf
 returns-8 c = case-no _ _ _ _ (le-ltb (c .before .before .before .before .before .before .before .before .args .k) 1024 (omega arith)) (case-no _ _ _ _ (le-ltb (c .before .before .before .before .before .before .before .before .args .k) 2048 (omega arith)) (case-no _ _ _ _ (le-ltb (c .before .before .before .before .before .before .before .before .args .k) 3072 (omega arith)) (case-no _ _ _ _ (le-ltb (c .before .before .before .before .before .before .before .before .args .k) 3328 (omega arith)) (case-no _ _ _ _ (le-ltb (c .before .before .before .before .before .before .before .before .args .k) 3584 (omega arith)) (case-no _ _ _ _ (le-ltb (c .before .before .before .before .before .before .before .before .args .k) 3840 (omega arith)) (case-no _ _ _ _ (le-ltb (c .before .before .before .before .before .before .before .before .args .k) 3904 (omega arith)) (case-yes _ _ _ _ (lt-ltb (c .before .before .before .before .before .before .before .before .args .k) 3968 (omega arith)) refl)))))))
 
--- src/lib.rt:64:9
 returns-9 : tie.Need-returns-9
 unfolding bandOf
 returns-9 c = case-no _ _ _ _ (le-ltb (c .before .before .before .before .before .before .before .before .before .args .k) 1024 (omega arith)) (case-no _ _ _ _ (le-ltb (c .before .before .before .before .before .before .before .before .before .args .k) 2048 (omega arith)) (case-no _ _ _ _ (le-ltb (c .before .before .before .before .before .before .before .before .before .args .k) 3072 (omega arith)) (case-no _ _ _ _ (le-ltb (c .before .before .before .before .before .before .before .before .before .args .k) 3328 (omega arith)) (case-no _ _ _ _ (le-ltb (c .before .before .before .before .before .before .before .before .before .args .k) 3584 (omega arith)) (case-no _ _ _ _ (le-ltb (c .before .before .before .before .before .before .before .before .before .args .k) 3840 (omega arith)) (case-no _ _ _ _ (le-ltb (c .before .before .before .before .before .before .before .before .before .args .k) 3904 (omega arith)) (case-no _ _ _ _ (le-ltb (c .before .before .before .before .before .before .before .before .before .args .k) 3968 (omega arith)) (case-yes _ _ _ _ (lt-ltb (c .before .before .before .before .before .before .before .before .before .args .k) 4032 (omega arith)) refl))))))))
 
--- src/lib.rt:36:1
 returns-10 : tie.Need-returns-10
 unfolding bandOf
 returns-10 c = case-no _ _ _ _ (le-ltb (c .before .before .before .before .before .before .before .before .before .args .k) 1024 (omega arith)) (case-no _ _ _ _ (le-ltb (c .before .before .before .before .before .before .before .before .before .args .k) 2048 (omega arith)) (case-no _ _ _ _ (le-ltb (c .before .before .before .before .before .before .before .before .before .args .k) 3072 (omega arith)) (case-no _ _ _ _ (le-ltb (c .before .before .before .before .before .before .before .before .before .args .k) 3328 (omega arith)) (case-no _ _ _ _ (le-ltb (c .before .before .before .before .before .before .before .before .before .args .k) 3584 (omega arith)) (case-no _ _ _ _ (le-ltb (c .before .before .before .before .before .before .before .before .before .args .k) 3840 (omega arith)) (case-no _ _ _ _ (le-ltb (c .before .before .before .before .before .before .before .before .before .args .k) 3904 (omega arith)) (case-no _ _ _ _ (le-ltb (c .before .before .before .before .before .before .before .before .before .args .k) 3968 (omega arith)) (case-no _ _ _ _ (le-ltb (c .before .before .before .before .before .before .before .before .before .args .k) 4032 (omega arith)) refl))))))))

@@ -1,16 +1,14 @@
-use Prim.Native.Nat.{ℕ, _≤_, _<_, _*_, _-_, _+_, _^_}
-use mathlib.Core.Path.{_≡_, _∙_, ap, sym, refl, subst}
+use Prim.Native.Nat.{ℕ, _≤_, _<_, _-_}
+use mathlib.Core.Path.{_≡_}
 use native.Mathlib.Omega.{arith}
-use lib.IntN.{ℤ, pos, _+ℤ_, _-ℤ_}
-use lib.Signed.{shrZ}
-use lib.ListN.{length, length-take, length-drop, length-set, getD, drop}
+use lib.IntN.{pos}
+use lib.ListN.{length, length-set}
 use lib.Seq.{ext-getD}
 use denote.Ref.{now}
 use mir.Syntax.{w32}
-use mir.Val.{toZ, ofZ}
-use Rattle.whole.specs.Near.{Near, wide-near, back, back-near, back-ok}
-use Rattle.whole.specs.Tab.{at, tab}
-use Rattle.whole.specs.Put.{put-new}
+use Rattle.whole.specs.Near.{back-ok}
+use Rattle.whole.specs.Tab.{at}
+use Rattle.whole.specs.laws.Put.{put-new}
 use borrow.Author.Count.{below-none}
 use Rattle.bands.proofs.copy.Statement.{statement}
 use Rattle.bands.proofs.copy.Tie as tie
@@ -23,43 +21,33 @@ Inv-loop from to₀ i₀ to i = (i ≤ length from) × (length to ≡ length fro
 abbrev μ-loop : tie.MeasureT-loop
 μ-loop from to₀ i₀ to i = length from - i
 
--- src/lib.rt:310:5
 loop-holds : tie.Need-loop-holds Inv-loop μ-loop
 loop-holds c = (omega arith, omega arith, below-none _)
 
--- src/lib.rt:311:17
 mul-to : tie.Need-mul-to Inv-loop μ-loop
 mul-to c = omega arith
 
--- src/lib.rt:311:17
 shared-slice-copy-out-to : tie.Need-shared-slice-copy-out-to Inv-loop μ-loop
 shared-slice-copy-out-to c = omega arith
 
--- src/lib.rt:311:9
 mul-t8 : tie.Need-mul-t8 Inv-loop μ-loop
 mul-t8 c = omega arith
 
--- src/lib.rt:311:9
 slice-set-from-to : tie.Need-slice-set-from-to Inv-loop μ-loop
 slice-set-from-to c = omega arith
 
--- src/lib.rt:312:9
 add-i : tie.Need-add-i Inv-loop μ-loop
 add-i c = omega arith
 
--- src/lib.rt:310:5
 loop-less : tie.Need-loop-less Inv-loop μ-loop
 loop-less c = omega arith
 
--- src/lib.rt:310:5
 loop-again : tie.Need-loop-again Inv-loop μ-loop
 loop-again c = (omega arith, simp length-set (omega arith), put-new (λ n. n) (at (now (c .before .before .before .args .from))) (c .before .before .loop .to) (c .before .before .loop .i) _ (omega arith) (λ n k. omega arith) (back-ok w32 _ (c .to .given)) (c .before .before .loop .inv .2))
 
--- src/lib.rt:305:1
 same-length : tie.Need-same-length Inv-loop μ-loop
 same-length c = omega arith
 
--- src/lib.rt:305:1
 returns : tie.Need-returns Inv-loop μ-loop
 returns c = ext-getD (pos 0) (c .before .loop .to) (now (c .before .before .args .from)) (c .before .loop .inv .1) (λ i h. c .before .loop .inv .2 i (omega arith))
 

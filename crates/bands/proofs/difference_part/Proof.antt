@@ -1,18 +1,15 @@
-use Prim.Native.Nat.{ℕ, _≤_, _<_, _*_, _-_, _+_, _^_}
-use mathlib.Core.Path.{_≡_, _∙_, ap, sym, refl, subst}
+use Prim.Native.Nat.{ℕ, _≤_, _-_}
+use mathlib.Core.Path.{_≡_, _∙_, sym, refl, subst}
 use native.Mathlib.Omega.{arith}
-use lib.IntN.{ℤ, pos, _+ℤ_, _-ℤ_}
-use lib.Signed.{shrZ}
-use lib.ListN.{length, length-take, length-drop, length-set, getD, drop}
-use lib.Seq.{ext-getD}
+use lib.IntN.{ℤ}
 use denote.Ref.{now}
 use mir.Syntax.{w32}
 use mir.Val.{toZ, ofZ}
-use Rattle.whole.specs.Near.{Near, wide-near, back, back-near, back-ok}
+use Rattle.whole.specs.Near.{Near, back, back-near, back-ok}
 use Rattle.whole.specs.Tab.{at, tab}
 use Rattle.bands.specs.Rounding.{diffAt}
-use Rattle.bands.specs.RoundingLaws.{lastOf, diff-is, last-more, last-near}
-use Rattle.bands.specs.PartLaws.{Done, done-none, done-put, done-all}
+use Rattle.bands.specs.laws.Rounding.{lastOf, diff-is, last-more, last-near}
+use Rattle.bands.specs.laws.Part.{Done, done-none, done-put, done-all}
 use Rattle.bands.proofs.difference_part.Statement.{statement}
 use Rattle.bands.proofs.difference_part.Tie as tie
 use Rattle.bands.proofs.difference_part.Reads as reads
@@ -25,16 +22,13 @@ Inv-loop part₀ last₀ i₀ part last i = (i ≤ 64) × (toZ w32 last ≡ last
 abbrev μ-loop : tie.MeasureT-loop
 μ-loop part₀ last₀ i₀ part last i = 64 - i
 
--- src/lib.rt:274:5
 loop-holds : tie.Need-loop-holds Inv-loop μ-loop
 unfolding lastOf
 loop-holds c = (omega arith, refl, done-none _ _)
 
--- src/lib.rt:275:17
 mul-v : tie.Need-mul-v Inv-loop μ-loop
 mul-v c = omega (arith, c .before .loop .inv .2 .same, c .before .before .pre .0)
 
--- src/lib.rt:275:17
 slice-copy-out-v : tie.Need-slice-copy-out-v Inv-loop μ-loop
 slice-copy-out-v c = omega (arith, c .before .loop .inv .2 .same, c .before .before .pre .0)
 
@@ -44,23 +38,18 @@ here s = let e = s .loop .inv .2 .rest (s .loop .i) (omega arith) in (e, subst (
 minus-requires : tie.Need-minus-requires Inv-loop μ-loop
 minus-requires c κs = (back-near w32 (here ((c .before .before)) .1) tt, subst (Near 268443648) (sym (c .before .before .loop .inv .1)) (last-near (at (now (c .before .before .before .args .part))) (c .before .before .loop .i) (c .before .before .before .pre .1 .all)))
 
--- src/lib.rt:276:9
 mul-t5 : tie.Need-mul-t5 Inv-loop μ-loop
 mul-t5 c = omega (arith, c .before .before .before .loop .inv .2 .same, c .before .before .before .before .pre .0)
 
--- src/lib.rt:276:9
 slice-set-from-part : tie.Need-slice-set-from-part Inv-loop μ-loop
 slice-set-from-part c = omega (arith, c .before .before .before .loop .inv .2 .same, c .before .before .before .before .pre .0)
 
--- src/lib.rt:278:9
 add-i : tie.Need-add-i Inv-loop μ-loop
 add-i c = omega (arith, c .before .before .before .loop .inv .2 .same, c .before .before .before .before .pre .0)
 
--- src/lib.rt:274:5
 loop-less : tie.Need-loop-less Inv-loop μ-loop
 loop-less c = omega (arith, c .before .before .before .loop .inv .2 .same, c .before .before .before .before .pre .0)
 
--- src/lib.rt:274:5
 loop-again : tie.Need-loop-again Inv-loop μ-loop
 loop-again c =
     let f : ℕ → ℤ = at (now (c .before .before .before .before .args .part)) in
@@ -68,11 +57,9 @@ loop-again c =
     let v : toZ w32 (ofZ w32 (c .minus .result)) ≡ diffAt f (c .before .before .before .loop .i) = cc (back-ok w32 (c .minus .result) (c .minus .ok), c .minus .ensures, back w32 (h .1) tt, h .0, c .before .before .before .loop .inv .1, diff-is f (c .before .before .before .loop .i)) in
     (omega (arith, c .before .before .before .loop .inv .2 .same, c .before .before .before .before .pre .0), back w32 (h .1) tt ∙ (h .0 ∙ last-more f (c .before .before .before .loop .i)), done-put (diffAt f) (c .before .before .before .loop .i) (now (c .before .before .before .before .args .part)) (c .before .before .before .loop .part) _ (omega (arith, c .before .before .before .loop .inv .2 .same)) v (c .before .before .before .loop .inv .2))
 
--- src/lib.rt:268:1
 same-length : tie.Need-same-length Inv-loop μ-loop
 same-length c = omega (arith, c .before .loop .inv .2 .same, c .before .before .pre .0)
 
--- src/lib.rt:268:1
 returns : tie.Need-returns Inv-loop μ-loop
 returns c =
     let n : c .before .loop .i ≡ 64 = omega (arith, c .before .loop .inv .2 .same, c .before .before .pre .0) in

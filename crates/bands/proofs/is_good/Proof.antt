@@ -1,18 +1,9 @@
-use Prim.Native.Nat.{ℕ, _≤_, _<_, _*_, _-_, _+_, _^_}
-use mathlib.Core.Bool.{true, false}
-use mathlib.Core.Path.{_≡_, _∙_, ap, sym, refl, subst}
+use Prim.Native.Nat.{ℕ, _≤_, _-_}
+use mathlib.Core.Bool.{true}
+use mathlib.Core.Path.{_≡_, sym, refl, subst}
 use native.Mathlib.Omega.{arith}
-use lib.IntN.{ℤ, pos, _+ℤ_, _-ℤ_}
-use lib.Signed.{shrZ}
-use lib.ListN.{length, length-take, length-drop, length-set, getD, drop}
-use lib.Seq.{ext-getD}
-use denote.Ref.{now}
-use mir.Syntax.{w32}
-use mir.Val.{toZ, ofZ}
-use Rattle.whole.specs.Near.{Near, wide-near, back, back-near, back-ok}
-use Rattle.whole.specs.Tab.{at, tab}
 use Rattle.bands.specs.Bands.{goodTo}
-use Rattle.bands.specs.BandLaws.{bad-low, bad-high, good-next}
+use Rattle.bands.specs.laws.Band.{bad-low, bad-high, good-next}
 use Rattle.bands.proofs.is_good.Statement.{statement}
 use Rattle.bands.proofs.is_good.Tie as tie
 use Rattle.bands.proofs.is_good.Reads as reads
@@ -24,36 +15,28 @@ Inv-loop q i₀ i = (i ≤ 10) × (goodTo (q .v) i ≡ true)
 abbrev μ-loop : tie.MeasureT-loop
 μ-loop q i₀ i = 10 - i
 
--- src/lib.rt:337:5
 loop-holds : tie.Need-loop-holds Inv-loop μ-loop
 unfolding goodTo
 loop-holds c = (omega arith, refl)
 
--- src/lib.rt:338:17
 element-copy-out-x : tie.Need-element-copy-out-x Inv-loop μ-loop
 element-copy-out-x c = omega arith
 
--- src/lib.rt:340:13
 returns : tie.Need-returns Inv-loop μ-loop
 returns c = bad-low (c .before .before .before .before .args .t1 .v) (c .before .before .before .loop .i) (omega arith) (omega arith)
 
--- src/lib.rt:343:13
 returns-2 : tie.Need-returns-2 Inv-loop μ-loop
 returns-2 c = bad-high (c .before .before .before .before .before .args .t1 .v) (c .before .before .before .before .loop .i) (omega arith) (omega arith) (omega arith)
 
--- src/lib.rt:345:9
 add-i : tie.Need-add-i Inv-loop μ-loop
 add-i c = omega arith
 
--- src/lib.rt:337:5
 loop-less : tie.Need-loop-less Inv-loop μ-loop
 loop-less c = omega arith
 
--- src/lib.rt:337:5
 loop-again : tie.Need-loop-again Inv-loop μ-loop
 loop-again c = (omega arith, good-next (c .before .before .before .before .before .args .t1 .v) (c .before .before .before .before .loop .i) (c .before .before .before .before .loop .inv .1) (omega arith) (omega arith))
 
--- src/lib.rt:333:1
 returns-3 : tie.Need-returns-3 Inv-loop μ-loop
 returns-3 c = let n : c .before .loop .i ≡ 10 = omega arith in sym (subst (λ (i : ℕ). goodTo (c .before .before .args .t1 .v) i ≡ true) n (c .before .loop .inv .1))
 

@@ -1,8 +1,8 @@
-use mathlib.Core.Path.{_≡_, _∙_, ap, subst, sym}
+use mathlib.Core.Path.{_∙_, ap, subst, sym}
 use lib.ListN.{length}
 use denote.Ref.{now}
-use Rattle.whole.specs.Tab.{AllNear}
-use Rattle.bands.specs.PartLaws.{out-refused, none-refused, sums-judged, sums-passed, scale-judged}
+use Rattle.whole.specs.laws.Tab.{AllNear}
+use Rattle.bands.specs.laws.Part.{out-refused, none-refused, sums-judged, sums-passed, scale-judged}
 use borrow.Author.Needs.{needs}
 use Rattle.bands.proofs.judge.Statement.{statement}
 use Rattle.bands.proofs.judge.Tie as tie
@@ -13,46 +13,37 @@ use Rattle.bands.proofs.count_out.Reads as count-out-reads
 use Rattle.bands.proofs.scale.Reads as scale-reads
 use Rattle.bands.proofs.sums.Reads as sums-reads
 
--- src/lib.rt:321:8
 count-out-requires : tie.Need-count-out-requires
 count-out-requires c κs = search needs
 
--- src/lib.rt:322:9
 returns : tie.Need-returns
 returns c = out-refused (c .before .before .args .q .v) (now (c .before .before .args .work)) (c .before .count-out .result) (c .before .count-out .ensures) (c .if1 .taken)
 
--- src/lib.rt:324:5
 copy-requires : tie.Need-copy-requires
 copy-requires c κs = search needs
 
--- src/lib.rt:325:9
 sums-requires : tie.Need-sums-requires
 sums-requires c κs =
     let t = none-refused (c .before .before .before .before .before .before .args .q .v) (now (c .before .before .before .before .before .before .args .work)) (c .before .before .before .before .before .count-out .result) (c .before .before .before .before .before .count-out .ensures) (c .before .before .before .before .if1 .left) in
     (ap length (c .before .before .copy .ensures) ∙ c .before .before .before .before .before .before .pre .0, subst (AllNear 32767) (sym (c .before .before .copy .ensures)) (t .1))
 
--- src/lib.rt:327:9
 same-length : tie.Need-same-length
 same-length c = search needs
 
--- src/lib.rt:327:9
 returns-2 : tie.Need-returns-2
 returns-2 c =
     let t = none-refused (c .before .before .before .before .before .before .before .before .before .args .q .v) (now (c .before .before .before .before .before .before .before .before .before .args .work)) (c .before .before .before .before .before .before .before .before .count-out .result) (c .before .before .before .before .before .before .before .before .count-out .ensures) (c .before .before .before .before .before .before .before .if1 .left) in
     sums-judged (c .before .before .before .before .before .before .before .before .before .args .q .v) (now (c .before .before .before .before .before .before .before .before .before .args .work)) (c .before .before .before .before .before .copy .last .1 .0) (c .before .before .sums .last .0) (c .before .before .sums .result) (t .0) (c .before .before .before .before .before .copy .ensures) (c .before .before .sums .ensures) (c .if2 .taken)
 
--- src/lib.rt:329:5
 scale-requires : tie.Need-scale-requires
 scale-requires c κs =
     let t = none-refused (c .before .before .before .before .before .before .before .before .before .before .args .q .v) (now (c .before .before .before .before .before .before .before .before .before .before .args .work)) (c .before .before .before .before .before .before .before .before .before .count-out .result) (c .before .before .before .before .before .before .before .before .before .count-out .ensures) (c .before .before .before .before .before .before .before .before .if1 .left) in
     let p = sums-passed (c .before .before .before .before .before .before .before .before .before .before .args .q .v) (now (c .before .before .before .before .before .before .before .before .before .before .args .work)) (c .before .before .before .before .before .before .copy .last .1 .0) (c .before .before .before .sums .last .0) (c .before .before .before .sums .result) (t .0) (c .before .before .before .before .before .before .copy .ensures) (c .before .before .before .sums .ensures) (c .before .if2 .left) (c .before .before .before .before .before .before .before .before .before .before .pre .0) (t .1) in
     (p .0, p .1, c .before .before .before .before .before .before .before .before .before .before .pre .2)
 
--- src/lib.rt:317:1
 same-length-2 : tie.Need-same-length-2
 same-length-2 c = search needs
 
--- src/lib.rt:317:1
 returns-3 : tie.Need-returns-3
 returns-3 c =
     let t = none-refused (c .before .before .before .before .before .before .before .before .before .before .before .before .args .q .v) (now (c .before .before .before .before .before .before .before .before .before .before .before .before .args .work)) (c .before .before .before .before .before .before .before .before .before .before .before .count-out .result) (c .before .before .before .before .before .before .before .before .before .before .before .count-out .ensures) (c .before .before .before .before .before .before .before .before .before .before .if1 .left) in

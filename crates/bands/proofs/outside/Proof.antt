@@ -1,7 +1,7 @@
 use mathlib.Core.Bool.{true, false}
 use lib.IntN.{pos, negsuc}
-use Rattle.whole.specs.Test.{test-l, test-r}
-use Rattle.bands.specs.RangeLaws.{out-low, out-high, out-mid}
+use Rattle.whole.specs.laws.Test.{test-l, test-r}
+use Rattle.bands.specs.laws.Range.{out-low, out-high, out-mid}
 use Rattle.bands.proofs.outside.Statement.{statement}
 use Rattle.bands.proofs.outside.Tie as tie
 

@@ -3,22 +3,19 @@ use native.Mathlib.Omega.{arith}
 use lib.IntN.{pos}
 use mir.Syntax.{w32}
 use mir.Facts.{toZ-pos}
-use Rattle.bands.specs.BandLaws.{shl-one, shl-small}
+use Rattle.bands.specs.laws.Band.{shl-one, shl-small}
 use borrow.Author.Needs.{needs}
 use Rattle.bands.proofs.power.Statement.{statement}
 use Rattle.bands.proofs.power.Tie as tie
 use Rattle.bands.proofs.power.Reads as reads
 use Rattle.bands.proofs.power.Lts as lts
 
--- src/lib.rt:134:6
 shl-result : tie.Need-shl-result
 shl-result c = search needs
 
--- src/lib.rt:134:5
 cast-result : tie.Need-cast-result
 cast-result c = record { sfits = shl-small (c .args .k) (omega arith) }
 
--- src/lib.rt:130:1
 returns : tie.Need-returns
 returns c = toZ-pos w32 (shl-small (c .args .k) (omega arith)) ∙ ap pos (shl-one (c .args .k) (omega arith))
 

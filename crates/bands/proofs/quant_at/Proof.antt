@@ -1,50 +1,40 @@
 use denote.Ref.{now}
 use mathlib.Core.Path.{sym, ap}
 use Rattle.bands.specs.Bands.{quantOf}
-use Rattle.bands.specs.BandLaws.{five}
+use Rattle.bands.specs.laws.Band.{five}
 use borrow.Author.Needs.{needs}
 use Rattle.bands.proofs.quant_at.Statement.{statement}
 use Rattle.bands.proofs.quant_at.Tie as tie
 use Rattle.bands.proofs.quant_at.Reads as reads
 use Rattle.bands.proofs.quant_at.Lts as lts
 
--- src/lib.rt:23:13
 shared-slice-read-a : tie.Need-shared-slice-read-a
 shared-slice-read-a c = search needs
 
--- src/lib.rt:24:15
 add-b : tie.Need-add-b
 add-b c = search needs
 
--- src/lib.rt:24:13
 shared-slice-read-b : tie.Need-shared-slice-read-b
 shared-slice-read-b c = search needs
 
--- src/lib.rt:25:15
 add-c : tie.Need-add-c
 add-c c = search needs
 
--- src/lib.rt:25:13
 shared-slice-read-c : tie.Need-shared-slice-read-c
 shared-slice-read-c c = search needs
 
--- src/lib.rt:26:15
 add-d : tie.Need-add-d
 add-d c = search needs
 
--- src/lib.rt:26:13
 shared-slice-read-d : tie.Need-shared-slice-read-d
 shared-slice-read-d c = search needs
 
--- src/lib.rt:27:15
 add-e : tie.Need-add-e
 add-e c = search needs
 
--- src/lib.rt:27:13
 shared-slice-read-e : tie.Need-shared-slice-read-e
 shared-slice-read-e c = search needs
 
--- src/lib.rt:19:1
 returns : tie.Need-returns
 unfolding quantOf
 returns c = sym (ap quantOf (five (now (c .before .before .before .before .before .args .m)) (c .before .before .before .before .before .args .at) (c .before .before .before .before .before .pre)))

@@ -2,10 +2,10 @@ use mathlib.Core.Path.{_≡_, _∙_, ap, subst, sym}
 use native.Mathlib.Omega.{arith}
 use lib.ListN.{length}
 use denote.Ref.{now}
-use Rattle.whole.specs.Tab.{AllNear, tab-near, length-tab}
-use Rattle.whole.specs.Part.{part-near, part-length}
+use Rattle.whole.specs.laws.Tab.{AllNear}
+use Rattle.whole.specs.laws.Part.{part-near, part-length}
 use Rattle.bands.specs.Rounding.{roundedBy, differences}
-use Rattle.bands.specs.RoundingLaws.{rounded-near, differed}
+use Rattle.bands.specs.laws.Rounding.{rounded-near, differed}
 use borrow.Author.Needs.{needs}
 use Rattle.bands.proofs.round_all.Statement.{statement}
 use Rattle.bands.proofs.round_all.Tie as tie
@@ -14,23 +14,18 @@ use Rattle.bands.proofs.round_all.Lts as lts
 use Rattle.bands.proofs.difference_part.Reads as difference-part-reads
 use Rattle.bands.proofs.round_bands.Reads as round-bands-reads
 
--- src/lib.rt:287:5
 round-bands-requires : tie.Need-round-bands-requires
 round-bands-requires c κs = search needs
 
--- src/lib.rt:288:21
 sub-difference-part : tie.Need-sub-difference-part
 sub-difference-part c = search needs
 
--- src/lib.rt:288:21
 part-difference-part-start : tie.Need-part-difference-part-start
 part-difference-part-start c = search needs
 
--- src/lib.rt:288:21
 part-difference-part-end : tie.Need-part-difference-part-end
 part-difference-part-end c = search needs
 
--- src/lib.rt:288:5
 difference-part-requires : tie.Need-difference-part-requires
 difference-part-requires c κs =
     let e = c .before .before .round-bands .ensures in
@@ -38,11 +33,9 @@ difference-part-requires c κs =
     let l : length (c .before .before .round-bands .last .0) ≡ 4096 = ap length e ∙ n .0 in
     (part-length (c .before .before .round-bands .last .0) 4032 4096 (omega arith) (omega arith), part-near (c .before .before .round-bands .last .0) 4032 64 (subst (AllNear 268443648) (sym e) (n .1)))
 
--- src/lib.rt:283:1
 same-length : tie.Need-same-length
 same-length c = search needs
 
--- src/lib.rt:283:1
 returns : tie.Need-returns
 unfolding roundedBy
 returns c =

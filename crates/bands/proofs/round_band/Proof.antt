@@ -1,16 +1,15 @@
-use Prim.Native.Nat.{ℕ, _≤_, _<_, _*_, _-_, _+_, _^_}
-use mathlib.Core.Path.{_≡_, _∙_, ap, sym, refl, subst}
+use Prim.Native.Nat.{ℕ, _≤_, _-_, _+_, _^_}
+use mathlib.Core.Path.{_≡_, sym, subst}
 use native.Mathlib.Omega.{arith}
-use lib.IntN.{ℤ, pos, _+ℤ_, _-ℤ_}
+use lib.IntN.{ℤ, _+ℤ_}
 use lib.Signed.{shrZ}
-use lib.ListN.{length, length-take, length-drop, length-set, getD, drop}
-use lib.Seq.{ext-getD}
+use lib.ListN.{length}
 use denote.Ref.{now}
 use mir.Syntax.{w32}
 use mir.Val.{toZ, ofZ}
-use Rattle.whole.specs.Near.{Near, wide-near, back, back-near, back-ok}
+use Rattle.whole.specs.Near.{Near, back, back-near, back-ok}
 use Rattle.whole.specs.Tab.{at, tab}
-use Rattle.bands.specs.PartLaws.{Done, done-none, done-put, done-all}
+use Rattle.bands.specs.laws.Part.{Done, done-none, done-put, done-all}
 use Rattle.bands.proofs.round_band.Statement.{statement}
 use Rattle.bands.proofs.round_band.Tie as tie
 use Rattle.bands.proofs.round_band.Reads as reads
@@ -23,15 +22,12 @@ Inv-loop part₀ half k i₀ part i = (i ≤ length part₀) × Done (λ (j : �
 abbrev μ-loop : tie.MeasureT-loop
 μ-loop part₀ half k i₀ part i = length part₀ - i
 
--- src/lib.rt:240:5
 loop-holds : tie.Need-loop-holds Inv-loop μ-loop
 loop-holds c = (omega arith, done-none _ _)
 
--- src/lib.rt:241:27
 mul-rounded : tie.Need-mul-rounded Inv-loop μ-loop
 mul-rounded c = omega (arith, c .before .loop .inv .1 .same)
 
--- src/lib.rt:241:27
 slice-copy-out-rounded : tie.Need-slice-copy-out-rounded Inv-loop μ-loop
 slice-copy-out-rounded c = omega (arith, c .before .loop .inv .1 .same)
 
@@ -41,23 +37,18 @@ here s = let e = s .loop .inv .1 .rest (s .loop .i) (omega arith) in (e, subst (
 rounded-requires : tie.Need-rounded-requires Inv-loop μ-loop
 rounded-requires c κs = (back-near w32 (here ((c .before .before)) .1) tt, back-near w32 (c .before .before .before .pre .1) tt, c .before .before .before .pre .2)
 
--- src/lib.rt:241:9
 mul-t10 : tie.Need-mul-t10 Inv-loop μ-loop
 mul-t10 c = omega (arith, c .before .before .before .loop .inv .1 .same)
 
--- src/lib.rt:241:9
 slice-set-from-part : tie.Need-slice-set-from-part Inv-loop μ-loop
 slice-set-from-part c = omega (arith, c .before .before .before .loop .inv .1 .same)
 
--- src/lib.rt:242:9
 add-i : tie.Need-add-i Inv-loop μ-loop
 add-i c = omega (arith, c .before .before .before .loop .inv .1 .same)
 
--- src/lib.rt:240:5
 loop-less : tie.Need-loop-less Inv-loop μ-loop
 loop-less c = omega (arith, c .before .before .before .loop .inv .1 .same)
 
--- src/lib.rt:240:5
 loop-again : tie.Need-loop-again Inv-loop μ-loop
 loop-again c =
     let f : ℕ → ℤ = λ j. shrZ (at (now (c .before .before .before .before .args .part)) j +ℤ toZ w32 (ofZ w32 (c .before .before .before .before .args .half))) (2 ^ c .before .before .before .before .args .k) in
@@ -65,11 +56,9 @@ loop-again c =
     let v : toZ w32 (ofZ w32 (c .rounded .result)) ≡ f (c .before .before .before .loop .i) = cc (back-ok w32 (c .rounded .result) (c .rounded .ok), c .rounded .ensures, back w32 (h .1) tt, h .0) in
     (omega (arith, c .before .before .before .loop .inv .1 .same), done-put f (c .before .before .before .loop .i) (now (c .before .before .before .before .args .part)) (c .before .before .before .loop .part) _ (omega (arith, c .before .before .before .loop .inv .1 .same)) v (c .before .before .before .loop .inv .1))
 
--- src/lib.rt:235:1
 same-length : tie.Need-same-length Inv-loop μ-loop
 same-length c = omega (arith, c .before .loop .inv .1 .same)
 
--- src/lib.rt:235:1
 returns : tie.Need-returns Inv-loop μ-loop
 returns c =
     let n : c .before .loop .i ≡ length (now (c .before .before .args .part)) = omega (arith, c .before .loop .inv .1 .same) in

@@ -1,19 +1,16 @@
-use Prim.Native.Nat.{ℕ, _≤_, _<_, _*_, _-_, _+_, _^_}
-use mathlib.Core.Path.{_≡_, _∙_, ap, sym, refl, subst}
+use Prim.Native.Nat.{ℕ, _≤_, _-_, _^_}
+use mathlib.Core.Path.{_≡_, _∙_, sym, subst}
 use native.Mathlib.Omega.{arith}
-use lib.IntN.{ℤ, pos}
-use lib.ListN.{length}
+use lib.IntN.{pos}
 use denote.Ref.{now}
 use mir.Syntax.{w32}
 use mir.Val.{toZ, ofZ}
 use Rattle.whole.specs.Near.{Near, back-ok}
-use Rattle.whole.specs.Tab.{at, tab}
-use Rattle.bands.specs.Bands.{quantAt}
+use Rattle.whole.specs.Tab.{at}
 use Rattle.bands.specs.Rounding.{roundAt}
-use Rattle.bands.specs.Steps.{endOf}
-use Rattle.bands.specs.BandLaws.{end-above}
-use Rattle.bands.specs.RoundingLaws.{half-near, round-turn}
-use Rattle.bands.specs.PartLaws.{Done, done-none, done-all, rest-near}
+use Rattle.bands.specs.laws.Band.{end-above}
+use Rattle.bands.specs.laws.Rounding.{half-near, round-turn}
+use Rattle.bands.specs.laws.Part.{Done, done-none, done-all, rest-near}
 use Rattle.bands.proofs.round_bands.Statement.{statement}
 use Rattle.bands.proofs.round_bands.Tie as tie
 use Rattle.bands.proofs.round_bands.Reads as reads
@@ -29,43 +26,33 @@ Inv-loop work₀ q from₀ work from = (from ≤ 4096) × Done (roundAt (q .v) (
 abbrev μ-loop : tie.MeasureT-loop
 μ-loop work₀ q from₀ work from = 4096 - from
 
--- src/lib.rt:252:5
 loop-holds : tie.Need-loop-holds Inv-loop μ-loop
 loop-holds c = (omega arith, done-none _ _)
 
--- src/lib.rt:253:13
 band-end-requires : tie.Need-band-end-requires Inv-loop μ-loop
 band-end-requires c κs = tt
 
--- src/lib.rt:254:13
 quant-of-requires : tie.Need-quant-of-requires Inv-loop μ-loop
 quant-of-requires c κs = c .before .before .before .pre .2
 
--- src/lib.rt:255:20
 mul-round-band : tie.Need-mul-round-band Inv-loop μ-loop
 mul-round-band c = omega (arith, end-above (c .before .before .before .loop .from) (c .before .before .loop-test .taken), c .before .band-end .ensures, c .before .before .before .loop .inv .1 .same, c .before .before .before .before .pre .0)
 
--- src/lib.rt:255:20
 sub-round-band : tie.Need-sub-round-band Inv-loop μ-loop
 sub-round-band c = omega (arith, end-above (c .before .before .before .loop .from) (c .before .before .loop-test .taken), c .before .band-end .ensures, c .before .before .before .loop .inv .1 .same, c .before .before .before .before .pre .0)
 
--- src/lib.rt:255:20
 part-round-band-start : tie.Need-part-round-band-start Inv-loop μ-loop
 part-round-band-start c = omega (arith, end-above (c .before .before .before .loop .from) (c .before .before .loop-test .taken), c .before .band-end .ensures, c .before .before .before .loop .inv .1 .same, c .before .before .before .before .pre .0)
 
--- src/lib.rt:255:20
 part-round-band-end : tie.Need-part-round-band-end Inv-loop μ-loop
 part-round-band-end c = omega (arith, end-above (c .before .before .before .loop .from) (c .before .before .loop-test .taken), c .before .band-end .ensures, c .before .before .before .loop .inv .1 .same, c .before .before .before .before .pre .0)
 
--- src/lib.rt:255:47
 sub-power : tie.Need-sub-power Inv-loop μ-loop
 sub-power c = omega (arith, c .before .quant-of .ensures)
 
--- src/lib.rt:255:41
 power-requires : tie.Need-power-requires Inv-loop μ-loop
 power-requires c κs = omega (arith, c .before .quant-of .ensures)
 
--- src/lib.rt:255:55
 sub-round-band-2 : tie.Need-sub-round-band-2 Inv-loop μ-loop
 sub-round-band-2 c = omega (arith, c .before .before .quant-of .ensures)
 
@@ -76,22 +63,18 @@ half-is c = back-ok w32 (c .power .result) (c .power .ok) ∙ c .power .ensures
 round-band-requires : tie.Need-round-band-requires Inv-loop μ-loop
 round-band-requires c κs = (rest-near _ (now (c .before .before .before .before .before .before .args .work)) (c .before .before .before .before .before .loop .work) (c .before .before .before .before .before .loop .from) (c .before .before .before .band-end .result - c .before .before .before .before .before .loop .from) (c .before .before .before .before .before .loop .inv .1) (c .before .before .before .before .before .before .pre .1), subst (Near 8192) (sym (half-is (c))) (half-near (c .before .before .quant-of .result) (c .before .before .quant-of .ensures .2)), omega (arith, c .before .before .quant-of .ensures))
 
--- src/lib.rt:252:5
 loop-less : tie.Need-loop-less Inv-loop μ-loop
 loop-less c = omega (arith, end-above (c .before .before .before .before .before .before .before .loop .from) (c .before .before .before .before .before .before .loop-test .taken), c .before .before .before .before .before .band-end .ensures, c .before .before .before .before .before .before .before .loop .inv .1 .same, c .before .before .before .before .before .before .before .before .pre .0)
 
--- src/lib.rt:252:5
 loop-again : tie.Need-loop-again Inv-loop μ-loop
 loop-again c = (
   omega (arith, end-above (c .before .before .before .before .before .before .before .loop .from) (c .before .before .before .before .before .before .loop-test .taken), c .before .before .before .before .before .band-end .ensures),
   round-turn (c .before .before .before .before .before .before .before .before .args .q .v) (now (c .before .before .before .before .before .before .before .before .args .work)) (c .before .before .before .before .before .before .before .loop .work) (c .before .before .before .before .before .before .before .loop .from) (c .before .before .before .before .before .band-end .result) _ (c .before .before .before .before .quant-of .result) (c .before .before .before .before .before .before .loop-test .taken) (c .before .before .before .before .before .band-end .ensures) (c .before .before .before .before .before .before .before .before .pre .0) (c .before .before .before .before .before .before .before .loop .inv .1) (half-is ((c .before .before))) (c .before .before .before .before .quant-of .ensures .0) (c .before .round-band .last .0) (c .before .round-band .ensures),
 )
 
--- src/lib.rt:247:1
 same-length : tie.Need-same-length Inv-loop μ-loop
 same-length c = c .before .loop .inv .1 .same
 
--- src/lib.rt:247:1
 returns : tie.Need-returns Inv-loop μ-loop
 returns c =
     let n : c .before .loop .from ≡ 4096 = omega arith in

@@ -1,25 +1,21 @@
 use Prim.Native.Nat.{_^_}
 use mir.Syntax.{w32}
-use Rattle.whole.specs.Calc.{Calc, fits, val, arg, add, shr}
+use Rattle.whole.specs.Calc.{fits, val, arg, add, shr}
 use borrow.Author.Needs.{needs}
 use Rattle.bands.proofs.rounded.Statement.{statement}
 use Rattle.bands.proofs.rounded.Tie as tie
 use Rattle.bands.proofs.rounded.Reads as reads
 use Rattle.bands.proofs.rounded.Lts as lts
 
--- src/lib.rt:231:6
 add-result : tie.Need-add-result
 add-result c = fits (add (arg w32 (c .pre .0) tt) (arg w32 (c .pre .1) tt) tt)
 
--- src/lib.rt:231:19
 cast-result : tie.Need-cast-result
 cast-result c = search needs
 
--- src/lib.rt:231:5
 shr-result : tie.Need-shr-result
 shr-result c = search needs
 
--- src/lib.rt:227:1
 returns : tie.Need-returns
 returns c = val (shr (2 ^ c .args .k) (add (arg w32 (c .pre .0) tt) (arg w32 (c .pre .1) tt) tt) tt)
 

@@ -1,18 +1,18 @@
-use Prim.Native.Nat.{ℕ, _≤_, _<_, _*_, _-_, _+_, _^_}
+use Prim.Native.Nat.{ℕ, _≤_, _-_, _^_}
 use mathlib.Core.Path.{_≡_, _∙_, ap, sym, refl, subst}
 use native.Mathlib.Omega.{arith}
-use lib.IntN.{ℤ, pos}
-use lib.ListN.{length, length-take, length-drop}
+use lib.IntN.{pos}
+use lib.ListN.{length-take, length-drop}
 use denote.Ref.{now}
 use mir.Syntax.{w32}
 use mir.Val.{toZ, ofZ}
 use Rattle.whole.specs.Near.{Near, back-ok}
-use Rattle.whole.specs.Tab.{at, tab}
+use Rattle.whole.specs.Tab.{at}
 use Rattle.bands.specs.Bands.{scaleAt, quantAt}
-use Rattle.bands.specs.Steps.{outs, endOf}
-use Rattle.bands.specs.BandLaws.{end-above, quant-high, power-near}
-use Rattle.bands.specs.RangeLaws.{outs-le}
-use Rattle.bands.specs.PartLaws.{Done, done-none, rest-near, scale-turn, scaled-fine, scaled-range}
+use Rattle.bands.specs.laws.Steps.{outs}
+use Rattle.bands.specs.laws.Band.{end-above, quant-high, power-near}
+use Rattle.bands.specs.laws.Range.{outs-le}
+use Rattle.bands.specs.laws.Part.{Done, done-none, rest-near, scale-turn, scaled-fine, scaled-range}
 use Rattle.bands.proofs.scale.Statement.{statement}
 use Rattle.bands.proofs.scale.Tie as tie
 use Rattle.bands.proofs.scale.Reads as reads
@@ -29,24 +29,19 @@ Inv-loop work₀ q bad₀ from₀ work bad from =
 abbrev μ-loop : tie.MeasureT-loop
 μ-loop work₀ q bad₀ from₀ work bad from = 4096 - from
 
--- src/lib.rt:205:5
 loop-holds : tie.Need-loop-holds Inv-loop μ-loop
 unfolding outs
 loop-holds c = (omega arith, refl, done-none _ _)
 
--- src/lib.rt:206:13
 band-end-requires : tie.Need-band-end-requires Inv-loop μ-loop
 band-end-requires c κs = tt
 
--- src/lib.rt:207:23
 quant-of-requires : tie.Need-quant-of-requires Inv-loop μ-loop
 quant-of-requires c κs = c .before .before .before .pre .2
 
--- src/lib.rt:207:23
 sub-power : tie.Need-sub-power Inv-loop μ-loop
 sub-power c = omega (arith, c .quant-of .ensures)
 
--- src/lib.rt:207:13
 power-requires : tie.Need-power-requires Inv-loop μ-loop
 power-requires c κs = omega (arith, c .quant-of .ensures)
 
@@ -57,19 +52,15 @@ factor-is c = back-ok w32 (c .power .result) (c .power .ok) ∙ (c .power .ensur
 mul-scale-band : tie.Need-mul-scale-band Inv-loop μ-loop
 mul-scale-band c = omega (arith, end-above (c .before .before .before .before .loop .from) (c .before .before .before .loop-test .taken), c .before .before .band-end .ensures, c .before .before .before .before .loop .inv .2 .same, c .before .before .before .before .before .pre .0)
 
--- src/lib.rt:208:27
 sub-scale-band : tie.Need-sub-scale-band Inv-loop μ-loop
 sub-scale-band c = omega (arith, end-above (c .before .before .before .before .loop .from) (c .before .before .before .loop-test .taken), c .before .before .band-end .ensures, c .before .before .before .before .loop .inv .2 .same, c .before .before .before .before .before .pre .0)
 
--- src/lib.rt:208:27
 part-scale-band-start : tie.Need-part-scale-band-start Inv-loop μ-loop
 part-scale-band-start c = omega (arith, end-above (c .before .before .before .before .loop .from) (c .before .before .before .loop-test .taken), c .before .before .band-end .ensures, c .before .before .before .before .loop .inv .2 .same, c .before .before .before .before .before .pre .0)
 
--- src/lib.rt:208:27
 part-scale-band-end : tie.Need-part-scale-band-end Inv-loop μ-loop
 part-scale-band-end c = omega (arith, end-above (c .before .before .before .before .loop .from) (c .before .before .before .loop-test .taken), c .before .before .band-end .ensures, c .before .before .before .before .loop .inv .2 .same, c .before .before .before .before .before .pre .0)
 
--- src/lib.rt:208:16
 scale-band-requires : tie.Need-scale-band-requires Inv-loop μ-loop
 scale-band-requires c κs =
     let t = end-above (c .before .before .before .before .before .loop .from) (c .before .before .before .before .loop-test .taken) in
@@ -80,31 +71,25 @@ add-bad c =
     let t = scale-turn (c .before .before .before .before .before .before .before .before .args .q .v) (now (c .before .before .before .before .before .before .before .before .args .work)) (c .before .before .before .before .before .before .before .loop .work) (c .before .before .before .before .before .before .before .loop .from) (c .before .before .before .before .before .band-end .result) _ (c .before .before .before .before .before .before .loop-test .taken) (c .before .before .before .before .before .band-end .ensures) (c .before .before .before .before .before .before .before .before .pre .0) (c .before .before .before .before .before .before .before .loop .inv .2) (factor-is ((c .before .before .before))) (c .before .scale-band .last .0) (c .before .before .before .before .before .before .before .loop .bad) (c .before .scale-band .result) (c .before .before .before .before .before .before .before .loop .inv .1) (c .before .scale-band .ensures .0) (c .before .scale-band .ensures .1) in
     let o = outs-le (scaleAt (c .before .before .before .before .before .before .before .before .args .q .v) (at (now (c .before .before .before .before .before .before .before .before .args .work)))) (c .before .before .before .before .before .band-end .result) in omega (arith, end-above (c .before .before .before .before .before .before .before .loop .from) (c .before .before .before .before .before .before .loop-test .taken), c .before .before .before .before .before .band-end .ensures, t .0)
 
--- src/lib.rt:205:5
 loop-less : tie.Need-loop-less Inv-loop μ-loop
 loop-less c = omega (arith, end-above (c .before .before .before .before .before .before .before .loop .from) (c .before .before .before .before .before .before .loop-test .taken), c .before .before .before .before .before .band-end .ensures, c .before .before .before .before .before .before .before .loop .inv .2 .same, c .before .before .before .before .before .before .before .before .pre .0)
 
--- src/lib.rt:205:5
 loop-again : tie.Need-loop-again Inv-loop μ-loop
 loop-again c =
     let t = scale-turn (c .before .before .before .before .before .before .before .before .args .q .v) (now (c .before .before .before .before .before .before .before .before .args .work)) (c .before .before .before .before .before .before .before .loop .work) (c .before .before .before .before .before .before .before .loop .from) (c .before .before .before .before .before .band-end .result) _ (c .before .before .before .before .before .before .loop-test .taken) (c .before .before .before .before .before .band-end .ensures) (c .before .before .before .before .before .before .before .before .pre .0) (c .before .before .before .before .before .before .before .loop .inv .2) (factor-is ((c .before .before .before))) (c .before .scale-band .last .0) (c .before .before .before .before .before .before .before .loop .bad) (c .before .scale-band .result) (c .before .before .before .before .before .before .before .loop .inv .1) (c .before .scale-band .ensures .0) (c .before .scale-band .ensures .1) in
     (omega (arith, end-above (c .before .before .before .before .before .before .before .loop .from) (c .before .before .before .before .before .before .loop-test .taken), c .before .before .before .before .before .band-end .ensures), t .0, t .1)
 
--- src/lib.rt:212:9
 same-length : tie.Need-same-length Inv-loop μ-loop
 same-length c = c .before .before .loop .inv .2 .same
 
--- src/lib.rt:212:9
 returns : tie.Need-returns Inv-loop μ-loop
 returns c =
     let n : c .before .before .loop .from ≡ 4096 = omega arith in
     scaled-fine (c .before .before .before .args .q .v) (now (c .before .before .before .args .work)) (c .before .before .loop .work) (c .before .before .loop .bad) (c .before .before .before .pre .0) (subst (λ (i : ℕ). Done (scaleAt (c .before .before .before .args .q .v) (at (now (c .before .before .before .args .work)))) i (now (c .before .before .before .args .work)) (c .before .before .loop .work)) n (c .before .before .loop .inv .2)) (subst (λ (i : ℕ). c .before .before .loop .bad ≡ outs (scaleAt (c .before .before .before .args .q .v) (at (now (c .before .before .before .args .work)))) i) n (c .before .before .loop .inv .1)) (c .if1 .taken)
 
--- src/lib.rt:199:1
 same-length-2 : tie.Need-same-length-2 Inv-loop μ-loop
 same-length-2 c = c .before .before .loop .inv .2 .same
 
--- src/lib.rt:199:1
 returns-2 : tie.Need-returns-2 Inv-loop μ-loop
 returns-2 c =
     let n : c .before .before .loop .from ≡ 4096 = omega arith in

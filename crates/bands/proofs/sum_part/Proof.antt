@@ -1,17 +1,16 @@
-use Prim.Native.Nat.{ℕ, _≤_, _<_, _*_, _-_, _+_}
-use mathlib.Core.Path.{_≡_, _∙_, ap, sym, refl, subst}
+use Prim.Native.Nat.{ℕ, _≤_, _<_, _-_, _+_}
+use mathlib.Core.Path.{_≡_, _∙_, sym, refl, subst}
 use native.Mathlib.Omega.{arith}
-use lib.IntN.{ℤ, pos, _+ℤ_}
-use lib.ListN.{length}
+use lib.IntN.{ℤ}
 use denote.Ref.{now}
 use mir.Syntax.{w32}
 use mir.Val.{toZ, ofZ}
 use Rattle.whole.specs.Near.{Near, wide-near, back, back-near, back-ok}
 use Rattle.whole.specs.Tab.{at, tab}
 use Rattle.bands.specs.Bands.{sumTo}
-use Rattle.bands.specs.Steps.{outOf, outs}
-use Rattle.bands.specs.RangeLaws.{out-le, outs-le, outs-more, sum-more, sum-near}
-use Rattle.bands.specs.PartLaws.{Done, done-none, done-put, done-all}
+use Rattle.bands.specs.laws.Steps.{outs}
+use Rattle.bands.specs.laws.Range.{out-le, outs-le, outs-more, sum-more, sum-near}
+use Rattle.bands.specs.laws.Part.{Done, done-none, done-put, done-all}
 use Rattle.bands.proofs.sum_part.Statement.{statement}
 use Rattle.bands.proofs.sum_part.Tie as tie
 use Rattle.bands.proofs.sum_part.Reads as reads
@@ -27,16 +26,13 @@ Inv-loop part₀ s₀ bad₀ i₀ part s bad i =
 abbrev μ-loop : tie.MeasureT-loop
 μ-loop part₀ s₀ bad₀ i₀ part s bad i = 64 - i
 
--- src/lib.rt:161:5
 loop-holds : tie.Need-loop-holds Inv-loop μ-loop
 unfolding outs sumTo
 loop-holds c = (omega arith, refl, refl, done-none _ _)
 
--- src/lib.rt:162:21
 mul-plus : tie.Need-mul-plus Inv-loop μ-loop
 mul-plus c = omega (arith, c .before .loop .inv .3 .same)
 
--- src/lib.rt:162:21
 slice-copy-out-plus : tie.Need-slice-copy-out-plus Inv-loop μ-loop
 slice-copy-out-plus c = omega (arith, c .before .loop .inv .3 .same)
 
@@ -52,31 +48,24 @@ plus-requires c κs =
     let h : c .before .before .loop .i < 64 = omega (arith, c .before .before .loop .inv .3 .same, c .before .before .before .pre .0) in
     (subst (Near 2097152) (sym (c .before .before .loop .inv .2)) (so-far ((c .before .before)) h), back-near w32 (here ((c .before .before)) h .1) tt)
 
--- src/lib.rt:163:9
 mul-s : tie.Need-mul-s Inv-loop μ-loop
 mul-s c = omega (arith, c .before .before .before .loop .inv .3 .same)
 
--- src/lib.rt:163:9
 slice-set-from-s : tie.Need-slice-set-from-s Inv-loop μ-loop
 slice-set-from-s c = omega (arith, c .before .before .before .loop .inv .3 .same)
 
--- src/lib.rt:164:16
 outside-requires : tie.Need-outside-requires Inv-loop μ-loop
 outside-requires c κs = tt
 
--- src/lib.rt:164:9
 add-bad : tie.Need-add-bad Inv-loop μ-loop
 add-bad c = let l : c .outside .result ≤ 1 = subst (λ (n : ℕ). n ≤ 1) (sym (c .outside .ensures)) (out-le _) in let o : c .before .before .before .before .loop .bad ≤ c .before .before .before .before .loop .i = subst (λ (n : ℕ). n ≤ c .before .before .before .before .loop .i) (sym (c .before .before .before .before .loop .inv .1)) (outs-le _ (c .before .before .before .before .loop .i)) in omega (arith, c .before .before .before .before .loop .inv .0)
 
--- src/lib.rt:165:9
 add-i : tie.Need-add-i Inv-loop μ-loop
 add-i c = omega (arith, c .before .before .before .before .loop .inv .3 .same)
 
--- src/lib.rt:161:5
 loop-less : tie.Need-loop-less Inv-loop μ-loop
 loop-less c = omega (arith, c .before .before .before .before .loop .inv .3 .same)
 
--- src/lib.rt:161:5
 loop-again : tie.Need-loop-again Inv-loop μ-loop
 loop-again c =
     let g : ℕ → ℤ = at (now (c .before .before .before .before .before .args .part)) in
@@ -86,11 +75,9 @@ loop-again c =
     let v : toZ w32 (ofZ w32 (c .before .plus .result)) ≡ sumTo g (c .before .before .before .before .loop .i + 1) = cc (back-ok w32 (c .before .plus .result) (c .before .plus .ok), c .before .plus .ensures, c .before .before .before .before .loop .inv .2, back w32 (h .1) tt, h .0, sum-more g (c .before .before .before .before .loop .i)) in
     (omega arith, cc (c .before .before .before .before .loop .inv .1, c .outside .ensures, v, outs-more f (c .before .before .before .before .loop .i)), v, done-put f (c .before .before .before .before .loop .i) (now (c .before .before .before .before .before .args .part)) (c .before .before .before .before .loop .part) _ (omega (arith, c .before .before .before .before .before .pre .0)) v (c .before .before .before .before .loop .inv .3))
 
--- src/lib.rt:153:1
 same-length : tie.Need-same-length Inv-loop μ-loop
 same-length c = omega (arith, c .before .loop .inv .3 .same)
 
--- src/lib.rt:153:1
 returns : tie.Need-returns Inv-loop μ-loop
 returns c =
     let n : c .before .loop .i ≡ 64 = omega (arith, c .before .loop .inv .3 .same, c .before .before .pre .0) in

@@ -1,29 +1,24 @@
 use borrow.Author.Needs.{needs}
 use denote.Ref.{now}
 use mathlib.Core.Path.{sym}
-use Rattle.bits.specs.BitLaws.{bitsOf-at}
+use Rattle.bits.specs.laws.Bit.{bitsOf-at}
 use Rattle.bits.proofs.bit.Statement.{statement}
 use Rattle.bits.proofs.bit.Tie as tie
 use Rattle.bits.proofs.bit.Reads as reads
 use Rattle.bits.proofs.bit.Lts as lts
 
--- src/lib.rt:19:6
 shared-slice-read-result : tie.Need-shared-slice-read-result
 shared-slice-read-result c = search needs
 
--- src/lib.rt:19:20
 sub-result : tie.Need-sub-result
 sub-result c = search needs
 
--- src/lib.rt:19:20
 cast-result : tie.Need-cast-result
 cast-result c = search needs
 
--- src/lib.rt:19:6
 shr-result : tie.Need-shr-result
 shr-result c = search needs
 
--- src/lib.rt:15:1
 returns : tie.Need-returns
 returns c = sym (bitsOf-at (now (c .before .args .s)) (c .before .args .at) (c .before .pre))
 

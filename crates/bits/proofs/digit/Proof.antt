@@ -1,34 +1,28 @@
 use denote.Ref.{now}
 use mathlib.Core.Path.{sym, ap, _∙_}
 use Rattle.bits.specs.Bits.{val}
-use Rattle.bits.specs.BitLaws.{bitsOf-at, val-odd}
+use Rattle.bits.specs.laws.Bit.{bitsOf-at, val-odd}
 use borrow.Author.Needs.{needs}
 use Rattle.bits.proofs.digit.Statement.{statement}
 use Rattle.bits.proofs.digit.Tie as tie
 use Rattle.bits.proofs.digit.Reads as reads
 use Rattle.bits.proofs.digit.Lts as lts
 
--- src/lib.rt:27:7
 shared-slice-read-result : tie.Need-shared-slice-read-result
 shared-slice-read-result c = search needs
 
--- src/lib.rt:27:21
 sub-result : tie.Need-sub-result
 sub-result c = search needs
 
--- src/lib.rt:27:21
 cast-result : tie.Need-cast-result
 cast-result c = search needs
 
--- src/lib.rt:27:7
 shr-result : tie.Need-shr-result
 shr-result c = search needs
 
--- src/lib.rt:27:5
 cast-result-2 : tie.Need-cast-result-2
 cast-result-2 c = search needs
 
--- src/lib.rt:23:1
 returns : tie.Need-returns
 returns c = sym (ap val (bitsOf-at (now (c .before .args .s)) (c .before .args .at) (c .before .pre)) ∙ val-odd _)
 

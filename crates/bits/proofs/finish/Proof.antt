@@ -1,40 +1,32 @@
 use native.Mathlib.Omega.{arith}
-use Rattle.bits.specs.PenLaws.{close-even, close-byte, close-fits}
+use Rattle.bits.specs.laws.Pen.{close-even, close-byte, close-fits}
 use borrow.Author.Needs.{needs}
 use Rattle.bits.proofs.finish.Statement.{statement}
 use Rattle.bits.proofs.finish.Tie as tie
 use Rattle.bits.proofs.finish.Reads as reads
 use Rattle.bits.proofs.finish.Lts as lts
 
--- src/lib.rt:54:9
 returns : tie.Need-returns
 returns c = close-even (c .before .args .out .now) (c .before .args .p) (c .if1 .taken)
 
--- src/lib.rt:56:25
 sub-out : tie.Need-sub-out
 sub-out c = search needs
 
--- src/lib.rt:56:17
 shl-out : tie.Need-shl-out
 shl-out c = search needs
 
--- src/lib.rt:56:15
 cast-out : tie.Need-cast-out
 cast-out c = search needs
 
--- src/lib.rt:56:5
 slice-write-out : tie.Need-slice-write-out
 slice-write-out c = search needs
 
--- src/lib.rt:57:5
 add-result : tie.Need-add-result
 add-result c = search needs
 
--- src/lib.rt:46:1
 same-length : tie.Need-same-length
 same-length c = search needs
 
--- src/lib.rt:46:1
 returns-2 : tie.Need-returns-2
 returns-2 c =
     let s = c .before in

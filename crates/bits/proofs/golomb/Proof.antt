@@ -1,11 +1,10 @@
-use Prim.Native.Nat.{ℕ, _+_, _*_, _<_, _≤_, _^_, _%_}
-use mathlib.Core.Path.{_≡_, sym, _∙_, ap}
+use Prim.Native.Nat.{_+_, _*_, _<_, _^_, _%_}
+use mathlib.Core.Path.{_≡_, sym, _∙_}
 use native.Mathlib.Omega.{arith}
-use denote.Ref.{now}
-use lib.ListN.{length, drop}
+use lib.ListN.{drop}
 use Rattle.bits.specs.Bits.{bitsOf, onesOf, numOf}
 use Rattle.bits.specs.declared.Num.the-variants.{Got}
-use Rattle.bits.specs.BitLaws.{gr-bounds, gr-cut, gr-cut-low, gr-got}
+use Rattle.bits.specs.laws.Bit.{gr-bounds, gr-cut, gr-cut-low, gr-got}
 use borrow.Author.Needs.{needs}
 use Rattle.bits.proofs.golomb.Statement.{statement}
 use Rattle.bits.proofs.golomb.Tie as tie
@@ -14,35 +13,27 @@ use Rattle.bits.proofs.golomb.Lts as lts
 use Rattle.bits.proofs.number.Reads as number-reads
 use Rattle.bits.proofs.ones.Reads as ones-reads
 
--- src/lib.rt:72:11
 ones-requires : tie.Need-ones-requires
 ones-requires c κs = search needs
 
--- src/lib.rt:73:21
 enum-told : tie.Need-enum-told
 enum-told c = search needs
 
--- src/lib.rt:74:18
 enum-known-v : tie.Need-enum-known-v
 enum-known-v c = search needs
 
--- src/lib.rt:74:34
 number-requires : tie.Need-number-requires
 number-requires c κs = search needs
 
--- src/lib.rt:75:25
 enum-told-2 : tie.Need-enum-told-2
 enum-told-2 c = search needs
 
--- src/lib.rt:76:22
 enum-known-b : tie.Need-enum-known-b
 enum-known-b c = search needs
 
--- src/lib.rt:76:44
 shl-t12 : tie.Need-shl-t12
 shl-t12 c = search needs
 
--- src/lib.rt:76:43
 -- what the two calls gave, as the spec has it
 both : (c : tie.After-known-told2) → (onesOf 0 (c .before .before .before .before .before .before .before .before .before .args .from) (drop (c .before .before .before .before .before .before .before .before .before .args .from) (bitsOf (c .before .before .before .before .before .before .before .before .before .args .s .now))) ≡ Got (c .before .before .before .before .before .v .given .0 .0) (c .before .before .before .before .before .v .given .0 .1 .0)) × (numOf (c .before .before .before .before .before .before .before .before .before .args .k) 0 (c .before .before .before .before .before .v .given .0 .1 .0) (drop (c .before .before .before .before .before .v .given .0 .1 .0) (bitsOf (c .before .before .before .before .before .before .before .before .before .args .s .now))) ≡ Got (c .before .b .given .0 .0) (c .before .b .given .0 .1 .0))
 both c = (sym (c .before .before .before .before .before .before .before .ones .ensures) ∙ c .before .before .before .before .before .v .given .1, sym (c .before .before .before .number .ensures) ∙ c .before .b .given .1)

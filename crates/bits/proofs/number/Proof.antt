@@ -1,13 +1,11 @@
-use Prim.Native.Nat.{ℕ, suc, _≤_, _<_, _*_, _-_, _+_, _^_}
+use Prim.Native.Nat.{suc, _≤_, _<_, _-_, _^_}
 use mathlib.Core.Bool.{false}
 use mathlib.Core.Path.{_≡_, refl, sym, _∙_}
 use native.Mathlib.Omega.{arith}
-use borrow.Author.Needs.{needs}
 use lib.ListN.{length, drop, getD}
 use lib.Pow.{pow-mono, pow-pos}
-use denote.Ref.{now}
 use Rattle.bits.specs.Bits.{bitsOf, numOf}
-use Rattle.bits.specs.BitLaws.{num-step, num-cut, length-bitsOf, grow, digit-lt, num-end}
+use Rattle.bits.specs.laws.Bit.{num-step, num-cut, length-bitsOf, grow, digit-lt, num-end}
 use Rattle.bits.proofs.number.Statement.{statement}
 use Rattle.bits.proofs.number.Tie as tie
 use Rattle.bits.proofs.number.Reads as reads
@@ -20,15 +18,12 @@ Inv-loop s from k n₀ at₀ left₀ n at left = (left ≤ k) × (n < 2 ^ (k - l
 abbrev μ-loop : tie.MeasureT-loop
 μ-loop s from k n₀ at₀ left₀ n at left = left
 
--- src/lib.rt:56:5
 loop-holds : tie.Need-loop-holds Inv-loop μ-loop
 loop-holds c = (omega arith, pow-pos _, refl)
 
--- src/lib.rt:57:12
 mul-if1 : tie.Need-mul-if1 Inv-loop μ-loop
 mul-if1 c = omega arith
 
--- src/lib.rt:58:13
 returns : tie.Need-returns Inv-loop μ-loop
 returns c =
     let l = c .before .before .loop in
@@ -36,34 +31,27 @@ returns c =
     let h : length (bitsOf s) ≤ l .at = rw length-bitsOf (omega arith) in
     sym (num-cut (bitsOf s) (l .left) (l .n) (l .at) (omega arith) h) ∙ l .inv .2
 
--- src/lib.rt:60:13
 mul-n : tie.Need-mul-n Inv-loop μ-loop
 mul-n c = let p : 2 ^ (c .before .before .before .before .args .k - c .before .before .loop .left) ≤ 2 ^ 32 = pow-mono {j = 32} (omega arith) in omega arith
 
--- src/lib.rt:60:21
 digit-requires : tie.Need-digit-requires Inv-loop μ-loop
 digit-requires c κs = omega arith
 
--- src/lib.rt:60:13
 add-n : tie.Need-add-n Inv-loop μ-loop
 add-n c =
     let p : 2 ^ (c .before .before .before .before .before .args .k - c .before .before .before .loop .left) ≤ 2 ^ 32 = pow-mono {j = 32} (omega arith) in
     let b : c .digit .result < 2 = digit-lt (getD (bitsOf (c .before .before .before .before .before .args .s .now)) (c .before .before .before .loop .at) false) (c .digit .ensures) in
     omega arith
 
--- src/lib.rt:61:9
 add-at : tie.Need-add-at Inv-loop μ-loop
 add-at c = omega arith
 
--- src/lib.rt:62:9
 sub-left : tie.Need-sub-left Inv-loop μ-loop
 sub-left c = omega arith
 
--- src/lib.rt:56:5
 loop-less : tie.Need-loop-less Inv-loop μ-loop
 loop-less c = omega arith
 
--- src/lib.rt:56:5
 loop-again : tie.Need-loop-again Inv-loop μ-loop
 loop-again c =
     let l = c .before .before .before .loop in
@@ -74,7 +62,6 @@ loop-again c =
     let e : a .k - (l .left - 1) ≡ suc (a .k - l .left) = omega arith in
     (omega arith, rw e (grow _ _ _ (l .inv .1) b), rw (c .digit .ensures) (sym (num-step (bitsOf s) (l .left) (l .n) (l .at) (omega arith) h) ∙ l .inv .2))
 
--- src/lib.rt:49:1
 returns-2 : tie.Need-returns-2 Inv-loop μ-loop
 returns-2 c =
     let l = c .before .loop in

@@ -1,11 +1,9 @@
-use Prim.Native.Nat.{ℕ, _≤_, _<_, _*_, _-_, _+_}
+use Prim.Native.Nat.{_≤_, _<_, _*_, _-_}
 use mathlib.Core.Path.{_≡_, refl, sym, _∙_}
 use native.Mathlib.Omega.{arith}
-use borrow.Author.Needs.{needs}
 use lib.ListN.{length, drop}
-use denote.Ref.{now}
 use Rattle.bits.specs.Bits.{bitsOf, onesOf}
-use Rattle.bits.specs.BitLaws.{ones-more, ones-stop, ones-cut, length-bitsOf}
+use Rattle.bits.specs.laws.Bit.{ones-more, ones-stop, ones-cut, length-bitsOf}
 use Rattle.bits.proofs.ones.Statement.{statement}
 use Rattle.bits.proofs.ones.Tie as tie
 use Rattle.bits.proofs.ones.Reads as reads
@@ -18,31 +16,24 @@ Inv-loop s from v₀ at₀ v at = (v ≤ at) × (onesOf v at (drop at (bitsOf s)
 abbrev μ-loop : tie.MeasureT-loop
 μ-loop s from v₀ at₀ v at = length s * 8 - at
 
--- src/lib.rt:29:5
 loop-holds : tie.Need-loop-holds Inv-loop μ-loop
 loop-holds c = (omega arith, refl)
 
--- src/lib.rt:29:16
 mul-loop : tie.Need-mul-loop Inv-loop μ-loop
 mul-loop c = omega arith
 
--- src/lib.rt:30:12
 bit-requires : tie.Need-bit-requires Inv-loop μ-loop
 bit-requires c κs = omega arith
 
--- src/lib.rt:31:13
 add-v : tie.Need-add-v Inv-loop μ-loop
 add-v c = omega arith
 
--- src/lib.rt:32:13
 add-at : tie.Need-add-at Inv-loop μ-loop
 add-at c = omega arith
 
--- src/lib.rt:29:5
 loop-less : tie.Need-loop-less Inv-loop μ-loop
 loop-less c = omega arith
 
--- src/lib.rt:29:5
 loop-again : tie.Need-loop-again Inv-loop μ-loop
 loop-again c =
     let l = c .before .before .before .loop in
@@ -50,11 +41,9 @@ loop-again c =
     let h : l .at < length (bitsOf s) = rw length-bitsOf (omega arith) in
     (omega arith, sym (ones-more (bitsOf s) (l .v) (l .at) h (sym (c .before .bit .ensures) ∙ c .if1 .taken)) ∙ l .inv .1)
 
--- src/lib.rt:34:32
 add-t9 : tie.Need-add-t9 Inv-loop μ-loop
 add-t9 c = omega arith
 
--- src/lib.rt:34:13
 returns : tie.Need-returns Inv-loop μ-loop
 returns c =
     let l = c .before .before .before .loop in
@@ -62,7 +51,6 @@ returns c =
     let h : l .at < length (bitsOf s) = rw length-bitsOf (omega arith) in
     sym (ones-stop (bitsOf s) (l .v) (l .at) h (sym (c .before .bit .ensures) ∙ c .if1 .left)) ∙ l .inv .1
 
--- src/lib.rt:23:1
 returns-2 : tie.Need-returns-2 Inv-loop μ-loop
 returns-2 c =
     let l = c .before .loop in

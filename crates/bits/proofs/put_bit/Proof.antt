@@ -1,46 +1,37 @@
 use native.Mathlib.Omega.{arith}
 use Prim.Native.Nat.{_^_, _≤_}
 use lib.Pow.{pow-mono}
-use Rattle.bits.specs.PenLaws.{put-waits, put-fills}
+use Rattle.bits.specs.laws.Pen.{put-waits, put-fills}
 use borrow.Author.Needs.{needs}
 use Rattle.bits.proofs.put_bit.Statement.{statement}
 use Rattle.bits.proofs.put_bit.Tie as tie
 use Rattle.bits.proofs.put_bit.Reads as reads
 use Rattle.bits.proofs.put_bit.Lts as lts
 
--- src/lib.rt:22:15
 mul-acc : tie.Need-mul-acc
 mul-acc c = let p : 2 ^ c .before .args .p .n ≤ 2 ^ 8 = pow-mono {j = 8} (omega (arith, c .before .pre .0 .few)) in omega (arith, c .before .pre .0 .small)
 
--- src/lib.rt:22:15
 add-acc : tie.Need-add-acc
 add-acc c = let p : 2 ^ c .before .args .p .n ≤ 2 ^ 8 = pow-mono {j = 8} (omega (arith, c .before .pre .0 .few)) in omega (arith, c .before .pre .0 .small)
 
--- src/lib.rt:23:13
 add-n : tie.Need-add-n
 add-n c = search needs
 
--- src/lib.rt:25:9
 returns : tie.Need-returns
 returns c = let s = c .before .before .before in put-waits (s .args .out .now) (s .args .p .at) (s .args .p .acc) (s .args .p .n) (s .args .b) (s .pre .1) (c .if1 .taken) (s .pre .0 .small)
 
--- src/lib.rt:27:15
 cast-out : tie.Need-cast-out
 cast-out c = search needs
 
--- src/lib.rt:27:5
 slice-write-out : tie.Need-slice-write-out
 slice-write-out c = search needs
 
--- src/lib.rt:28:15
 add-t7 : tie.Need-add-t7
 add-t7 c = search needs
 
--- src/lib.rt:17:1
 same-length : tie.Need-same-length
 same-length c = search needs
 
--- src/lib.rt:17:1
 returns-2 : tie.Need-returns-2
 returns-2 c = let s = c .before .before .before in put-fills (s .args .out .now) (s .args .p .at) (s .args .p .acc) (s .args .p .n) (s .args .b) (s .pre .1) (omega (arith, s .pre .0 .few)) (s .pre .0 .small) (omega (arith, s .pre .0 .few, s .pre .0 .room))
 

@@ -1,11 +1,10 @@
-use Prim.Native.Nat.{ℕ, _+_, _*_, _/_, _%_, _^_}
-use mathlib.Core.Path.{_≡_, refl, sym, _∙_, ap}
+use Prim.Native.Nat.{_+_, _*_, _/_, _%_, _^_}
 use mathlib.Core.Bool.{true}
 use native.Mathlib.Omega.{arith}
-use lib.ListN.{length, replicate, length-replicate}
+use lib.ListN.{replicate, length-replicate}
 use lib.Pow.{pow-pos}
-use Rattle.bits.specs.PenLaws.{put-more, ready-after}
-use Rattle.bits.specs.GrLaws.{shift-one, gr-parts, grLen}
+use Rattle.bits.specs.laws.Pen.{put-more, ready-after}
+use Rattle.bits.specs.laws.Gr.{shift-one, gr-parts, grLen}
 use borrow.Author.Needs.{needs}
 use Rattle.bits.proofs.put_gr.Statement.{statement}
 use Rattle.bits.proofs.put_gr.Tie as tie
@@ -14,27 +13,21 @@ use Rattle.bits.proofs.put_gr.Lts as lts
 use Rattle.bits.proofs.put_ones.Reads as put-ones-reads
 use Rattle.bits.proofs.put_bits.Reads as put-bits-reads
 
--- src/lib.rt:57:13
 shr-v : tie.Need-shr-v
 shr-v c = search needs
 
--- src/lib.rt:58:20
 shl-low : tie.Need-shl-low
 shl-low c = search needs
 
--- src/lib.rt:58:15
 rem-low : tie.Need-rem-low
 rem-low c = rw (shift-one (c .before .args .k) (c .before .pre .1)) (pow-pos (c .before .args .k))
 
--- src/lib.rt:59:9
 put-ones-requires : tie.Need-put-ones-requires
 put-ones-requires c κs = search needs
 
--- src/lib.rt:60:29
 add-put-bits : tie.Need-add-put-bits
 add-put-bits c = search needs
 
--- src/lib.rt:60:5
 put-bits-requires : tie.Need-put-bits-requires
 put-bits-requires c κs =
     let st = c .before .before .before .before .before .before in
@@ -42,11 +35,9 @@ put-bits-requires c κs =
     let o = c .before .before .before .put-ones in
     (ready-after (a .out .now) (o .last .0) (a .p) (o .result) (grLen (a .k) (a .n)) (a .k + 1) (replicate (a .n / 2 ^ a .k) true) (st .pre .0) (o .ensures) (omega (arith, length-replicate (a .n / 2 ^ a .k) true)), omega (arith, st .pre .1))
 
--- src/lib.rt:53:1
 same-length : tie.Need-same-length
 same-length c = search needs
 
--- src/lib.rt:53:1
 returns : tie.Need-returns
 returns c =
     let st = c .before .before .before .before .before .before .before .before .before in

@@ -3,12 +3,12 @@ use mathlib.Core.Bool.{true, false}
 use lib.Dec.{T}
 use lib.IntN.{ℤ, pos, natAbs}
 use lib.Signed.{nonNeg}
-use mir.Syntax.{w8, w64}
-use mir.Val.{Fits, toZ, ofZ}
+use mir.Syntax.{w8}
+use mir.Val.{Fits}
 use mir.Facts.{toZ-ofZ}
-use Rattle.whole.specs.Test.{test-l, test-r}
+use Rattle.whole.specs.laws.Test.{test-l, test-r}
 use Rattle.colour.specs.Colour.{clampByte}
-use Rattle.colour.specs.ColourLaws.{clamp-low, clamp-high, clamp-mid}
+use Rattle.colour.specs.laws.Colour.{clamp-low, clamp-high, clamp-mid}
 use Rattle.colour.proofs.clamp.Statement.{statement}
 use Rattle.colour.proofs.clamp.Tie as tie
 

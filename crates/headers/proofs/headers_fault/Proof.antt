@@ -1,4 +1,4 @@
-use Rattle.wire.specs.RowLaws.{rows}
+use Rattle.whole.specs.laws.Row.{rows}
 use Rattle.headers.specs.Headers.{headersFault}
 use borrow.Author.Needs.{needs}
 use Rattle.headers.proofs.headers_fault.Statement.{statement}
@@ -8,30 +8,24 @@ use Rattle.headers.proofs.headers_fault.Lts as lts
 use Rattle.session.proofs.is_mode.Reads as is-mode-reads
 use Rattle.session.proofs.is_size.Reads as is-size-reads
 
--- src/lib.rt:82:8
 is-size-requires : tie.Need-is-size-requires
 is-size-requires c κs = search needs
 
--- src/lib.rt:83:12
 is-mode-requires : tie.Need-is-mode-requires
 is-mode-requires c κs = search needs
 
--- src/lib.rt:85:17
 returns : tie.Need-returns
 unfolding headersFault
 returns c = search rows
 
--- src/lib.rt:87:13
 returns-2 : tie.Need-returns-2
 unfolding headersFault
 returns-2 c = search rows
 
--- src/lib.rt:89:9
 returns-3 : tie.Need-returns-3
 unfolding headersFault
 returns-3 c = search rows
 
--- src/lib.rt:79:1
 returns-4 : tie.Need-returns-4
 unfolding headersFault
 returns-4 c = search rows

@@ -6,15 +6,12 @@ use Rattle.headers.proofs.properties.Tie as tie
 use Rattle.headers.proofs.properties.Reads as reads
 use Rattle.headers.proofs.properties.Lts as lts
 
--- src/lib.rt:56:12
 mul-result : tie.Need-mul-result
 mul-result c = search needs
 
--- src/lib.rt:56:5
 add-result : tie.Need-add-result
 add-result c = search needs
 
--- src/lib.rt:52:1
 returns : tie.Need-returns
 unfolding propertiesOf
 returns c = omega arith

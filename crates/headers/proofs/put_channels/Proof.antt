@@ -1,7 +1,7 @@
-use mathlib.Core.Path.{refl, ap, sym, _∙_}
+use mathlib.Core.Path.{refl}
 use native.Mathlib.Omega.{arith}
-use Rattle.wire.specs.Le.{bytes16, bytes32, patch, written}
-use Rattle.wire.specs.LeLaws.{patch-next, patch-front}
+use Rattle.wire.specs.Le.{bytes16, bytes32}
+use Rattle.wire.specs.laws.Le.{patch-next}
 use Rattle.headers.specs.Headers.{channelsOf}
 use borrow.Author.Needs.{needs}
 use Rattle.headers.proofs.put_channels.Statement.{statement}
@@ -12,23 +12,18 @@ use Rattle.headers.proofs.put_head.Reads as put-head-reads
 use Rattle.wire.proofs.put_two16.Reads as put-two16-reads
 use Rattle.wire.proofs.put_two8.Reads as put-two8-reads
 
--- src/lib.rt:47:5
 put-head-requires : tie.Need-put-head-requires
 put-head-requires c κs = search needs
 
--- src/lib.rt:48:5
 put-two8-requires : tie.Need-put-two8-requires
 put-two8-requires c κs = search needs
 
--- src/lib.rt:49:5
 put-two16-requires : tie.Need-put-two16-requires
 put-two16-requires c κs = search needs
 
--- src/lib.rt:43:1
 same-length : tie.Need-same-length
 same-length c = search needs
 
--- src/lib.rt:43:1
 returns : tie.Need-returns
 unfolding bytes16 bytes32 channelsOf
 returns c = let w2 = patch-next _ _ _ _ _ _ _ (c .before .before .before .before .before .before .before .before .before .before .put-head .ensures) (c .before .before .before .before .before .before .put-two8 .ensures) refl (omega arith) in patch-next _ _ _ _ _ _ _ w2 (c .before .before .put-two16 .ensures) refl (omega arith)

@@ -1,7 +1,7 @@
-use mathlib.Core.Path.{refl, ap, sym, _∙_}
+use mathlib.Core.Path.{refl}
 use native.Mathlib.Omega.{arith}
-use Rattle.wire.specs.Le.{bytes16, bytes32, patch, written}
-use Rattle.wire.specs.LeLaws.{patch-next, patch-front}
+use Rattle.wire.specs.Le.{bytes16}
+use Rattle.wire.specs.laws.Le.{patch-next}
 use borrow.Author.Needs.{needs}
 use Rattle.headers.proofs.put_head.Statement.{statement}
 use Rattle.headers.proofs.put_head.Tie as tie
@@ -10,23 +10,18 @@ use Rattle.headers.proofs.put_head.Lts as lts
 use Rattle.wire.proofs.put16_at.Reads as put16-at-reads
 use Rattle.wire.proofs.put32_at.Reads as put32-at-reads
 
--- src/lib.rt:21:5
 put16-at-requires : tie.Need-put16-at-requires
 put16-at-requires c κs = search needs
 
--- src/lib.rt:22:25
 add-put32-at : tie.Need-add-put32-at
 add-put32-at c = search needs
 
--- src/lib.rt:22:5
 put32-at-requires : tie.Need-put32-at-requires
 put32-at-requires c κs = search needs
 
--- src/lib.rt:17:1
 same-length : tie.Need-same-length
 same-length c = search needs
 
--- src/lib.rt:17:1
 returns : tie.Need-returns
 unfolding bytes16
 returns c = patch-next _ _ _ _ _ _ _ (c .before .before .before .before .before .before .put16-at .ensures) (c .before .before .put32-at .ensures) refl (omega arith)

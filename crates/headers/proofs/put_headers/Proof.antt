@@ -1,7 +1,7 @@
-use mathlib.Core.Path.{refl, ap, sym, _∙_}
+use mathlib.Core.Path.{refl, _∙_}
 use native.Mathlib.Omega.{arith}
-use Rattle.wire.specs.Le.{bytes16, bytes32, patch, written}
-use Rattle.wire.specs.LeLaws.{patch-next, patch-front}
+use Rattle.wire.specs.Le.{bytes16, bytes32}
+use Rattle.wire.specs.laws.Le.{patch-next, patch-front}
 use Rattle.headers.specs.Headers.{headersOf, syncOf, versionsOf, channelsOf, contextOf}
 use borrow.Author.Needs.{needs}
 use Rattle.headers.proofs.put_headers.Statement.{statement}
@@ -13,27 +13,21 @@ use Rattle.headers.proofs.put_context.Reads as put-context-reads
 use Rattle.headers.proofs.put_sync.Reads as put-sync-reads
 use Rattle.headers.proofs.put_versions.Reads as put-versions-reads
 
--- src/lib.rt:73:5
 put-sync-requires : tie.Need-put-sync-requires
 put-sync-requires c κs = search needs
 
--- src/lib.rt:74:5
 put-versions-requires : tie.Need-put-versions-requires
 put-versions-requires c κs = search needs
 
--- src/lib.rt:75:5
 put-channels-requires : tie.Need-put-channels-requires
 put-channels-requires c κs = search needs
 
--- src/lib.rt:76:5
 put-context-requires : tie.Need-put-context-requires
 put-context-requires c κs = search needs
 
--- src/lib.rt:69:1
 same-length : tie.Need-same-length
 same-length c = search needs
 
--- src/lib.rt:69:1
 returns : tie.Need-returns
 unfolding bytes16 bytes32 syncOf versionsOf channelsOf contextOf headersOf
 returns c = let w2 = patch-next _ _ _ _ _ _ _ (c .before .before .before .before .before .before .before .before .before .before .before .before .before .before .put-sync .ensures) (c .before .before .before .before .before .before .before .before .before .before .put-versions .ensures) refl (omega arith) in let w3 = patch-next _ _ _ _ _ _ _ w2 (c .before .before .before .before .before .before .put-channels .ensures) refl (omega arith) in let w4 = patch-next _ _ _ _ _ _ _ w3 (c .before .before .put-context .ensures) refl (omega arith) in w4 ∙ patch-front _ _

@@ -1,7 +1,7 @@
-use mathlib.Core.Path.{refl, ap, sym, _∙_}
+use mathlib.Core.Path.{refl}
 use native.Mathlib.Omega.{arith}
-use Rattle.wire.specs.Le.{bytes16, bytes32, patch, written}
-use Rattle.wire.specs.LeLaws.{patch-next, patch-front}
+use Rattle.wire.specs.Le.{bytes16, bytes32}
+use Rattle.wire.specs.laws.Le.{patch-next}
 use Rattle.headers.specs.Headers.{syncOf}
 use borrow.Author.Needs.{needs}
 use Rattle.headers.proofs.put_sync.Statement.{statement}
@@ -12,23 +12,18 @@ use Rattle.headers.proofs.put_head.Reads as put-head-reads
 use Rattle.wire.proofs.put16_at.Reads as put16-at-reads
 use Rattle.wire.proofs.put32_at.Reads as put32-at-reads
 
--- src/lib.rt:29:5
 put-head-requires : tie.Need-put-head-requires
 put-head-requires c κs = search needs
 
--- src/lib.rt:30:5
 put32-at-requires : tie.Need-put32-at-requires
 put32-at-requires c κs = search needs
 
--- src/lib.rt:31:5
 put16-at-requires : tie.Need-put16-at-requires
 put16-at-requires c κs = search needs
 
--- src/lib.rt:25:1
 same-length : tie.Need-same-length
 same-length c = search needs
 
--- src/lib.rt:25:1
 returns : tie.Need-returns
 unfolding bytes16 bytes32 syncOf
 returns c = let w2 = patch-next _ _ _ _ _ _ _ (c .before .before .before .before .before .before .before .before .before .before .put-head .ensures) (c .before .before .before .before .before .before .put32-at .ensures) refl (omega arith) in patch-next _ _ _ _ _ _ _ w2 (c .before .before .put16-at .ensures) refl (omega arith)

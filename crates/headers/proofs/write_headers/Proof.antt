@@ -1,9 +1,9 @@
-use Rattle.headers.specs.HeadersLaws.{writable}
-use mathlib.Core.Path.{refl, ap, sym, _∙_}
+use Rattle.headers.specs.laws.Headers.{writable}
+use mathlib.Core.Path.{refl, sym, _∙_}
 use native.Mathlib.Omega.{arith}
-use Rattle.wire.specs.Le.{bytes16, bytes32, patch, written}
-use Rattle.headers.specs.Headers.{headersFault, headersOf, syncOf, versionsOf, channelsOf, contextOf}
-use Rattle.headers.specs.Wrote.{Wrote, refused, done}
+use Rattle.wire.specs.Le.{bytes16, bytes32}
+use Rattle.headers.specs.Headers.{headersOf, syncOf, versionsOf, channelsOf, contextOf}
+use Rattle.headers.specs.laws.Wrote.{refused, done}
 use borrow.Author.Needs.{needs}
 use Rattle.headers.proofs.write_headers.Statement.{statement}
 use Rattle.headers.proofs.write_headers.Tie as tie
@@ -12,23 +12,18 @@ use Rattle.headers.proofs.write_headers.Lts as lts
 use Rattle.headers.proofs.headers_fault.Reads as headers-fault-reads
 use Rattle.headers.proofs.put_headers.Reads as put-headers-reads
 
--- src/lib.rt:97:9
 headers-fault-requires : tie.Need-headers-fault-requires
 headers-fault-requires c κs = search needs
 
--- src/lib.rt:99:9
 returns : tie.Need-returns
 returns c = refused _ _ _ _ (c .before .headers-fault .ensures) (c .if1 .taken)
 
--- src/lib.rt:101:5
 put-headers-requires : tie.Need-put-headers-requires
 put-headers-requires c κs = let k = writable _ _ _ _ (sym (c .before .if1 .left) ∙ c .before .before .headers-fault .ensures) in (omega (arith, k .fits), omega arith)
 
--- src/lib.rt:94:1
 same-length : tie.Need-same-length
 same-length c = search needs
 
--- src/lib.rt:94:1
 returns-2 : tie.Need-returns-2
 unfolding bytes16 bytes32 headersOf syncOf versionsOf channelsOf contextOf
 returns-2 c = done _ _ _ _ _ (sym (c .before .before .before .before .if1 .left) ∙ c .before .before .before .before .before .headers-fault .ensures) refl (c .before .before .put-headers .ensures)

@@ -1,4 +1,4 @@
-use Rattle.panel.specs.PanelLaws.{frame-refused, frame-done}
+use Rattle.panel.specs.laws.Panel.{frame-refused, frame-done}
 use borrow.Author.Needs.{needs}
 use Rattle.panel.proofs.read_frame.Statement.{statement}
 use Rattle.panel.proofs.read_frame.Tie as tie

@@ -1,5 +1,5 @@
 use mathlib.Core.Path.{refl, ap, _∙_}
-use Rattle.wire.specs.RowLaws.{case-yes, case-no, eq-is, ne-is}
+use Rattle.whole.specs.laws.Row.{case-yes, case-no, eq-is, ne-is}
 use Rattle.panel.specs.Panel.{headerCase, headerReading}
 use borrow.Author.Needs.{needs}
 use Rattle.panel.proofs.read_header.Statement.{statement}

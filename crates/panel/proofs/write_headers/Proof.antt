@@ -1,4 +1,4 @@
-use Rattle.panel.specs.PanelLaws.{wrote-refused, wrote-done}
+use Rattle.panel.specs.laws.Panel.{wrote-refused, wrote-done}
 use borrow.Author.Needs.{needs}
 use Rattle.panel.proofs.write_headers.Statement.{statement}
 use Rattle.panel.proofs.write_headers.Tie as tie

@@ -1,7 +1,7 @@
 use mathlib.Core.Path.{sym, _∙_}
 use borrow.Author.Needs.{needs}
 use borrow.Author.Tests.{not-false}
-use Rattle.bands.specs.BandLaws.{good-set}
+use Rattle.bands.specs.laws.Band.{good-set}
 use Rattle.sample.proofs.coefficients.Statement.{statement}
 use Rattle.sample.proofs.coefficients.Tie as tie
 

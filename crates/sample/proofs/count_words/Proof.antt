@@ -1,7 +1,7 @@
 -- As many words are counted as were looked at, at most.
 use Prim.Native.Nat.{_≤_, _-_}
 use native.Mathlib.Omega.{arith}
-use Rattle.stages.specs.CompareLaws.{one-most}
+use Rattle.sample.specs.laws.Compare.{one-most}
 use Rattle.sample.proofs.count_words.Statement.{statement}
 use Rattle.sample.proofs.count_words.Tie as tie
 

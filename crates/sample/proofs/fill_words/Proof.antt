@@ -1,6 +1,6 @@
 -- The words' list keeps its length.
 use Prim.Native.Nat.{_-_}
-use mathlib.Core.Path.{_≡_, refl, _∙_}
+use mathlib.Core.Path.{_≡_, refl}
 use native.Mathlib.Omega.{arith}
 use lib.ListN.{length, length-set}
 use Rattle.sample.proofs.fill_words.Statement.{statement}

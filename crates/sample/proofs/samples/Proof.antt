@@ -1,8 +1,8 @@
 use mathlib.Core.Path.{sym, _∙_}
 use borrow.Author.Needs.{needs}
 use borrow.Author.Tests.{not-false}
-use Rattle.bands.specs.BandLaws.{good-set}
-use Rattle.tile.specs.ComponentLaws.{coefficients-are}
+use Rattle.bands.specs.laws.Band.{good-set}
+use Rattle.tile_back.specs.laws.Component.{coefficients-are}
 use Rattle.sample.proofs.samples.Statement.{statement}
 use Rattle.sample.proofs.samples.Tie as tie
 

@@ -7,27 +7,21 @@ use Rattle.session.proofs.channels_fault.Lts as lts
 use Rattle.session.proofs.channels_judge.Reads as channels-judge-reads
 use Rattle.wire.proofs.le16_at.Reads as le16-at-reads
 
--- src/lib.rt:219:20
 shared-slice-read-channels-judge : tie.Need-shared-slice-read-channels-judge
 shared-slice-read-channels-judge c = search needs
 
--- src/lib.rt:219:26
 shared-slice-read-channels-judge-2 : tie.Need-shared-slice-read-channels-judge-2
 shared-slice-read-channels-judge-2 c = search needs
 
--- src/lib.rt:219:32
 le16-at-requires : tie.Need-le16-at-requires
 le16-at-requires c κs = search needs
 
--- src/lib.rt:219:53
 le16-at-requires-2 : tie.Need-le16-at-requires-2
 le16-at-requires-2 c κs = search needs
 
--- src/lib.rt:219:5
 channels-judge-requires : tie.Need-channels-judge-requires
 channels-judge-requires c κs = search needs
 
--- src/lib.rt:215:1
 returns : tie.Need-returns
 unfolding channelsFault
 returns c = cc

@@ -1,4 +1,4 @@
-use Rattle.wire.specs.RowLaws.{rows}
+use Rattle.whole.specs.laws.Row.{rows}
 use Rattle.session.specs.Header.{channelsJudge}
 use borrow.Author.Needs.{needs}
 use Rattle.session.proofs.channels_judge.Statement.{statement}
@@ -7,26 +7,21 @@ use Rattle.session.proofs.channels_judge.Reads as reads
 use Rattle.session.proofs.channels_judge.Lts as lts
 use Rattle.session.proofs.is_size.Reads as is-size-reads
 
--- src/lib.rt:148:9
 returns : tie.Need-returns
 unfolding channelsJudge
 returns c = search rows
 
--- src/lib.rt:151:9
 returns-2 : tie.Need-returns-2
 unfolding channelsJudge
 returns-2 c = search rows
 
--- src/lib.rt:153:8
 is-size-requires : tie.Need-is-size-requires
 is-size-requires c κs = search needs
 
--- src/lib.rt:154:9
 returns-3 : tie.Need-returns-3
 unfolding channelsJudge
 returns-3 c = search rows
 
--- src/lib.rt:144:1
 returns-4 : tie.Need-returns-4
 unfolding channelsJudge
 returns-4 c = search rows

@@ -7,31 +7,24 @@ use Rattle.session.proofs.context_fault.Lts as lts
 use Rattle.session.proofs.context_judge.Reads as context-judge-reads
 use Rattle.wire.proofs.le16_at.Reads as le16-at-reads
 
--- src/lib.rt:226:19
 shared-slice-read-context-judge : tie.Need-shared-slice-read-context-judge
 shared-slice-read-context-judge c = search needs
 
--- src/lib.rt:226:25
 shared-slice-read-context-judge-2 : tie.Need-shared-slice-read-context-judge-2
 shared-slice-read-context-judge-2 c = search needs
 
--- src/lib.rt:226:31
 shared-slice-read-context-judge-3 : tie.Need-shared-slice-read-context-judge-3
 shared-slice-read-context-judge-3 c = search needs
 
--- src/lib.rt:226:37
 le16-at-requires : tie.Need-le16-at-requires
 le16-at-requires c κs = search needs
 
--- src/lib.rt:226:58
 le16-at-requires-2 : tie.Need-le16-at-requires-2
 le16-at-requires-2 c κs = search needs
 
--- src/lib.rt:226:5
 context-judge-requires : tie.Need-context-judge-requires
 context-judge-requires c κs = search needs
 
--- src/lib.rt:222:1
 returns : tie.Need-returns
 unfolding contextFault
 returns c = cc

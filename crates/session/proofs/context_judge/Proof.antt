@@ -1,4 +1,4 @@
-use Rattle.wire.specs.RowLaws.{rows}
+use Rattle.whole.specs.laws.Row.{rows}
 use Rattle.session.specs.Header.{contextJudge}
 use borrow.Author.Needs.{needs}
 use Rattle.session.proofs.context_judge.Statement.{statement}
@@ -7,36 +7,29 @@ use Rattle.session.proofs.context_judge.Reads as reads
 use Rattle.session.proofs.context_judge.Lts as lts
 use Rattle.session.proofs.properties_good.Reads as properties-good-reads
 
--- src/lib.rt:184:9
 returns : tie.Need-returns
 unfolding contextJudge
 returns c = search rows depth 14 fits 20000
 
--- src/lib.rt:187:9
 returns-2 : tie.Need-returns-2
 unfolding contextJudge
 returns-2 c = search rows depth 14 fits 20000
 
--- src/lib.rt:190:9
 returns-3 : tie.Need-returns-3
 unfolding contextJudge
 returns-3 c = search rows depth 14 fits 20000
 
--- src/lib.rt:193:9
 returns-4 : tie.Need-returns-4
 unfolding contextJudge
 returns-4 c = search rows depth 14 fits 20000
 
--- src/lib.rt:195:8
 properties-good-requires : tie.Need-properties-good-requires
 properties-good-requires c κs = search needs
 
--- src/lib.rt:196:9
 returns-5 : tie.Need-returns-5
 unfolding contextJudge
 returns-5 c = search rows depth 14 fits 20000
 
--- src/lib.rt:180:1
 returns-6 : tie.Need-returns-6
 unfolding contextJudge
 returns-6 c = search rows depth 14 fits 20000

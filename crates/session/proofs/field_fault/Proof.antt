@@ -1,7 +1,7 @@
-use Rattle.wire.specs.RowLaws.{rows}
+use Rattle.whole.specs.laws.Row.{rows}
 use native.Mathlib.Omega.{arith}
 use Rattle.session.specs.Header.{fieldFault}
-use Rattle.session.specs.HeaderLaws.{size0, size1, size2, size3}
+use Rattle.session.specs.laws.Header.{size0, size1, size2, size3}
 use Rattle.session.proofs.field_fault.Statement.{statement}
 use Rattle.session.proofs.field_fault.Tie as tie
 use Rattle.session.proofs.field_fault.Reads as reads
@@ -11,38 +11,30 @@ use Rattle.session.proofs.context_fault.Reads as context-fault-reads
 use Rattle.session.proofs.sync_fault.Reads as sync-fault-reads
 use Rattle.session.proofs.versions_fault.Reads as versions-fault-reads
 
--- src/lib.rt:235:9
 sync-fault-requires : tie.Need-sync-fault-requires
 sync-fault-requires c κs = omega (arith, size0 _ (c .if1 .taken))
 
--- src/lib.rt:235:9
 returns : tie.Need-returns
 unfolding fieldFault
 returns c = search rows
 
--- src/lib.rt:238:9
 versions-fault-requires : tie.Need-versions-fault-requires
 versions-fault-requires c κs = omega (arith, size1 _ (c .if2 .taken))
 
--- src/lib.rt:238:9
 returns-2 : tie.Need-returns-2
 unfolding fieldFault
 returns-2 c = search rows
 
--- src/lib.rt:241:9
 channels-fault-requires : tie.Need-channels-fault-requires
 channels-fault-requires c κs = omega (arith, size2 _ (c .if3 .taken))
 
--- src/lib.rt:241:9
 returns-3 : tie.Need-returns-3
 unfolding fieldFault
 returns-3 c = search rows
 
--- src/lib.rt:243:5
 context-fault-requires : tie.Need-context-fault-requires
 context-fault-requires c κs = omega (arith, size3 (c .before .before .before .before .args .t) (omega (arith, c .before .before .before .before .pre .0, c .before .before .before .before .pre .1)))
 
--- src/lib.rt:230:1
 returns-4 : tie.Need-returns-4
 unfolding fieldFault
 returns-4 c = search rows

@@ -1,5 +1,5 @@
-use mathlib.Core.Path.{refl, ap, sym, _∙_}
-use Rattle.wire.specs.RowLaws.{rows, passes, fails, ne-is, eq-is}
+use mathlib.Core.Path.{refl}
+use Rattle.whole.specs.laws.Row.{rows, passes, fails, ne-is, eq-is}
 use Rattle.session.specs.Header.{headJudge}
 use borrow.Author.Needs.{needs}
 use Rattle.session.proofs.head_judge.Statement.{statement}
@@ -9,40 +9,32 @@ use Rattle.session.proofs.head_judge.Lts as lts
 use Rattle.session.proofs.is_due.Reads as is-due-reads
 use Rattle.session.proofs.size_of.Reads as size-of-reads
 
--- src/lib.rt:251:9
 returns : tie.Need-returns
 unfolding headJudge
 returns c = search rows depth 14 fits 20000
 
--- src/lib.rt:254:9
 returns-2 : tie.Need-returns-2
 unfolding headJudge
 returns-2 c = search rows depth 14 fits 20000
 
--- src/lib.rt:256:8
 is-due-requires : tie.Need-is-due-requires
 is-due-requires c κs = search needs
 
--- src/lib.rt:257:20
 size-of-requires : tie.Need-size-of-requires
 size-of-requires c κs = search needs
 
--- src/lib.rt:258:13
 returns-3 : tie.Need-returns-3
 unfolding headJudge
 returns-3 c = passes _ _ _ _ (search rows) (passes _ _ _ _ (search rows) (passes _ _ _ _ (search rows) (fails _ _ _ _ (ne-is refl (c .before .size-of .ensures .0) (c .if4 .taken)) refl)))
 
--- src/lib.rt:261:13
 returns-4 : tie.Need-returns-4
 unfolding headJudge
 returns-4 c = passes _ _ _ _ (search rows) (passes _ _ _ _ (search rows) (passes _ _ _ _ (search rows) (passes _ _ _ _ (eq-is refl (c .before .before .size-of .ensures .0) (c .before .if4 .left)) (search rows))))
 
--- src/lib.rt:263:9
 returns-5 : tie.Need-returns-5
 unfolding headJudge
 returns-5 c = passes _ _ _ _ (search rows) (passes _ _ _ _ (search rows) (passes _ _ _ _ (search rows) (passes _ _ _ _ (eq-is refl (c .before .before .size-of .ensures .0) (c .before .if4 .left)) (search rows))))
 
--- src/lib.rt:247:1
 returns-6 : tie.Need-returns-6
 unfolding headJudge
 returns-6 c = search rows depth 14 fits 20000

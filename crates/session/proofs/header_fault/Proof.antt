@@ -1,12 +1,12 @@
-use Rattle.session.proofs.Laws.{Judged, fault-head, fault-field, fault-more, fault-none}
+use Rattle.session.proofs.Laws.{fault-head, fault-field, fault-more, fault-none}
 use borrow.Author.Tests.{lt-leb}
 use lib.ListN.{length}
 use denote.Ref.{now}
 use mathlib.Core.Path.{refl, sym, _∙_}
 use native.Mathlib.Omega.{arith}
-use Rattle.wire.specs.RowLaws.{fails}
+use Rattle.whole.specs.laws.Row.{fails}
 use Rattle.session.specs.Header.{headerFault}
-use Rattle.session.specs.HeaderLaws.{head-good}
+use Rattle.session.specs.laws.Header.{head-good}
 use borrow.Author.Needs.{needs}
 use Rattle.session.proofs.header_fault.Statement.{statement}
 use Rattle.session.proofs.header_fault.Tie as tie
@@ -17,40 +17,31 @@ use Rattle.session.proofs.head_judge.Reads as head-judge-reads
 use Rattle.wire.proofs.le16_at.Reads as le16-at-reads
 use Rattle.wire.proofs.le32_at.Reads as le32-at-reads
 
--- src/lib.rt:273:9
 returns : tie.Need-returns
 unfolding headerFault
 returns c = fails _ _ _ _ (lt-leb 6 (length (now (c .before .before .args .m))) (c .if1 .taken)) refl
 
--- src/lib.rt:275:9
 le16-at-requires : tie.Need-le16-at-requires
 le16-at-requires c κs = search needs
 
--- src/lib.rt:276:9
 le32-at-requires : tie.Need-le32-at-requires
 le32-at-requires c κs = search needs
 
--- src/lib.rt:277:9
 head-judge-requires : tie.Need-head-judge-requires
 head-judge-requires c κs = search needs
 
--- src/lib.rt:279:9
 returns-2 : tie.Need-returns-2
 returns-2 c = fault-head _ _ _ _ _ (record { some = c .before .before .before .before .if1 .left; type = c .before .before .before .le16-at .ensures .0; len = c .before .before .le32-at .ensures .0; is = c .before .head-judge .ensures }) (c .if2 .taken)
 
--- src/lib.rt:281:9
 field-fault-requires : tie.Need-field-fault-requires
 field-fault-requires c κs = let g = head-good (c .before .before .before .before .before .before .args .s) _ _ _ (sym (c .if2 .left) ∙ c .before .head-judge .ensures) in (omega arith, omega arith, omega arith)
 
--- src/lib.rt:283:9
 returns-3 : tie.Need-returns-3
 returns-3 c = fault-field _ _ _ _ _ _ (record { some = c .before .before .before .before .before .before .if1 .left; type = c .before .before .before .before .before .le16-at .ensures .0; len = c .before .before .before .before .le32-at .ensures .0; is = c .before .before .before .head-judge .ensures }) (c .before .before .if2 .left) (c .before .field-fault .ensures) (c .if3 .taken)
 
--- src/lib.rt:286:9
 returns-4 : tie.Need-returns-4
 returns-4 c = fault-more _ _ _ _ _ _ (record { some = c .before .before .before .before .before .before .before .if1 .left; type = c .before .before .before .before .before .before .le16-at .ensures .0; len = c .before .before .before .before .before .le32-at .ensures .0; is = c .before .before .before .before .head-judge .ensures }) (c .before .before .before .if2 .left) (c .before .before .field-fault .ensures) (c .before .if3 .left) (c .if4 .taken)
 
--- src/lib.rt:269:1
 returns-5 : tie.Need-returns-5
 returns-5 c = fault-none _ _ _ _ _ _ (record { some = c .before .before .before .before .before .before .before .if1 .left; type = c .before .before .before .before .before .before .le16-at .ensures .0; len = c .before .before .before .before .before .le32-at .ensures .0; is = c .before .before .before .before .head-judge .ensures }) (c .before .before .before .if2 .left) (c .before .before .field-fault .ensures) (c .before .if3 .left) (c .if4 .left)
 

@@ -1,4 +1,4 @@
-use Rattle.wire.specs.RowLaws.{rows}
+use Rattle.whole.specs.laws.Row.{rows}
 use Rattle.session.specs.Header.{due}
 use borrow.Author.Needs.{needs}
 use Rattle.session.proofs.is_due.Statement.{statement}
@@ -7,45 +7,35 @@ use Rattle.session.proofs.is_due.Reads as reads
 use Rattle.session.proofs.is_due.Lts as lts
 use Rattle.session.proofs.is_made.Reads as is-made-reads
 
--- src/lib.rt:92:9
 returns : tie.Need-returns
 unfolding due
 returns c = search rows
 
--- src/lib.rt:95:9
 cast-is-made : tie.Need-cast-is-made
 cast-is-made c = search needs
 
--- src/lib.rt:96:9
 cast-is-made-2 : tie.Need-cast-is-made-2
 cast-is-made-2 c = search needs
 
--- src/lib.rt:97:9
 cast-is-made-3 : tie.Need-cast-is-made-3
 cast-is-made-3 c = search needs
 
--- src/lib.rt:98:9
 cast-is-made-4 : tie.Need-cast-is-made-4
 cast-is-made-4 c = search needs
 
--- src/lib.rt:94:8
 is-made-requires : tie.Need-is-made-requires
 is-made-requires c κs = search needs
 
--- src/lib.rt:100:30
 cast-result : tie.Need-cast-result
 cast-result c = search needs
 
--- src/lib.rt:100:21
 add-result : tie.Need-add-result
 add-result c = search needs
 
--- src/lib.rt:100:9
 returns-2 : tie.Need-returns-2
 unfolding due
 returns-2 c = search rows
 
--- src/lib.rt:88:1
 returns-3 : tie.Need-returns-3
 unfolding due
 returns-3 c = search rows

@@ -1,4 +1,4 @@
-use Rattle.wire.specs.RowLaws.{rows}
+use Rattle.whole.specs.laws.Row.{rows}
 use Rattle.session.specs.Header.{made}
 use borrow.Author.Needs.{needs}
 use Rattle.session.proofs.is_made.Statement.{statement}
@@ -8,45 +8,36 @@ use Rattle.session.proofs.is_made.Lts as lts
 use Rattle.session.proofs.is_mode.Reads as is-mode-reads
 use Rattle.session.proofs.is_size.Reads as is-size-reads
 
--- src/lib.rt:54:13
 returns : tie.Need-returns
 unfolding made
 returns c = search rows depth 14 fits 20000
 
--- src/lib.rt:57:13
 returns-2 : tie.Need-returns-2
 unfolding made
 returns-2 c = search rows depth 14 fits 20000
 
--- src/lib.rt:59:9
 returns-3 : tie.Need-returns-3
 unfolding made
 returns-3 c = search rows depth 14 fits 20000
 
--- src/lib.rt:61:8
 is-size-requires : tie.Need-is-size-requires
 is-size-requires c κs = search needs
 
--- src/lib.rt:63:13
 returns-4 : tie.Need-returns-4
 unfolding made
 returns-4 c = search rows depth 14 fits 20000
 
--- src/lib.rt:66:13
 returns-5 : tie.Need-returns-5
 unfolding made
 returns-5 c = search rows depth 14 fits 20000
 
--- src/lib.rt:68:9
 is-mode-requires : tie.Need-is-mode-requires
 is-mode-requires c κs = search needs
 
--- src/lib.rt:68:9
 returns-6 : tie.Need-returns-6
 unfolding made
 returns-6 c = search rows depth 14 fits 20000
 
--- src/lib.rt:49:1
 returns-7 : tie.Need-returns-7
 unfolding made
 returns-7 c = search rows depth 14 fits 20000

@@ -1,26 +1,22 @@
-use Rattle.wire.specs.RowLaws.{rows}
+use Rattle.whole.specs.laws.Row.{rows}
 use Rattle.session.specs.Header.{sizeGood}
 use Rattle.session.proofs.is_size.Statement.{statement}
 use Rattle.session.proofs.is_size.Tie as tie
 use Rattle.session.proofs.is_size.Reads as reads
 use Rattle.session.proofs.is_size.Lts as lts
 
--- src/lib.rt:28:9
 returns : tie.Need-returns
 unfolding sizeGood
 returns c = search rows
 
--- src/lib.rt:31:9
 returns-2 : tie.Need-returns-2
 unfolding sizeGood
 returns-2 c = search rows
 
--- src/lib.rt:34:9
 returns-3 : tie.Need-returns-3
 unfolding sizeGood
 returns-3 c = search rows
 
--- src/lib.rt:24:1
 returns-4 : tie.Need-returns-4
 unfolding sizeGood
 returns-4 c = search rows

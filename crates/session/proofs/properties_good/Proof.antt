@@ -1,5 +1,5 @@
-use mathlib.Core.Path.{refl, ap, sym, _∙_}
-use Rattle.wire.specs.RowLaws.{rows, passes, fails}
+use mathlib.Core.Path.{refl}
+use Rattle.whole.specs.laws.Row.{rows, passes, fails}
 use Rattle.session.specs.Header.{propertiesGood}
 use borrow.Author.Needs.{needs}
 use Rattle.session.proofs.properties_good.Statement.{statement}
@@ -9,30 +9,24 @@ use Rattle.session.proofs.properties_good.Lts as lts
 use Rattle.session.proofs.et_of.Reads as et-of-reads
 use Rattle.session.proofs.is_mode.Reads as is-mode-reads
 
--- src/lib.rt:169:9
 returns : tie.Need-returns
 unfolding propertiesGood
 returns c = search rows depth 14 fits 20000
 
--- src/lib.rt:172:9
 returns-2 : tie.Need-returns-2
 unfolding propertiesGood
 returns-2 c = search rows depth 14 fits 20000
 
--- src/lib.rt:174:16
 et-of-requires : tie.Need-et-of-requires
 et-of-requires c κs = search needs
 
--- src/lib.rt:174:8
 is-mode-requires : tie.Need-is-mode-requires
 is-mode-requires c κs = search needs
 
--- src/lib.rt:175:9
 returns-3 : tie.Need-returns-3
 unfolding propertiesGood
 returns-3 c = passes _ _ _ _ (search rows) (passes _ _ _ _ (search rows) (passes _ _ _ _ (cc) (search rows)))
 
--- src/lib.rt:165:1
 returns-4 : tie.Need-returns-4
 unfolding propertiesGood
 returns-4 c = passes _ _ _ _ (search rows) (passes _ _ _ _ (search rows) (fails _ _ _ _ (cc) refl))

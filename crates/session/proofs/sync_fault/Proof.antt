@@ -8,19 +8,15 @@ use Rattle.session.proofs.sync_judge.Reads as sync-judge-reads
 use Rattle.wire.proofs.le16_at.Reads as le16-at-reads
 use Rattle.wire.proofs.le32_at.Reads as le32-at-reads
 
--- src/lib.rt:205:16
 le32-at-requires : tie.Need-le32-at-requires
 le32-at-requires c κs = search needs
 
--- src/lib.rt:205:37
 le16-at-requires : tie.Need-le16-at-requires
 le16-at-requires c κs = search needs
 
--- src/lib.rt:205:5
 sync-judge-requires : tie.Need-sync-judge-requires
 sync-judge-requires c κs = search needs
 
--- src/lib.rt:201:1
 returns : tie.Need-returns
 unfolding syncFault
 returns c = cc

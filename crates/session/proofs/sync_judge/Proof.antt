@@ -1,21 +1,18 @@
-use Rattle.wire.specs.RowLaws.{rows}
+use Rattle.whole.specs.laws.Row.{rows}
 use Rattle.session.specs.Header.{syncJudge}
 use Rattle.session.proofs.sync_judge.Statement.{statement}
 use Rattle.session.proofs.sync_judge.Tie as tie
 use Rattle.session.proofs.sync_judge.Reads as reads
 use Rattle.session.proofs.sync_judge.Lts as lts
 
--- src/lib.rt:121:9
 returns : tie.Need-returns
 unfolding syncJudge
 returns c = search rows
 
--- src/lib.rt:124:9
 returns-2 : tie.Need-returns-2
 unfolding syncJudge
 returns-2 c = search rows
 
--- src/lib.rt:117:1
 returns-3 : tie.Need-returns-3
 unfolding syncJudge
 returns-3 c = search rows

@@ -1,7 +1,7 @@
-use mathlib.Core.Path.{refl, ap, sym, _∙_}
-use Rattle.wire.specs.RowLaws.{case-yes, case-no, ne-is, eq-is}
+use mathlib.Core.Path.{refl, sym, _∙_}
+use Rattle.whole.specs.laws.Row.{case-yes, case-no, ne-is, eq-is}
 use Rattle.session.specs.Header.{headerOf}
-use Rattle.session.specs.HeaderLaws.{good}
+use Rattle.session.specs.laws.Header.{good}
 use borrow.Author.Needs.{needs}
 use Rattle.session.proofs.take_header.Statement.{statement}
 use Rattle.session.proofs.take_header.Tie as tie
@@ -10,20 +10,16 @@ use Rattle.session.proofs.take_header.Lts as lts
 use Rattle.session.proofs.header_fault.Reads as header-fault-reads
 use Rattle.session.proofs.record_after.Reads as record-after-reads
 
--- src/lib.rt:323:9
 header-fault-requires : tie.Need-header-fault-requires
 header-fault-requires c κs = search needs
 
--- src/lib.rt:325:9
 returns : tie.Need-returns
 unfolding headerOf
 returns c = case-no _ _ _ _ (ne-is (c .before .header-fault .ensures) refl (c .if1 .taken)) (cc)
 
--- src/lib.rt:327:40
 record-after-requires : tie.Need-record-after-requires
 record-after-requires c κs = good _ _ (sym (c .if1 .left) ∙ c .before .header-fault .ensures)
 
--- src/lib.rt:320:1
 returns-2 : tie.Need-returns-2
 unfolding headerOf
 returns-2 c = case-yes _ _ _ _ (eq-is (c .before .before .header-fault .ensures) refl (c .before .if1 .left)) (cc)

@@ -7,23 +7,18 @@ use Rattle.session.proofs.versions_fault.Lts as lts
 use Rattle.session.proofs.versions_judge.Reads as versions-judge-reads
 use Rattle.wire.proofs.le16_at.Reads as le16-at-reads
 
--- src/lib.rt:212:20
 shared-slice-read-versions-judge : tie.Need-shared-slice-read-versions-judge
 shared-slice-read-versions-judge c = search needs
 
--- src/lib.rt:212:26
 shared-slice-read-versions-judge-2 : tie.Need-shared-slice-read-versions-judge-2
 shared-slice-read-versions-judge-2 c = search needs
 
--- src/lib.rt:212:32
 le16-at-requires : tie.Need-le16-at-requires
 le16-at-requires c κs = search needs
 
--- src/lib.rt:212:5
 versions-judge-requires : tie.Need-versions-judge-requires
 versions-judge-requires c κs = search needs
 
--- src/lib.rt:208:1
 returns : tie.Need-returns
 unfolding versionsFault
 returns c = cc

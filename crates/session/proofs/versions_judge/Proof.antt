@@ -1,26 +1,22 @@
-use Rattle.wire.specs.RowLaws.{rows}
+use Rattle.whole.specs.laws.Row.{rows}
 use Rattle.session.specs.Header.{versionsJudge}
 use Rattle.session.proofs.versions_judge.Statement.{statement}
 use Rattle.session.proofs.versions_judge.Tie as tie
 use Rattle.session.proofs.versions_judge.Reads as reads
 use Rattle.session.proofs.versions_judge.Lts as lts
 
--- src/lib.rt:133:9
 returns : tie.Need-returns
 unfolding versionsJudge
 returns c = search rows
 
--- src/lib.rt:136:9
 returns-2 : tie.Need-returns-2
 unfolding versionsJudge
 returns-2 c = search rows
 
--- src/lib.rt:139:9
 returns-3 : tie.Need-returns-3
 unfolding versionsJudge
 returns-3 c = search rows
 
--- src/lib.rt:129:1
 returns-4 : tie.Need-returns-4
 unfolding versionsJudge
 returns-4 c = search rows

@@ -1,63 +1,48 @@
 use native.Mathlib.Omega.{arith}
-use Prim.Native.Nat.{_≤_, _-_}
-use mathlib.Core.Path.{_≡_, refl}
-use lib.ListN.{length}
+use Prim.Native.Nat.{_≤_, _-_, _*_}
 use native.Mathlib.Nat.{mul-le-mul}
-use Prim.Native.Nat.{_*_}
 use borrow.Author.Needs.{needs}
 use Rattle.show.proofs.finish.Statement.{statement}
 use Rattle.show.proofs.finish.Tie as tie
 use Rattle.show.proofs.finish.Reads as reads
 use Rattle.show.proofs.finish.Lts as lts
-use Rattle.lines.proofs.say.Reads as say-reads
-use Rattle.picture_out.proofs.bmp_out.Reads as bmp-out-reads
-use Rattle.picture_out.proofs.pic_out.Reads as pic-out-reads
+use Rattle.app_text.proofs.lines.say.Reads as say-reads
+use Rattle.app_pictures.proofs.out.bmp_out.Reads as bmp-out-reads
+use Rattle.app_pictures.proofs.out.pic_out.Reads as pic-out-reads
 
--- src/main.rt:256:13
 slice-aggregate-say : tie.Need-slice-aggregate-say
 slice-aggregate-say c = search needs
 
--- src/main.rt:255:9
 say-requires : tie.Need-say-requires
 say-requires c κs = search needs
 
--- src/main.rt:258:9
 returns : tie.Need-returns
 returns c = search needs
 
--- src/main.rt:260:24
 cast-if2 : tie.Need-cast-if2
 cast-if2 c = search needs
 
--- src/main.rt:260:37
 cast-if2-2 : tie.Need-cast-if2-2
 cast-if2-2 c = search needs
 
--- src/main.rt:260:24
 mul-if2 : tie.Need-mul-if2
 mul-if2 c = let m : c .before .before .args .d .width * c .before .before .args .d .height ≤ 65535 * 65535 = mul-le-mul {n₂ = 65535} {m₂ = 65535} (omega arith) (omega arith) in omega arith
 
--- src/main.rt:261:20
 slice-aggregate-say-2 : tie.Need-slice-aggregate-say-2
 slice-aggregate-say-2 c = search needs
 
--- src/main.rt:261:9
 say-requires-2 : tie.Need-say-requires-2
 say-requires-2 c κs = search needs
 
--- src/main.rt:262:9
 returns-2 : tie.Need-returns-2
 returns-2 c = search needs
 
--- src/main.rt:264:5
 bmp-out-requires : tie.Need-bmp-out-requires
 bmp-out-requires c κs = search needs
 
--- src/main.rt:265:5
 pic-out-requires : tie.Need-pic-out-requires
 pic-out-requires c κs = search needs
 
--- src/main.rt:251:1
 returns-3 : tie.Need-returns-3
 returns-3 c = search needs
 

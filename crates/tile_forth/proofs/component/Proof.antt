@@ -1,16 +1,13 @@
-use Prim.Native.Nat.{ℕ, _≤_, _<_, _*_, _-_, _+_, _/_, _%_}
-use mathlib.Core.Path.{_≡_, _∙_, ap, sym, refl, subst}
+use Prim.Native.Nat.{_-_}
+use mathlib.Core.Path.{_≡_, _∙_, sym, subst}
 use native.Mathlib.Omega.{arith}
 use borrow.Author.Tests.{eq-eqb, ne-eqb}
-use lib.IntN.{ℤ, pos}
-use lib.ListN.{length, getD}
-use denote.Ref.{now}
 use mir.Syntax.{w32}
 use mir.Val.{toZ, ofZ}
-use Rattle.wire.specs.RowLaws.{case-yes, case-no}
+use Rattle.whole.specs.laws.Row.{case-yes, case-no}
 use Rattle.whole.specs.Near.{Near, back-ok}
-use Rattle.tile_forth.specs.TileForth.{componentOf, edge, pixelPlace, bytesAt, sampleAt}
-use Rattle.tile_forth.specs.TileForthLaws.{component-near, edge-in, pixel-in, Loaded, loaded-none, loaded-more, loaded-list, loaded-near}
+use Rattle.tile_forth.specs.TileForth.{componentOf}
+use Rattle.tile_forth.specs.laws.TileForth.{component-near}
 use borrow.Author.Needs.{needs}
 use Rattle.tile_forth.proofs.component.Statement.{statement}
 use Rattle.tile_forth.proofs.component.Tie as tie
@@ -20,11 +17,9 @@ use Rattle.colour.proofs.cb.Reads as cb-reads
 use Rattle.colour.proofs.cr.Reads as cr-reads
 use Rattle.colour.proofs.luma.Reads as luma-reads
 
--- src/lib.rt:17:9
 luma-requires : tie.Need-luma-requires
 luma-requires c κs = search needs
 
--- src/lib.rt:17:9
 returns : tie.Need-returns
 unfolding componentOf
 returns c =
@@ -32,11 +27,9 @@ returns c =
     let e : toZ w32 (ofZ w32 (c .luma .result)) ≡ componentOf (c .before .before .args .c) (c .before .before .args .r) (c .before .before .args .g) (c .before .before .args .b) = case-yes _ _ _ _ (eq-eqb (c .before .before .args .c) 0 (c .before .if1 .taken)) v in
     (e, subst (Near 16384) (sym e) (component-near (c .before .before .args .c) (c .before .before .args .r) (c .before .before .args .g) (c .before .before .args .b) (omega (arith, c .before .before .fits)) (omega (arith, c .before .before .fits)) (omega (arith, c .before .before .fits))))
 
--- src/lib.rt:20:9
 cb-requires : tie.Need-cb-requires
 cb-requires c κs = search needs
 
--- src/lib.rt:20:9
 returns-2 : tie.Need-returns-2
 unfolding componentOf
 returns-2 c =
@@ -44,11 +37,9 @@ returns-2 c =
     let e : toZ w32 (ofZ w32 (c .cb .result)) ≡ componentOf (c .before .before .before .args .c) (c .before .before .before .args .r) (c .before .before .before .args .g) (c .before .before .before .args .b) = case-no _ _ _ _ (ne-eqb (c .before .before .before .args .c) 0 (c .before .before .if1 .left)) (case-yes _ _ _ _ (eq-eqb (c .before .before .before .args .c) 1 (c .before .if2 .taken)) v) in
     (e, subst (Near 16384) (sym e) (component-near (c .before .before .before .args .c) (c .before .before .before .args .r) (c .before .before .before .args .g) (c .before .before .before .args .b) (omega (arith, c .before .before .before .fits)) (omega (arith, c .before .before .before .fits)) (omega (arith, c .before .before .before .fits))))
 
--- src/lib.rt:22:5
 cr-requires : tie.Need-cr-requires
 cr-requires c κs = search needs
 
--- src/lib.rt:13:1
 returns-3 : tie.Need-returns-3
 unfolding componentOf
 returns-3 c =

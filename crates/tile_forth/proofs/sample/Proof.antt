@@ -1,16 +1,11 @@
-use Prim.Native.Nat.{ℕ, _≤_, _<_, _*_, _-_, _+_, _/_, _%_}
-use mathlib.Core.Path.{_≡_, _∙_, ap, sym, refl, subst}
+use Prim.Native.Nat.{ℕ, _<_, _*_, _-_, _+_, _/_, _%_}
+use mathlib.Core.Path.{_≡_, _∙_, ap, sym, subst}
 use native.Mathlib.Omega.{arith}
-use borrow.Author.Tests.{eq-eqb, ne-eqb}
-use lib.IntN.{ℤ, pos}
-use lib.ListN.{length, getD}
 use denote.Ref.{now}
 use mir.Syntax.{w32}
-use mir.Val.{toZ, ofZ}
-use Rattle.wire.specs.RowLaws.{case-yes, case-no}
 use Rattle.whole.specs.Near.{Near, back-ok}
-use Rattle.tile_forth.specs.TileForth.{componentOf, edge, pixelPlace, bytesAt, sampleAt}
-use Rattle.tile_forth.specs.TileForthLaws.{component-near, edge-in, pixel-in, Loaded, loaded-none, loaded-more, loaded-list, loaded-near}
+use Rattle.tile_forth.specs.TileForth.{edge, pixelPlace, bytesAt, sampleAt}
+use Rattle.tile_forth.specs.laws.TileForth.{edge-in, pixel-in}
 use borrow.Author.Needs.{needs}
 use Rattle.tile_forth.proofs.sample.Statement.{statement}
 use Rattle.tile_forth.proofs.sample.Tie as tie
@@ -19,59 +14,48 @@ use Rattle.tile_forth.proofs.sample.Lts as lts
 use Rattle.tile_forth.proofs.bytes_at.Reads as bytes-at-reads
 use Rattle.tile_forth.proofs.last_or.Reads as last-or-reads
 
--- src/lib.rt:49:24
 mul-last-or : tie.Need-mul-last-or
 mul-last-or c = search needs
 
--- src/lib.rt:49:24
 add-last-or : tie.Need-add-last-or
 add-last-or c = search needs
 
--- src/lib.rt:49:9
 last-or-requires : tie.Need-last-or-requires
 last-or-requires c κs = search needs
 
--- src/lib.rt:50:24
 mul-last-or-2 : tie.Need-mul-last-or-2
 mul-last-or-2 c = search needs
 
--- src/lib.rt:50:24
 add-last-or-2 : tie.Need-add-last-or-2
 add-last-or-2 c = search needs
 
--- src/lib.rt:50:9
 last-or-requires-2 : tie.Need-last-or-requires-2
 last-or-requires-2 c κs = search needs
 
--- src/lib.rt:51:30
 mul-bytes-at : tie.Need-mul-bytes-at
 mul-bytes-at c =
     let x : c .before .last-or .result < c .before .before .before .args .w = subst (λ (n : ℕ). n < c .before .before .before .args .w) (sym (c .before .last-or .ensures)) (edge-in (c .before .before .before .args .w) _ (c .before .before .before .pre .0)) in
     let y : c .last-or2 .result < c .before .before .before .args .h = subst (λ (n : ℕ). n < c .before .before .before .args .h) (sym (c .last-or2 .ensures)) (edge-in (c .before .before .before .args .h) _ (c .before .before .before .pre .2)) in
     omega (arith, pixel-in (c .before .before .before .args .w) (c .before .before .before .args .h) (c .before .last-or .result) (c .last-or2 .result) x y, c .before .before .before .pre .4, c .before .before .before .good)
 
--- src/lib.rt:51:30
 add-bytes-at : tie.Need-add-bytes-at
 add-bytes-at c =
     let x : c .before .last-or .result < c .before .before .before .args .w = subst (λ (n : ℕ). n < c .before .before .before .args .w) (sym (c .before .last-or .ensures)) (edge-in (c .before .before .before .args .w) _ (c .before .before .before .pre .0)) in
     let y : c .last-or2 .result < c .before .before .before .args .h = subst (λ (n : ℕ). n < c .before .before .before .args .h) (sym (c .last-or2 .ensures)) (edge-in (c .before .before .before .args .h) _ (c .before .before .before .pre .2)) in
     omega (arith, pixel-in (c .before .before .before .args .w) (c .before .before .before .args .h) (c .before .last-or .result) (c .last-or2 .result) x y, c .before .before .before .pre .4, c .before .before .before .good)
 
--- src/lib.rt:51:25
 mul-bytes-at-2 : tie.Need-mul-bytes-at-2
 mul-bytes-at-2 c =
     let x : c .before .last-or .result < c .before .before .before .args .w = subst (λ (n : ℕ). n < c .before .before .before .args .w) (sym (c .before .last-or .ensures)) (edge-in (c .before .before .before .args .w) _ (c .before .before .before .pre .0)) in
     let y : c .last-or2 .result < c .before .before .before .args .h = subst (λ (n : ℕ). n < c .before .before .before .args .h) (sym (c .last-or2 .ensures)) (edge-in (c .before .before .before .args .h) _ (c .before .before .before .pre .2)) in
     omega (arith, pixel-in (c .before .before .before .args .w) (c .before .before .before .args .h) (c .before .last-or .result) (c .last-or2 .result) x y, c .before .before .before .pre .4, c .before .before .before .good)
 
--- src/lib.rt:51:5
 bytes-at-requires : tie.Need-bytes-at-requires
 bytes-at-requires c κs =
     let x : c .before .last-or .result < c .before .before .before .args .w = subst (λ (n : ℕ). n < c .before .before .before .args .w) (sym (c .before .last-or .ensures)) (edge-in (c .before .before .before .args .w) _ (c .before .before .before .pre .0)) in
     let y : c .last-or2 .result < c .before .before .before .args .h = subst (λ (n : ℕ). n < c .before .before .before .args .h) (sym (c .last-or2 .ensures)) (edge-in (c .before .before .before .args .h) _ (c .before .before .before .pre .2)) in
     omega (arith, pixel-in (c .before .before .before .args .w) (c .before .before .before .args .h) (c .before .last-or .result) (c .last-or2 .result) x y, c .before .before .before .pre .4, c .before .before .before .good)
 
--- src/lib.rt:45:1
 returns : tie.Need-returns
 unfolding sampleAt
 returns c =

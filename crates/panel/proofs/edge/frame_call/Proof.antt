@@ -1,4 +1,4 @@
-use Rattle.panel.specs.EdgeLaws.{frame-call}
+use Rattle.panel.specs.laws.Edge.{frame-call}
 use borrow.Author.Needs.{needs}
 use Rattle.panel.proofs.edge.frame_call.Statement.{statement}
 use Rattle.panel.proofs.edge.frame_call.Tie as tie

@@ -1,4 +1,4 @@
-use Rattle.panel.specs.EdgeLaws.{header-call}
+use Rattle.panel.specs.laws.Edge.{header-call}
 use borrow.Author.Needs.{needs}
 use Rattle.panel.proofs.edge.header_call.Statement.{statement}
 use Rattle.panel.proofs.edge.header_call.Tie as tie

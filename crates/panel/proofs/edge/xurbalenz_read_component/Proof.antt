@@ -1,4 +1,4 @@
-use Rattle.panel.specs.EdgeLaws.{component-call}
+use Rattle.panel.specs.laws.Edge.{component-call}
 use borrow.Author.Needs.{needs}
 use Rattle.panel.proofs.edge.xurbalenz_read_component.Statement.{statement}
 use Rattle.panel.proofs.edge.xurbalenz_read_component.Tie as tie

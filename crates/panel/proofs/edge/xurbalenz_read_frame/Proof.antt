@@ -1,8 +1,8 @@
 -- `xurbalenz_read_frame` meets its contract: a walk of its MIR, by hand. The record is copied out of its borrow, which is closed again as it was, and the `&mut` slices and the count are given to `frame_call` for good.
 -- All that the proof knows of `frame_call` is that it meets its contract.
 -- Assumes nothing.
-use mathlib.Core.Path.{_≡_, refl, ap}
-use Prim.Native.Nat.{ℕ, _<_, _^_}
+use mathlib.Core.Path.{_≡_, refl}
+use Prim.Native.Nat.{ℕ}
 use mathlib.Core.List.{[], _∷_, List}
 use lib.ListN.{length}
 use lib.IntN.{ℤ}

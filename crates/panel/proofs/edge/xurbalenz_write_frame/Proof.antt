@@ -1,4 +1,4 @@
-use Rattle.panel.specs.EdgeLaws.{frame-write-call}
+use Rattle.panel.specs.laws.Edge.{frame-write-call}
 use borrow.Author.Needs.{needs}
 use Rattle.panel.proofs.edge.xurbalenz_write_frame.Statement.{statement}
 use Rattle.panel.proofs.edge.xurbalenz_write_frame.Tie as tie

@@ -1,4 +1,4 @@
-use Rattle.panel.specs.EdgeLaws.{write-call}
+use Rattle.panel.specs.laws.Edge.{write-call}
 use borrow.Author.Needs.{needs}
 use Rattle.panel.proofs.edge.xurbalenz_write_headers.Statement.{statement}
 use Rattle.panel.proofs.edge.xurbalenz_write_headers.Tie as tie

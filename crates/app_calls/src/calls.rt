@@ -1,0 +1,215 @@
+// The calls of a recording on the public functions of `panel`, each with its line of text: 01's number, its values, the record after it, and a hash of the
+// lent memory. Lent lists hold 7 before a call, and lent output A5. What 01 says of lent memory ("untouched", "only zeros") shows in the line.
+use bands::Quant;
+use session::Session;
+
+fn both_are(a: &[i32], b: &[i32], v: i32) -> bool {
+    if app_recording::lent::all_are(a, v) {
+        return app_recording::lent::all_are(b, v);
+    }
+    false
+}
+
+// u: the two lists are untouched (7); z: they hold only zeros.
+fn pair_letter(a: &[i32], b: &[i32]) -> u8 {
+    if both_are(a, b, 7) {
+        return b'u';
+    }
+    if both_are(a, b, 0) {
+        return b'z';
+    }
+    b'?'
+}
+
+// Four lists, two and two: the letter that both pairs have.
+fn work_letter(one: u8, two: u8) -> u8 {
+    if one == two {
+        return one;
+    }
+    b'?'
+}
+
+// One header call: its number is said with the record after it.
+pub fn header_call(s: Session, message: &[u8]) -> Session
+    ensures { λ _. ⌜ Unit ⌝ }
+{
+    let h = panel::read_header(s, message);
+    let after = panel::header_record(h, s);
+    crate::lines::say_header(panel::header_number(h), after);
+    after
+}
+
+// One call of the component reader on a list lent.
+pub fn component_call(mode: u8, code: &[u8], list: &mut [i32])
+    ensures { λ _. ⌜ Unit ⌝ }
+{
+    app_recording::lent::fill_list(list, 7);
+    let r = panel::read_component(mode, code, list);
+    crate::lines::say_hash(
+        code::read::reading_number(r),
+        code::read::reading_bits(r),
+        app_recording::lent::hash_list(list),
+    );
+}
+
+// One call of the component writer; the bytes that it wrote.
+pub fn writer_call(mode: u8, list: &[i32], out: &mut [u8]) -> usize
+    ensures { λ _. ⌜ Unit ⌝ }
+{
+    app_recording::lent::fill_bytes(out, 0xA5);
+    let w = panel::write_component(mode, list, out);
+    let n = code_write::call::writing_length(w);
+    crate::lines::say_hash(
+        code_write::call::writing_number(w),
+        n,
+        app_recording::lent::hash_bytes(out),
+    );
+    n
+}
+
+// One call of the header writer; the bytes that it wrote.
+pub fn headers_call(width: usize, height: usize, mode: u8, out: &mut [u8]) -> usize
+    ensures { λ _. ⌜ Unit ⌝ }
+{
+    app_recording::lent::fill_bytes(out, 0xA5);
+    let w = panel::write_headers(width, height, mode, out);
+    let n = code_write::call::writing_length(w);
+    crate::lines::say_hash(
+        code_write::call::writing_number(w),
+        n,
+        app_recording::lent::hash_bytes(out),
+    );
+    n
+}
+
+// A header call: 01's number, and the record after it.
+pub struct Heard {
+    pub number: u8,
+    pub session: Session,
+}
+
+fn read_one(s: Session, message: &[u8]) -> Heard {
+    let h = panel::read_header(s, message);
+    let after = panel::header_record(h, s);
+    Heard {
+        number: panel::header_number(h),
+        session: after,
+    }
+}
+
+// Four header calls: 01's numbers, and the record after the last.
+pub struct Fourfold {
+    pub one: u8,
+    pub two: u8,
+    pub three: u8,
+    pub four: u8,
+    pub session: Session,
+}
+
+// Four headers of our writer, each to a header call; 1 (cut) where they are not all there.
+pub fn headers_back(s: Session, out: &[u8]) -> Fourfold
+    ensures { λ _. ⌜ Unit ⌝ }
+{
+    if out.len() < 47 {
+        return Fourfold {
+            one: 1,
+            two: 1,
+            three: 1,
+            four: 1,
+            session: s,
+        };
+    }
+    let one = read_one(s, &out[0..12]);
+    let two = read_one(one.session, &out[12..22]);
+    let three = read_one(two.session, &out[22..34]);
+    let four = read_one(three.session, &out[34..47]);
+    let after = four.session;
+    Fourfold {
+        one: one.number,
+        two: two.number,
+        three: three.number,
+        four: four.number,
+        session: after,
+    }
+}
+
+// The same with its line; the record after the last.
+pub fn headers_back_call(s: Session, out: &[u8]) -> Session
+    ensures { λ _. ⌜ Unit ⌝ }
+{
+    let f = headers_back(s, out);
+    crate::lines::say_fourfold(f.one, f.two, f.three, f.four, f.session);
+    f.session
+}
+
+fn fill_two(a: &mut [i32], b: &mut [i32]) {
+    app_recording::lent::fill_list(a, 7);
+    app_recording::lent::fill_list(b, 7);
+}
+
+// One frame call.
+pub fn frame_call(
+    s: Session,
+    message: &[u8],
+    picture: &mut [u16],
+    y: &mut [i32],
+    cb: &mut [i32],
+    cr: &mut [i32],
+    scratch: &mut [i32],
+)
+    ensures { λ _. ⌜ Unit ⌝ }
+{
+    fill_two(y, cb);
+    fill_two(cr, scratch);
+    let r = panel::read_frame(s, message, picture, y, cb, cr, scratch);
+    crate::lines::say_frame(
+        panel::frame_number(r),
+        panel::frame_tiles(r),
+        work_letter(pair_letter(y, cb), pair_letter(cr, scratch)),
+        s,
+        app_recording::lent::hash_words(picture),
+    );
+}
+
+// What the frame writer is asked for, beside memory.
+pub struct Asked {
+    pub width: usize,
+    pub height: usize,
+    pub mode: u8,
+    pub index: u32,
+    pub q: Quant,
+}
+
+// One call of the frame writer; the bytes that it wrote.
+pub fn frame_writer_call(
+    a: Asked,
+    pixels: &[u8],
+    list: &mut [i32],
+    scratch: &mut [i32],
+    out: &mut [u8],
+) -> usize
+    ensures { λ _. ⌜ Unit ⌝ }
+{
+    fill_two(list, scratch);
+    app_recording::lent::fill_bytes(out, 0xA5);
+    let q = a.q;
+    let w = panel::write_frame(
+        a.width,
+        a.height,
+        a.mode,
+        q,
+        a.index,
+        pixels,
+        list,
+        scratch,
+        out,
+    );
+    let n = code_write::call::writing_length(w);
+    crate::lines::say_written(
+        code_write::call::writing_number(w),
+        n,
+        pair_letter(list, scratch),
+        app_recording::lent::hash_bytes(out),
+    );
+    n
+}

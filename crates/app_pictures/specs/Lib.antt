@@ -1,0 +1,3 @@
+pub mod Bmp
+pub mod Ppm
+pub mod laws

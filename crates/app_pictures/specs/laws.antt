@@ -1,0 +1,2 @@
+pub mod Bmp
+pub mod Ppm

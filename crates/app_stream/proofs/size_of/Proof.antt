@@ -1,0 +1,21 @@
+use Rattle.whole.specs.laws.Row.{rows}
+use Rattle.app_stream.specs.Split.{sizeOf}
+use Rattle.app_stream.proofs.size_of.Statement.{statement}
+use Rattle.app_stream.proofs.size_of.Tie as tie
+use Rattle.app_stream.proofs.size_of.Reads as reads
+use Rattle.app_stream.proofs.size_of.Lts as lts
+
+returns : tie.Need-returns
+unfolding sizeOf
+returns c = search rows
+
+returns-2 : tie.Need-returns-2
+unfolding sizeOf
+returns-2 c = search rows
+
+returns-3 : tie.Need-returns-3
+unfolding sizeOf
+returns-3 c = search rows
+
+pub size-of-spec : {M : Type 1} → statement M
+size-of-spec = tie.close (tie.spec returns returns-2 returns-3)

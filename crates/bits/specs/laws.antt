@@ -1,0 +1,6 @@
+pub mod Bit
+pub mod Bytes
+pub mod Gr
+pub mod Here
+pub mod Lead
+pub mod Pen

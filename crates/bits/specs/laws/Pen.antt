@@ -1,0 +1,172 @@
+-- Laws of a pen.
+use Prim.Native.Nat.{ℕ, zero, suc, _+_, _*_, _-_, _/_, _%_, _^_, _≤_, _<_}
+use mathlib.Core.Path.{_≡_, refl, sym, ap, ap₂, _∙_}
+use mathlib.Core.Bool.{Bool, false}
+use mathlib.Core.List.{List, [], _∷_, _++_, append-assoc, append-nil}
+use native.Mathlib.Omega.{arith}
+use native.Mathlib.Numerals.{add-one}
+use native.Mathlib.Nat.{mul-assoc, pow-suc, pow-succ', div-div-eq-div-mul, mod-eq-of-lt}
+use lib.Dec.{eqb}
+use lib.Pow.{shl-lt}
+use Rattle.bits.specs.laws.Bit.{grow, length-numBits}
+use lib.ListN.{replicate, replicate-append-replicate, length, take, drop, set, length-append, length-set}
+use lib.Seq.{drop-drop, take-suc-set, drop-set-lt}
+use Rattle.bits.specs.Bits.{odd, bitsOf, numBits}
+use Rattle.bits.specs.Pen.{penBits, Ready, Put, Closed}
+use Rattle.bits.specs.declared.Pen.{Pen}
+
+-- a bit more at the low end
+pub numBits-snoc : (k n b : ℕ) → b < 2 → numBits (suc k) (n * 2 + b) ≡ numBits k n ++ (odd b ∷ [])
+unfolding numBits
+numBits-snoc zero n b h = let e : (n * 2 + b) / 1 % 2 ≡ b % 2 = omega arith in ap (λ (r : ℕ). eqb r 1 ∷ []) e
+numBits-snoc (suc k) n b h =
+    let half : (n * 2 + b) / 2 ≡ n = omega arith in
+    let e : (n * 2 + b) / 2 ^ suc k ≡ n / 2 ^ k = rw (pow-succ' 2 k, ← div-div-eq-div-mul (n * 2 + b) 2 (2 ^ k), half) in
+    ap₂ (λ (x : ℕ) (l : List Bool). odd x ∷ l) e (numBits-snoc k n b h)
+
+pub bitsOf-append : (a b : List ℕ) → bitsOf (a ++ b) ≡ bitsOf a ++ bitsOf b
+unfolding bitsOf
+bitsOf-append [] b = refl
+bitsOf-append (x ∷ a) b = ap (λ (l : List Bool). numBits 8 x ++ l) (bitsOf-append a b) ∙ sym (append-assoc (numBits 8 x) (bitsOf a) (bitsOf b))
+
+no-bits : numBits 0 0 ≡ []
+unfolding numBits
+no-bits = refl
+
+-- one bit more, which waits
+pub put-waits : (out : List ℕ) (at acc n b : ℕ) → b < 2 → n + 1 < 8 → acc < 2 ^ n → Put out (record { at = at; acc = acc; n = n }) out (record { at = at; acc = acc * 2 + b; n = n + 1 }) (odd b ∷ [])
+unfolding penBits
+put-waits out at acc n b hb hn ha = record {
+  few = hn;
+  small = rw add-one (grow n acc b ha hb);
+  place = omega arith;
+  long = refl;
+  rest = refl;
+  bits = rw (add-one n, numBits-snoc n acc b hb) (sym (append-assoc (bitsOf (take at out)) (numBits n acc) (odd b ∷ [])));
+}
+
+-- one bit more, which fills the byte
+pub put-fills : (out : List ℕ) (at acc n b : ℕ) → b < 2 → n ≡ 7 → acc < 2 ^ n → at < length out → Put out (record { at = at; acc = acc; n = n }) (set out at ((acc * 2 + b) % 256)) (record { at = at + 1; acc = 0; n = 0 }) (odd b ∷ [])
+unfolding penBits bitsOf
+put-fills out at acc n b hb hn ha hl =
+    let x = (acc * 2 + b) % 256 in
+    let a7 : acc < 2 ^ 7 = rw hn at ha in
+    let small : x ≡ acc * 2 + b = omega arith in
+    let t : take (at + 1) (set out at x) ≡ take at out ++ (x ∷ []) = rw (add-one at) (take-suc-set out at x hl) in
+    let w : numBits 8 x ≡ numBits n acc ++ (odd b ∷ []) = rw (small, hn) (numBits-snoc 7 acc b hb) in
+    let z : bitsOf (take at out ++ (x ∷ [])) ≡ (bitsOf (take at out) ++ numBits n acc) ++ (odd b ∷ []) =
+    bitsOf-append (take at out) (x ∷ []) ∙ ap (λ (l : List Bool). bitsOf (take at out) ++ l) (append-nil (numBits 8 x) ∙ w) ∙ sym (append-assoc (bitsOf (take at out)) (numBits n acc) (odd b ∷ [])) in
+    record {
+      few = omega arith;
+      small = omega arith;
+      place = omega arith;
+      long = length-set out at x;
+      rest = drop-set-lt (at + 1) out at x (omega arith);
+      bits = ap (λ (l : List ℕ). bitsOf l ++ numBits 0 0) t ∙ ap (λ (l : List Bool). bitsOf (take at out ++ (x ∷ [])) ++ l) no-bits ∙ append-nil _ ∙ z;
+    }
+
+later : (i j : ℕ) (a b : List ℕ) → i ≤ j → drop i a ≡ drop i b → drop j a ≡ drop j b
+later i j a b h e =
+    let d : i + (j - i) ≡ j = omega arith in
+    rw (← d, ← drop-drop (j - i) i a, ← drop-drop (j - i) i b, e)
+
+-- bits after bits
+pub put-more : (a b c : List ℕ) (p q r : Pen) (xs ys : List Bool) → Put a p b q xs → Put b q c r ys → Put a p c r (xs ++ ys)
+put-more a b c p q r xs ys f g = record {
+  few = g .few;
+  small = g .small;
+  place = omega (arith, f .place, g .place, length-append xs ys);
+  long = g .long ∙ f .long;
+  rest = g .rest ∙ later (q .at) (r .at) b a (omega (arith, f .place, g .place, f .few, g .few)) (f .rest);
+  bits = g .bits ∙ ap (λ (l : List Bool). l ++ ys) (f .bits) ∙ append-assoc (penBits a p) xs ys;
+}
+
+pub put-none : (a : List ℕ) (p : Pen) (size : ℕ) (k : ℕ) → Ready size p k → Put a p a p []
+put-none a p size k h = record { few = h .few; small = h .small; place = omega arith; long = refl; rest = refl; bits = sym (append-nil (penBits a p)) }
+
+-- ---- a number's bits, one at a time
+
+-- D is written of the k bits of v, and `left` are still to come
+pub record Half (before : List ℕ) (p : Pen) (k v : ℕ) (after : List ℕ) (q : Pen) (left : ℕ) : Type 0 where
+  pub D : List Bool
+  pub put : Put before p after q D
+  pub all : D ++ numBits left v ≡ numBits k v
+
+bit-next : (left v : ℕ) → 0 < left → numBits left v ≡ odd (v / 2 ^ (left - 1) % 2) ∷ numBits (left - 1) v
+unfolding numBits
+bit-next zero v h = absurd (omega arith)
+bit-next (suc k) v h =
+    let s : suc k - 1 ≡ k = omega arith in
+    rw s (let e : v / 2 ^ k % 2 ≡ v / 2 ^ k % 2 % 2 = omega arith in ap (λ (r : ℕ). eqb r 1 ∷ numBits k v) e)
+
+module _ (before : List ℕ) (p : Pen) (k v : ℕ) where
+  pub half-none : Ready (length before) p k → Half before p k v before p k
+  half-none h = record { D = []; put = put-none before p (length before) k h; all = refl }
+
+  pub half-ready : (after : List ℕ) (q : Pen) (left : ℕ) → Ready (length before) p k → Half before p k v after q left → 0 < left → Ready (length after) q 1
+  half-ready after q left h w l = record {
+    few = w .put .few;
+    small = w .put .small;
+    room = omega (arith, h .room, w .put .place, w .put .long, ap length (w .all), length-append (w .D) (numBits left v), length-numBits left v, length-numBits k v);
+  }
+
+  pub half-more : (after last : List ℕ) (q r : Pen) (left : ℕ) → Half before p k v after q left → 0 < left → Put after q last r (odd (v / 2 ^ (left - 1) % 2) ∷ []) → Half before p k v last r (left - 1)
+  half-more after last q r left w l g = record {
+    D = w .D ++ (odd (v / 2 ^ (left - 1) % 2) ∷ []);
+    put = put-more before after last p q r (w .D) (odd (v / 2 ^ (left - 1) % 2) ∷ []) (w .put) g;
+    all = append-assoc (w .D) (odd (v / 2 ^ (left - 1) % 2) ∷ []) (numBits (left - 1) v) ∙ ap (λ (l : List Bool). w .D ++ l) (sym (bit-next left v l)) ∙ w .all;
+  }
+
+  pub half-all : (after : List ℕ) (q : Pen) (left : ℕ) → left ≡ 0 → Half before p k v after q left → Put before p after q (numBits k v)
+  unfolding numBits
+  half-all after q left z w = flat (w .D) (w .put) (w .all)
+    where
+      flat : (D : List Bool) → Put before p after q D → D ++ numBits left v ≡ numBits k v → Put before p after q (numBits k v)
+      flat D f a = let e : D ≡ numBits k v = sym (append-nil D) ∙ (rw z at a) in rw (← e) f
+
+-- room for what is still to come
+pub ready-after : (before after : List ℕ) (p q : Pen) (k m : ℕ) (bs : List Bool) → Ready (length before) p k → Put before p after q bs → length bs + m ≤ k → Ready (length after) q m
+ready-after before after p q k m bs h w l = record { few = w .few; small = w .small; room = omega (arith, h .room, w .place, w .long) }
+
+-- ---- the last byte
+
+numBits-shift : (j k a : ℕ) → numBits (k + j) (a * 2 ^ j) ≡ numBits k a ++ replicate j false
+numBits-shift zero k a =
+    let e : k + 0 ≡ k = omega arith in
+    let f : a * 1 ≡ a = omega arith in
+    rw (e, f) (sym (append-nil (numBits k a)))
+numBits-shift (suc j) k a =
+    let e : k + suc j ≡ suc (k + j) = omega arith in
+    let f : a * 2 ^ suc j ≡ a * 2 ^ j * 2 + 0 = rw (pow-suc 2 j, ← mul-assoc a (2 ^ j) 2) (omega arith) in
+    let o : j + 1 ≡ suc j = omega arith in
+    let g : replicate j false ++ (false ∷ []) ≡ replicate (suc j) false = replicate-append-replicate j 1 false ∙ ap (λ (m : ℕ). replicate m false) o in
+    ap₂ (λ (x y : ℕ). numBits x y) e f ∙ numBits-snoc (k + j) (a * 2 ^ j) 0 (omega arith) ∙ ap (λ (l : List Bool). l ++ (false ∷ [])) (numBits-shift j k a) ∙ append-assoc (numBits k a) (replicate j false) (false ∷ []) ∙ ap (λ (l : List Bool). numBits k a ++ l) g
+
+none : (a : ℕ) → numBits 0 a ≡ []
+unfolding numBits
+none a = refl
+
+pub close-even : (out : List ℕ) (p : Pen) → p .n ≡ 0 → Closed out p out (p .at)
+unfolding penBits
+close-even out p z = record { written = record { pad = 0; few = omega arith; bits = sym (append-nil _ ∙ ap (λ (l : List Bool). bitsOf (take (p .at) out) ++ l) (ap (λ (k : ℕ). numBits k (p .acc)) z ∙ none (p .acc)) ∙ append-nil (bitsOf (take (p .at) out))) }; long = refl; rest = refl }
+
+pub close-byte : (out : List ℕ) (p : Pen) (x : ℕ) → x ≡ p .acc * 2 ^ (8 - p .n) → p .n < 8 → (p .n ≡ 0 → ⊥) → p .at < length out → Closed out p (set out (p .at) x) (p .at + 1)
+unfolding penBits bitsOf
+close-byte out p x ex h z l =
+    let t : take (p .at + 1) (set out (p .at) x) ≡ take (p .at) out ++ (x ∷ []) = rw (add-one (p .at)) (take-suc-set out (p .at) x l) in
+    let e : p .n + (8 - p .n) ≡ 8 = omega arith in
+    let w : numBits 8 x ≡ numBits (p .n) (p .acc) ++ replicate (8 - p .n) false = rw ex (ap (λ (m : ℕ). numBits m (p .acc * 2 ^ (8 - p .n))) (sym e) ∙ numBits-shift (8 - p .n) (p .n) (p .acc)) in
+    record {
+      written = record { pad = 8 - p .n; few = omega arith; bits = ap bitsOf t ∙ bitsOf-append (take (p .at) out) (x ∷ []) ∙ ap (λ (y : List Bool). bitsOf (take (p .at) out) ++ y) (append-nil (numBits 8 x) ∙ w) ∙ sym (append-assoc (bitsOf (take (p .at) out)) (numBits (p .n) (p .acc)) (replicate (8 - p .n) false)) };
+      long = length-set out (p .at) x;
+      rest = drop-set-lt (p .at + 1) out (p .at) x (omega arith);
+    }
+
+-- the shift loses nothing
+pub close-fits : (acc n : ℕ) → n < 8 → acc < 2 ^ n → (n ≡ 0 → ⊥) → acc * 2 ^ (8 - n) % 2 ^ 64 % 256 ≡ acc * 2 ^ (8 - n)
+close-fits acc n h a z =
+    let e : n + (8 - n) ≡ 8 = omega arith in
+    let l : acc * 2 ^ (8 - n) < 2 ^ (n + (8 - n)) = shl-lt n (8 - n) a in
+    let m : acc * 2 ^ (8 - n) < 256 = rw e at l in
+    let s : acc * 2 ^ (8 - n) % 2 ^ 64 ≡ acc * 2 ^ (8 - n) = mod-eq-of-lt (omega arith) in
+    rw s (mod-eq-of-lt m)

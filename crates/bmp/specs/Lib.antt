@@ -1,2 +1,0 @@
-pub mod Bmp
-pub mod BmpLaws

@@ -1,0 +1,11 @@
+pub mod Cases
+pub mod Code
+pub mod Filling
+pub mod Fold
+pub mod List
+pub mod OneCode
+pub mod Place
+pub mod Read
+pub mod Steps
+pub mod Taken
+pub mod There

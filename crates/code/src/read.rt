@@ -1,0 +1,187 @@
+// The component reader of document 01: "The component code", the numbers 5, 2, 6, 1, 9, 10, 11 and their order, and "The component reader leaves its
+// output list untouched on 5, 2 and 6 and fills it with zeros on 1, 9, 10, 11." One pass: the list is cleared, and runs of zeros store nothing.
+ghost use mathlib.Core.Path.{_≡_};
+ghost use mathlib.Core.Bool.{true, false};
+ghost use Prim.Native.Nat.{_+_, _*_, _<_, _≤_};
+ghost use lib.ListN.{length, drop, replicate};
+ghost use lib.IntN.{pos};
+ghost use Rattle.bits.specs.Bits.{bitsOf};
+ghost use Rattle.code.specs.ReadList.{readList};
+ghost use Rattle.code.specs.Fill.{Fills, Fine, placedOf, storedOf};
+ghost use Rattle.code.specs.Read.{clean, isMode, shellFault, readingNumber, readingBits, CodeRead, ComponentRead};
+use crate::element::Element;
+use crate::element::Refusal;
+use crate::element::State;
+use bits::Num;
+
+// What reading a component found: its list, and the code's length in bits; the code's length, but a tail behind it; or 01's number.
+pub enum Reading {
+    Done(usize),
+    Tail(usize),
+    Refused(u8),
+}
+
+// 01's number.
+pub fn reading_number(r: Reading) -> u8
+    ensures { λ n. ⌜ n ≡ readingNumber r ⌝ }
+{
+    match r {
+        Reading::Done(bits) => 0,
+        Reading::Tail(bits) => 11,
+        Reading::Refused(number) => number,
+    }
+}
+
+// "The component reader reports the code's length in bits on 0 and 11, else 0."
+pub fn reading_bits(r: Reading) -> usize
+    ensures { λ n. ⌜ n ≡ readingBits r ⌝ }
+{
+    match r {
+        Reading::Done(bits) => bits,
+        Reading::Tail(bits) => bits,
+        Reading::Refused(number) => 0,
+    }
+}
+
+// What storing an element found: the next place and the state there, or a refusal.
+enum Placed {
+    At(usize, State),
+    No(Refusal),
+}
+
+// Stores the values of an element at place i of a list that holds zeros from there on.
+fn place(list: &mut [i32], i: usize, e: Element) -> Placed
+    requires { ⌜ (length (now list) ≤ 4096) × (i < length (now list)) × Fine (length (now list)) i e ⌝ }
+    ensures { λ r. ⌜ (r ≡ placedOf (length (now (list .entry))) i e) × (now (list .exit) ≡ storedOf (now (list .entry)) i e) ⌝ }
+{
+    match e {
+        Element::Refused(r) => Placed::No(r),
+        Element::Zeros(z, t) => {
+            if list.len() - i < z {
+                return Placed::At(list.len(), t);
+            }
+            Placed::At(i + z, t)
+        }
+        Element::One(z, v, t) => {
+            list[i + z] = crate::element::unfolded(v);
+            Placed::At(i + z + 1, t)
+        }
+        Element::Two(a, b, t) => {
+            list[i] = crate::element::unfolded(a);
+            if list.len() - i < 2 {
+                return Placed::At(list.len(), t);
+            }
+            list[i + 1] = crate::element::unfolded(b);
+            Placed::At(i + 2, t)
+        }
+    }
+}
+
+// What filling a list found: the code's length in bits, or a refusal.
+enum Filled {
+    Whole(usize),
+    Bad(Refusal),
+}
+
+// Reads the values of a code into a list that holds zeros.
+fn fill(s: &[u8], two: bool, list: &mut [i32]) -> Filled
+    requires { ⌜ (length (now s) ≤ 65535) × (length (now list) ≤ 4096) × (now list ≡ replicate (length (now list)) (pos 0)) ⌝ }
+    ensures { λ r. ⌜ Fills (readList two (length (now (list .entry))) (bitsOf (now (s .entry)))) (now (list .exit)) r ⌝ }
+{
+    let n = list.len();
+    let mut c = State {
+        at: 0,
+        kp: 8,
+        krp: 8,
+    };
+    let mut i: usize = 0;
+    while i < n {
+        let e = crate::element::read_element(s, two, c, n - i);
+        match place(list, i, e) {
+            Placed::No(r) => {
+                return Filled::Bad(r);
+            }
+            Placed::At(j, t) => {
+                i = j;
+                c = t;
+            }
+        }
+    }
+    let at = c.at;
+    Filled::Whole(at)
+}
+
+// Whether fewer than 8 bits stand from a place on, and none of them is 1.
+fn clean_tail(s: &[u8], at: usize) -> bool
+    requires { ⌜ (length (now s) ≤ 65535) × (at ≤ length (now s) * 8) ⌝ }
+    ensures { λ r. ⌜ r ≡ clean (drop at (bitsOf (now (s .entry)))) ⌝ }
+{
+    let left = s.len() * 8 - at;
+    if 8 <= left {
+        return false;
+    }
+    match bits::number(s, at, left) {
+        Num::Cut => false,
+        Num::Got(v, next) => v == 0,
+    }
+}
+
+// Whether a mode is one of the two: 1 is RLGR1, 4 is RLGR3.
+fn is_mode(mode: u8) -> bool
+    ensures { λ r. ⌜ r ≡ isMode mode ⌝ }
+{
+    if mode == 1 {
+        return true;
+    }
+    mode == 4
+}
+
+// What is judged before the code: mode (5), list (2), size (6).
+fn shell_judge(mode: u8, n: usize, len: usize) -> u8
+    ensures { λ r. ⌜ r ≡ shellFault mode n len ⌝ }
+{
+    if !is_mode(mode) {
+        return 5;
+    }
+    if n != 4096 {
+        return 2;
+    }
+    if 65535 < len {
+        return 6;
+    }
+    0
+}
+
+// A code and its tail, into a list of 4,096 zeros.
+fn read_code(two: bool, s: &[u8], list: &mut [i32]) -> Reading
+    requires { ⌜ (length (now s) ≤ 65535) × (length (now list) ≡ 4096) × (now list ≡ replicate 4096 (pos 0)) ⌝ }
+    ensures { λ r. ⌜ CodeRead two (now (s .entry)) (now (list .exit)) r ⌝ }
+{
+    match fill(s, two, list) {
+        Filled::Bad(r) => Reading::Refused(crate::element::refusal_number(r)),
+        Filled::Whole(at) => {
+            if clean_tail(s, at) {
+                return Reading::Done(at);
+            }
+            Reading::Tail(at)
+        }
+    }
+}
+
+// The component reader, for any input.
+pub fn read_component(mode: u8, s: &[u8], list: &mut [i32]) -> Reading
+    ensures { λ r. ⌜ ComponentRead mode (now (s .entry)) (now (list .entry)) (now (list .exit)) r ⌝ }
+{
+    let fault = shell_judge(mode, list.len(), s.len());
+    if fault != 0 {
+        return Reading::Refused(fault);
+    }
+    whole::clear(list);
+    let r = read_code(mode == 4, s, list);
+    let number = reading_number(r);
+    if number != 0 {
+        whole::clear(list);
+        return r;
+    }
+    r
+}

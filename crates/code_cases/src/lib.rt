@@ -1,1 +1,0 @@
-// Document 01's "Cases on both sides" marked (p), those of the component code: definitions and proofs by computation, no code.

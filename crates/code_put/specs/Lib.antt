@@ -1,4 +1,0 @@
-pub mod Signed
-pub mod ItemLaws
-pub mod Going
-pub mod Writing

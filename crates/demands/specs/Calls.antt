@@ -1,0 +1,93 @@
+-- The six calls as a customer sees them: what was given, what was answered, what lent memory holds afterwards (marked ′), and that the
+-- call's promise, which is its `ensures`, holds of them. Nothing else is known of a call.
+use Prim.Native.Nat.{ℕ}
+use mathlib.Core.Path.{_≡_}
+use mathlib.Core.List.{List}
+use lib.IntN.{ℤ}
+use lib.ListN.{take}
+use Rattle.session.specs.declared.Session.{Session}
+use Rattle.code.specs.declared.read.Reading.{Reading}
+use Rattle.code.specs.Read.{ComponentRead}
+use Rattle.code_write.specs.declared.call.Writing.{Writing}
+use Rattle.code_write.specs.Write.{writingLength, ComponentWritten}
+use Rattle.frame_write.specs.FrameWrite.{FrameWritten}
+use Rattle.panel.specs.declared.HeaderReading.{HeaderReading}
+use Rattle.panel.specs.declared.FrameReading.{FrameReading}
+use Rattle.panel.specs.Panel.{headerRecord, headerReading, HeadersWritten, FrameRead}
+
+-- read_header
+pub record ReadHeader : Type 0 where
+  pub session : Session
+  pub message : List ℕ
+  pub answer : HeaderReading
+  pub promise : answer ≡ headerReading session message
+
+-- the record after it
+abbrev pub recordAfter : ReadHeader → Session
+recordAfter c = headerRecord (c .answer) (c .session)
+
+-- read_frame
+pub record ReadFrame : Type 0 where
+  pub session : Session
+  pub message : List ℕ
+  pub picture : List ℕ
+  pub y : List ℤ
+  pub cb : List ℤ
+  pub cr : List ℤ
+  pub scratch : List ℤ
+  pub picture′ : List ℕ
+  pub y′ : List ℤ
+  pub cb′ : List ℤ
+  pub cr′ : List ℤ
+  pub scratch′ : List ℤ
+  pub answer : FrameReading
+  pub promise : FrameRead session message picture y cb cr scratch picture′ y′ cb′ cr′ scratch′ answer
+
+-- read_component
+pub record ReadComponent : Type 0 where
+  pub mode : ℕ
+  pub bytes : List ℕ
+  pub list : List ℤ
+  pub list′ : List ℤ
+  pub answer : Reading
+  pub promise : ComponentRead mode bytes list list′ answer
+
+-- write_component
+pub record WriteComponent : Type 0 where
+  pub mode : ℕ
+  pub list : List ℤ
+  pub out : List ℕ
+  pub out′ : List ℕ
+  pub answer : Writing
+  pub promise : ComponentWritten mode list out out′ answer
+
+-- write_headers
+pub record WriteHeaders : Type 0 where
+  pub width : ℕ
+  pub height : ℕ
+  pub mode : ℕ
+  pub out : List ℕ
+  pub out′ : List ℕ
+  pub answer : Writing
+  pub promise : HeadersWritten width height mode out out′ answer
+
+-- write_frame
+pub record WriteFrame : Type 0 where
+  pub width : ℕ
+  pub height : ℕ
+  pub mode : ℕ
+  pub quant : List ℕ
+  pub index : ℕ
+  pub pixels : List ℕ
+  pub list : List ℤ
+  pub scratch : List ℤ
+  pub out : List ℕ
+  pub list′ : List ℤ
+  pub scratch′ : List ℤ
+  pub out′ : List ℕ
+  pub answer : Writing
+  pub promise : FrameWritten width height mode quant index pixels list list′ scratch scratch′ out out′ answer
+
+-- what a writer has written: its output up to the length that it says
+abbrev pub sentBy : Writing → List ℕ → List ℕ
+sentBy answer out′ = take (writingLength answer) out′

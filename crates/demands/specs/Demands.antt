@@ -1,0 +1,177 @@
+-- THE DEMANDS, on one page: over the calls (specs/Calls), and so over the very definitions that their promises cite. Each field is a
+-- sentence of the demands or of document 01; proofs/Demands proves `demands : Demands`. That no bytes can trap a call needs no sentence
+-- here: every function is proved, and none of the six has a `requires`.
+use Prim.Native.Nat.{ℕ, _+_, _*_, _/_, _%_, _≤_, _<_}
+use mathlib.Core.Path.{_≡_}
+use mathlib.Core.Bool.{Bool}
+use mathlib.Core.List.{List, _++_}
+use mathlib.Core.Logic.{_⊎_, _≢_}
+use lib.IntN.{ℤ, pos}
+use lib.ListN.{length, getD, take, drop, replicate}
+use Rattle.wire.specs.Le.{written}
+use Rattle.whole.specs.Row.{_⇒_∣_, _⨟_}
+use Rattle.bits.specs.Bits.{bitsOf}
+use Rattle.frame_layout.specs.Reader.{frameFault, frameTiles, setPlace, tileCount, rectCount, quantAt}
+use Rattle.frame_blocks.specs.Blocks.{rectsOf}
+use Rattle.frame_blocks.specs.Cases.{PropsCases}
+use Rattle.frame_draw.specs.Draw.{inRegion}
+use Rattle.frame_draw.specs.Shown.{lastTile, wordIn}
+use Rattle.frame_draw.specs.Show.{tileWord}
+use Rattle.frame_blocks.specs.Judged.{judged}
+use Rattle.session.specs.Header.{headerFault}
+use Rattle.session.specs.Cases as HeaderOnes
+use Rattle.frame.specs.Frame.{callFault, framed, Cleared}
+use Rattle.headers.specs.Headers.{headersOf, headersFault}
+use Rattle.code.specs.declared.read.Reading.the-variants.{Done as Read}
+use Rattle.code.specs.Read.{readingNumber, readingBits}
+use Rattle.code.specs.OneCode.{code, Listed, Call, Exactly}
+use Rattle.code.specs.Cases as CodeOnes
+use Rattle.code_write.specs.declared.call.Writing.{Writing}
+use Rattle.code_write.specs.Write.{writingNumber, writingLength, bytesOf, writeFault}
+use Rattle.code_write.specs.Cases.{WriteCases}
+use Rattle.tile_back.specs.Cases as TileOnes
+use Rattle.frame_pieces.specs.Parts.{tilesNo}
+use Rattle.frame_pieces.specs.Cases as SendOnes
+use Rattle.frame_write.specs.Encode.{frameP}
+use Rattle.frame_write.specs.FrameWrite.{argFault, sendFault}
+use Rattle.frame_readback.specs.Own.{wordBack, tileNo}
+use Rattle.panel.specs.Panel.{headerNumber, frameReadingNumber, frameReadingTiles}
+use Rattle.demands.specs.Calls.{ReadHeader, recordAfter, ReadFrame, ReadComponent, WriteComponent, WriteHeaders, WriteFrame, sentBy}
+
+-- ---- 1. "A frame is drawn whole, or refused by the first fault in document 01's order, with its number. After a refusal the picture and
+-- the session record are exactly what they were, and work memory holds what 01 says."
+
+-- 01's order: "12, then 2, then the blocks in wire order"
+abbrev pub firstFault : ReadFrame → ℕ
+firstFault c =
+    callFault (c .session) (length (c .picture)) (length (c .y)) (length (c .cb)) (length (c .cr)) (length (c .scratch))
+    ⨟ frameFault judged (c .session .width) (c .session .height) (c .session .mode) (c .message)
+
+-- the four work lists are those that came in
+pub record Untouched (c : ReadFrame) : Type 0 where
+  pub y-kept : c .y′ ≡ c .y
+  pub cb-kept : c .cb′ ≡ c .cb
+  pub cr-kept : c .cr′ ≡ c .cr
+  pub scratch-kept : c .scratch′ ≡ c .scratch
+
+pub record Demand1 : Type 0 where
+  -- the number is the first fault's; 0 where there is none
+  pub header-number : (c : ReadHeader) → headerNumber (c .answer) ≡ headerFault (c .session) (c .message)
+  pub frame-number : (c : ReadFrame) → frameReadingNumber (c .answer) ≡ firstFault c
+  -- drawn whole
+  pub frame-whole : (c : ReadFrame) → frameReadingNumber (c .answer) ≡ 0 → c .picture′ ≡ framed (c .session .mode) (c .session .width) (c .session .height) (c .message) (c .picture)
+  -- "A refused header or frame changes neither record nor picture." (Over `&mut Session` the frame call leaves the record equal on every answer: specs/Edge.)
+  pub header-refused : (c : ReadHeader) → headerNumber (c .answer) ≢ 0 → recordAfter c ≡ c .session
+  pub frame-refused : (c : ReadFrame) → frameReadingNumber (c .answer) ≢ 0 → c .picture′ ≡ c .picture
+  -- "Work lists of a frame call are untouched on 12 and 2; after every other frame answer they hold only zeros."
+  pub lists-untouched : (c : ReadFrame) → (frameReadingNumber (c .answer) ≡ 12) ⊎ (frameReadingNumber (c .answer) ≡ 2) → Untouched c
+  pub lists-zeros : (c : ReadFrame) → frameReadingNumber (c .answer) ≢ 12 → frameReadingNumber (c .answer) ≢ 2 → Cleared (c .y′) (c .cb′) (c .cr′) (c .scratch′)
+  -- "The component reader leaves its output list untouched on 5, 2 and 6 and fills it with zeros on 1, 9, 10, 11."
+  pub list-untouched : (c : ReadComponent) → (readingNumber (c .answer) ≡ 5) ⊎ ((readingNumber (c .answer) ≡ 2) ⊎ (readingNumber (c .answer) ≡ 6)) → c .list′ ≡ c .list
+  pub list-zeros : (c : ReadComponent) → (readingNumber (c .answer) ≡ 1) ⊎ ((readingNumber (c .answer) ≡ 9) ⊎ ((readingNumber (c .answer) ≡ 10) ⊎ (readingNumber (c .answer) ≡ 11))) → c .list′ ≡ replicate 4096 (pos 0)
+
+-- ---- writers: "Writers leave their output untouched on every refusal; when done they say the length in bytes, refused 0, and bytes past it are
+-- untouched."
+pub record Sent (bytes out out′ : List ℕ) (answer : Writing) : Type 0 where
+  pub done-length : writingNumber answer ≡ 0 → writingLength answer ≡ length bytes
+  pub done-output : writingNumber answer ≡ 0 → out′ ≡ written bytes out
+  pub refused-length : writingNumber answer ≢ 0 → writingLength answer ≡ 0
+  pub refused-output : writingNumber answer ≢ 0 → out′ ≡ out
+
+-- ---- 2. "An accepted frame changes the picture to what 01's rules say, pixel by pixel, and no other word."
+
+-- "A picture word is changed exactly if it lies in the channel, in some rectangle of the region, and in some listed tile; the last such
+-- tile in message order decides."
+abbrev pub shownWord : ReadFrame → ℕ → ℕ → ℕ
+shownWord c px py =
+    let old : ℕ = getD (c .picture) (py * c .session .width + px) 0 in
+    inRegion (rectsOf (c .message) 14) (rectCount (c .message) 14) px py
+    ⇒ wordIn (tileWord (c .session .mode) (quantAt (c .message) (setPlace (c .message)))) px py (lastTile (frameTiles (c .message)) px py) old
+    ∣ old
+
+-- "A frame from our writer, read after our writer's headers for the same size and mode": the calls in their order
+pub record OurCalls (h : WriteHeaders) (one two three four : ReadHeader) (s : WriteFrame) (f : ReadFrame) : Type 0 where
+  pub headers-done : writingNumber (h .answer) ≡ 0
+  pub sync : one .message ≡ take 12 (sentBy (h .answer) (h .out′))
+  pub versions : two .message ≡ take 10 (drop 12 (sentBy (h .answer) (h .out′)))
+  pub channels : three .message ≡ take 12 (drop 22 (sentBy (h .answer) (h .out′)))
+  pub context : four .message ≡ take 13 (drop 34 (sentBy (h .answer) (h .out′)))
+  pub then-two : two .session ≡ recordAfter one
+  pub then-three : three .session ≡ recordAfter two
+  pub then-four : four .session ≡ recordAfter three
+  pub same-width : s .width ≡ h .width
+  pub same-height : s .height ≡ h .height
+  pub same-mode : s .mode ≡ h .mode
+  pub ten : length (s .quant) ≡ 10
+  pub frame-done : writingNumber (s .answer) ≡ 0
+  pub frame : f .message ≡ sentBy (s .answer) (s .out′)
+  pub then-frame : f .session ≡ recordAfter four
+  pub y-long : length (f .y) ≡ 4096
+  pub cb-long : length (f .cb) ≡ 4096
+  pub cr-long : length (f .cr) ≡ 4096
+  pub scratch-long : length (f .scratch) ≡ 4096
+  pub room : s .height * s .width ≤ length (f .picture)
+
+-- ".. is accepted and shows what 01's decoding makes of the given picture's rounded coefficients."
+pub record OurFrame (one two three four : ReadHeader) (s : WriteFrame) (f : ReadFrame) : Type 0 where
+  pub sync-taken : headerNumber (one .answer) ≡ 0
+  pub versions-taken : headerNumber (two .answer) ≡ 0
+  pub channels-taken : headerNumber (three .answer) ≡ 0
+  pub context-taken : headerNumber (four .answer) ≡ 0
+  pub accepted : frameReadingNumber (f .answer) ≡ 0
+  pub tiles : frameReadingTiles (f .answer) ≡ tilesNo (s .width) (s .height)
+  pub word : (px py : ℕ) → px < s .width → py < s .height →
+      getD (f .picture′) (py * s .width + px) 0 ≡ wordBack (s .pixels) (s .width) (s .height) (s .quant) (tileNo (s .width) px py) (64 * (py % 64) + px % 64)
+  pub past : (i : ℕ) → s .height * s .width ≤ i → getD (f .picture′) i 0 ≡ getD (f .picture) i 0
+  pub long : length (f .picture′) ≡ length (f .picture)
+
+pub record Demand2 : Type 0 where
+  pub pixel : (c : ReadFrame) → frameReadingNumber (c .answer) ≡ 0 → (px py : ℕ) → px < c .session .width → py < c .session .height → getD (c .picture′) (py * c .session .width + px) 0 ≡ shownWord c px py
+  -- "words past width x height are never changed"
+  pub past : (c : ReadFrame) (i : ℕ) → c .session .height * c .session .width ≤ i → getD (c .picture′) i 0 ≡ getD (c .picture) i 0
+  pub long : (c : ReadFrame) → length (c .picture′) ≡ length (c .picture)
+  -- "A done frame reports numTiles, a refused one 0."
+  pub tiles : (c : ReadFrame) → frameReadingNumber (c .answer) ≡ 0 → frameReadingTiles (c .answer) ≡ tileCount (c .message) (setPlace (c .message))
+  pub no-tiles : (c : ReadFrame) → frameReadingNumber (c .answer) ≢ 0 → frameReadingTiles (c .answer) ≡ 0
+  -- the other way
+  pub our-frames : (h : WriteHeaders) (one two three four : ReadHeader) (s : WriteFrame) (f : ReadFrame) → OurCalls h one two three four s f → OurFrame one two three four s f
+  -- "The writer refuses only on 01's conditions."
+  pub frame-writer : (c : WriteFrame) → writingNumber (c .answer) ≡ argFault (c .width) (c .height) (c .mode) (c .quant) (length (c .pixels)) (length (c .list)) (length (c .scratch)) ⨟ sendFault (c .index) (c .width) (c .height) (c .mode) (c .quant) (c .pixels) (length (c .out))
+  pub header-writer : (c : WriteHeaders) → writingNumber (c .answer) ≡ headersFault (c .width) (c .height) (c .mode) (length (c .out))
+  pub frame-sent : (c : WriteFrame) → Sent (frameP (c .index) (c .width) (c .height) (c .mode) (c .quant) (c .pixels)) (c .out) (c .out′) (c .answer)
+  pub headers-sent : (c : WriteHeaders) → Sent (headersOf (c .width) (c .height) (c .mode)) (c .out) (c .out′) (c .answer)
+  -- "The frame writer's work lists are untouched on 5, 7 and 2 and hold only zeros after every other answer."
+  pub work-untouched : (c : WriteFrame) → (writingNumber (c .answer) ≡ 5) ⊎ ((writingNumber (c .answer) ≡ 7) ⊎ (writingNumber (c .answer) ≡ 2)) → (c .list′ ≡ c .list) × (c .scratch′ ≡ c .scratch)
+  pub work-zeros : (c : WriteFrame) → writingNumber (c .answer) ≢ 5 → writingNumber (c .answer) ≢ 7 → writingNumber (c .answer) ≢ 2 → (c .list′ ≡ replicate 4096 (pos 0)) × (c .scratch′ ≡ replicate 4096 (pos 0))
+
+-- ---- 3. "In each of the two code modes a byte string of at most 65,535 bytes, read into 4,096 places, is accepted as a component exactly if it
+-- is the code of some list of 4,096 whole numbers from -32,767 to 32,767, filled up with zero bits to a byte; that list is handed back. Before
+-- filling up, no list's code is the start of another's, and the reader reports the code's length in bits, whatever bits follow."
+pub record Demand3 : Type 0 where
+  pub accepted-if : (c : ReadComponent) (zs : List ℤ) → Exactly (c .mode) (c .bytes) (c .list) zs → (c .answer ≡ Read (length (code (c .mode) zs))) × (c .list′ ≡ zs)
+  pub accepted-only-if : (c : ReadComponent) → readingNumber (c .answer) ≡ 0 → Exactly (c .mode) (c .bytes) (c .list) (c .list′)
+  pub one-code : (mode : ℕ) (xs ys : List ℤ) (rest : List Bool) → Listed xs → Listed ys → code mode xs ++ rest ≡ code mode ys → xs ≡ ys
+  pub length-told : (c : ReadComponent) (zs : List ℤ) (rest : List Bool) → Call (c .mode) (c .bytes) (c .list) → Listed zs → bitsOf (c .bytes) ≡ code (c .mode) zs ++ rest → readingBits (c .answer) ≡ length (code (c .mode) zs)
+  -- the component writer writes just that code, and refuses only on 01's conditions
+  pub writer-number : (c : WriteComponent) → writingNumber (c .answer) ≡ writeFault (c .mode) (c .list) (length (c .out))
+  pub writer-sent : (c : WriteComponent) → Sent (bytesOf (c .mode) (c .list)) (c .out) (c .out′) (c .answer)
+  pub read-back : (w : WriteComponent) (c : ReadComponent) → writingNumber (w .answer) ≡ 0 → c .mode ≡ w .mode → c .bytes ≡ sentBy (w .answer) (w .out′) → length (c .list) ≡ 4096 → (c .answer ≡ Read (length (code (w .mode) (w .list)))) × (c .list′ ≡ w .list)
+
+-- ---- "Those marked (p) are proved of the definitions, gathered under a single statement"
+pub record PaperCases : Type 0 where
+  -- all zeros, 00 00, 00 00 00 00, empty; +1 and -1 then zeros; folded 0 to 3: as the reader takes them, and as the writer sends them
+  pub read : CodeOnes.Cases
+  pub sent : WriteCases
+  -- bytes 66 66 77 88 98; the line of 4.2.4.3.1; q = 6; white, black and red
+  pub tile : TileOnes.Cases
+  -- context properties 2828 and 2228, and the four headers in their order
+  pub headers : HeaderOnes.Cases
+  -- tileset properties 5051 and 4451, read and written
+  pub tileset : PropsCases
+  pub writer : SendOnes.Cases
+
+pub record Demands : Type 0 where
+  pub one : Demand1
+  pub two : Demand2
+  pub three : Demand3
+  pub cases : PaperCases

@@ -1,5 +1,0 @@
-pub mod Draw
-pub mod DrawLaws
-pub mod Pixels
-pub mod Shown
-pub mod ShownLaws

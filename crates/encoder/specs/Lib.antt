@@ -1,2 +1,0 @@
-pub mod FrameWrite
-pub mod FrameWriteLaws

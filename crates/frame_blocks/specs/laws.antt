@@ -1,0 +1,4 @@
+pub mod Blocks
+pub mod Cases
+pub mod Judged
+pub mod Tiles

@@ -1,0 +1,4 @@
+pub mod Draw
+pub mod Show
+pub mod Shown
+pub mod laws

@@ -1,0 +1,4 @@
+pub mod Draw
+pub mod Pixels
+pub mod Show
+pub mod Shown

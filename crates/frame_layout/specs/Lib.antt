@@ -1,0 +1,4 @@
+pub mod Bytes
+pub mod Reader
+pub mod Tiles
+pub mod laws

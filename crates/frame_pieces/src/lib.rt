@@ -1,0 +1,142 @@
+// The frame writer's fixed pieces (document 01, "Blocks" and "The frame writer"; 001, 2.2.2.3): everything of a frame but the component
+// codes. Blocks are opened with their lengths still 0, and "lengths are filled in afterwards inside the output".
+ghost use mathlib.Core.Path.{_≡_};
+ghost use Prim.Native.Nat.{_+_, _*_, _≤_, _<_};
+ghost use lib.ListN.{length, getD};
+ghost use Rattle.wire.specs.Le.{patch};
+ghost use Rattle.frame_layout.specs.Bytes.{beginOf, regionOf, propsOf, quantBytes, endOf};
+ghost use Rattle.frame_layout.specs.laws.ReadBack.{QuantGood};
+ghost use Rattle.frame_pieces.specs.Parts.{headOf, filled, setHeadOf, frontWith, closed, colsOf, tilesNo};
+
+// The first 19 bytes of a tile, its lengths still 0; quantiser indices 0.
+pub fn put_head(out: &mut [u8], at: usize, x: usize, y: usize)
+    requires { ⌜ at + 19 ≤ length (now out) ⌝ }
+    ensures { λ _. ⌜ now (out .exit) ≡ patch (now (out .entry)) at (headOf x y 0 0 0 0) ⌝ }
+{
+    wire::open_block(out, at, 0xCAC3);
+    wire::put_two8(out, at + 6, 0, 0);
+    wire::put8_at(out, at + 8, 0);
+    wire::put_two16(out, at + 9, x, y);
+    wire::put_two16(out, at + 13, 0, 0);
+    wire::put16_at(out, at + 17, 0);
+}
+
+// The four lengths of a tile, filled in: blockLen, then those of Y, Cb and Cr.
+pub fn fill_tile(out: &mut [u8], at: usize, len: usize, ly: usize, lcb: usize, lcr: usize)
+    requires { ⌜ at + 19 ≤ length (now out) ⌝ }
+    ensures { λ _. ⌜ now (out .exit) ≡ filled (now (out .entry)) at len ly lcb lcr ⌝ }
+{
+    wire::put32_at(out, at + 2, len);
+    wire::put16_at(out, at + 13, ly);
+    wire::put16_at(out, at + 15, lcb);
+    wire::put16_at(out, at + 17, lcr);
+}
+
+fn put_begin(out: &mut [u8], idx: usize)
+    requires { ⌜ 64 ≤ length (now out) ⌝ }
+    ensures { λ _. ⌜ now (out .exit) ≡ patch (now (out .entry)) 0 (beginOf idx) ⌝ }
+{
+    wire::open_block(out, 0, 0xCCC4);
+    wire::put_two8(out, 6, 1, 0);
+    wire::put32_at(out, 8, idx);
+    wire::put16_at(out, 12, 1);
+    wire::put32_at(out, 2, 14);
+}
+
+// One rectangle over the whole.
+fn put_region(out: &mut [u8], w: usize, h: usize)
+    requires { ⌜ 64 ≤ length (now out) ⌝ }
+    ensures { λ _. ⌜ now (out .exit) ≡ patch (now (out .entry)) 14 (regionOf w h) ⌝ }
+{
+    wire::open_block(out, 14, 0xCCC6);
+    wire::put_two8(out, 20, 1, 0);
+    wire::put8_at(out, 22, 1);
+    wire::put16_at(out, 23, 1);
+    wire::put_two16(out, 25, 0, 0);
+    wire::put_two16(out, 29, w, h);
+    wire::put_two16(out, 33, 0xCAC1, 1);
+    wire::put32_at(out, 16, 23);
+}
+
+fn props(et: usize) -> usize
+    requires { ⌜ et < 16 ⌝ }
+    ensures { λ r. ⌜ r ≡ propsOf et ⌝ }
+{
+    16465 + 1024 * et
+}
+
+// The head of the tileset with one quantiser set, its two lengths still 0.
+fn put_set(out: &mut [u8], et: usize, n: usize)
+    requires { ⌜ (64 ≤ length (now out)) × (et < 16) ⌝ }
+    ensures { λ _. ⌜ now (out .exit) ≡ patch (now (out .entry)) 37 (setHeadOf et n 0 0) ⌝ }
+{
+    wire::open_block(out, 37, 0xCCC7);
+    wire::put_two8(out, 43, 1, 0);
+    wire::put_two16(out, 45, 0xCAC2, 0);
+    wire::put16_at(out, 49, props(et));
+    wire::put_two8(out, 51, 1, 64);
+    wire::put16_at(out, 53, n);
+    wire::put32_at(out, 55, 0);
+}
+
+// Two values of a quantiser set in a byte, low half first.
+fn pack(q: &[u8], k: usize) -> u8
+    requires { ⌜ (length (now q) ≡ 10) × (k + 1 < 10) × QuantGood (now q) ⌝ }
+    ensures { λ r. ⌜ r ≡ getD (now (q .entry)) k 0 + 16 * getD (now (q .entry)) (k + 1) 0 ⌝ }
+{
+    q[k] + 16 * q[k + 1]
+}
+
+fn put_quants(out: &mut [u8], q: &[u8])
+    requires { ⌜ (64 ≤ length (now out)) × (length (now q) ≡ 10) × QuantGood (now q) ⌝ }
+    ensures { λ _. ⌜ now (out .exit) ≡ patch (now (out .entry)) 59 (quantBytes (now (q .entry))) ⌝ }
+{
+    wire::put_two8(out, 59, pack(q, 0), pack(q, 2));
+    wire::put_two8(out, 61, pack(q, 4), pack(q, 6));
+    wire::put8_at(out, 63, pack(q, 8));
+}
+
+// All that stands before the tiles: 64 bytes, the tileset's two lengths still 0.
+pub fn put_front(out: &mut [u8], q: &[u8], idx: usize, w: usize, h: usize, et: usize, n: usize)
+    requires { ⌜ (64 ≤ length (now out)) × (length (now q) ≡ 10) × (QuantGood (now q)) × (et < 16) ⌝ }
+    ensures { λ _. ⌜ now (out .exit) ≡ patch (now (out .entry)) 0 (frontWith idx w h et (now (q .entry)) n 0 0) ⌝ }
+{
+    put_begin(out, idx);
+    put_region(out, w, h);
+    put_set(out, et, n);
+    put_quants(out, q);
+}
+
+fn put_end(out: &mut [u8], at: usize)
+    requires { ⌜ at + 8 ≤ length (now out) ⌝ }
+    ensures { λ _. ⌜ now (out .exit) ≡ patch (now (out .entry)) at endOf ⌝ }
+{
+    wire::open_block(out, at, 0xCCC5);
+    wire::put_two8(out, at + 6, 1, 0);
+    wire::put32_at(out, at + 2, 8);
+}
+
+// The frame end behind the last tile, and the tileset's two lengths filled in.
+pub fn close_frame(out: &mut [u8], at: usize)
+    requires { ⌜ (64 ≤ at) × (at + 8 ≤ length (now out)) ⌝ }
+    ensures { λ _. ⌜ now (out .exit) ≡ closed (now (out .entry)) at ⌝ }
+{
+    put_end(out, at);
+    wire::put32_at(out, 39, at - 37);
+    wire::put32_at(out, 55, at - 64);
+}
+
+// Tiles a row, or a column.
+pub fn cols_of(w: usize) -> usize
+    requires { ⌜ w ≤ 4096 ⌝ }
+    ensures { λ r. ⌜ (r ≡ colsOf w) × (64 * r ≤ w + 63) ⌝ }
+{
+    (w + 63) / 64
+}
+
+pub fn tiles_no(w: usize, h: usize) -> usize
+    requires { ⌜ (w ≤ 4096) × (h ≤ 2048) ⌝ }
+    ensures { λ r. ⌜ (r ≡ tilesNo w h) × (r ≤ 2048) ⌝ }
+{
+    cols_of(w) * cols_of(h)
+}

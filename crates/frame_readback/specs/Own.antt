@@ -1,0 +1,32 @@
+-- What the glass shows after a frame of our own writer: 01's decoding of the given picture's rounded coefficients.
+use Prim.Native.Nat.{ℕ, _+_, _*_, _/_, _%_, _≤_, _<_}
+use mathlib.Core.Path.{_≡_}
+use mathlib.Core.List.{List}
+use lib.IntN.{ℤ}
+use lib.ListN.{length, getD}
+use Rattle.bands.specs.Bands.{summed, scaledBy}
+use Rattle.wave_back.specs.Tile.{tileBack}
+use Rattle.tile_back.specs.Word.{wordAt}
+use Rattle.frame_pieces.specs.Parts.{colsOf, tilesNo}
+use Rattle.frame_write.specs.Encode.{listOf}
+use Rattle.frame.specs.declared.call.FrameAnswer.{FrameAnswer}
+
+-- the samples that decoding gives for component c of tile k of the given pixels: LL3 summed, scaled, the wavelet's way back
+unfoldable pub samplesBack : List ℕ → ℕ → ℕ → List ℕ → ℕ → ℕ → List ℤ
+samplesBack p w h q k c = tileBack (scaledBy q (summed (listOf p w h q k c)))
+
+-- the word of place i of tile k
+unfoldable pub wordBack : List ℕ → ℕ → ℕ → List ℕ → ℕ → ℕ → ℕ
+wordBack p w h q k i = wordAt (samplesBack p w h q k 0) (samplesBack p w h q k 1) (samplesBack p w h q k 2) i
+
+-- the tile of a pixel: "all tiles row by row"
+unfoldable pub tileNo : ℕ → ℕ → ℕ → ℕ
+tileNo w px py = py / 64 * colsOf w + px / 64
+
+-- what is shown: as many tiles as the picture has, at every place of the channel the decoded word, and nothing else changed
+pub record Shown (p : List ℕ) (w h : ℕ) (q pic pic′ : List ℕ) (r : FrameAnswer) : Type 0 where
+  pub number : r .number ≡ 0
+  pub tiles : r .tiles ≡ tilesNo w h
+  pub word : (px py : ℕ) → px < w → py < h → getD pic′ (py * w + px) 0 ≡ wordBack p w h q (tileNo w px py) (64 * (py % 64) + px % 64)
+  pub past : (i : ℕ) → h * w ≤ i → getD pic′ i 0 ≡ getD pic i 0
+  pub long : length pic′ ≡ length pic

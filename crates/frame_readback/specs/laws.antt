@@ -1,0 +1,4 @@
+pub mod Grey
+pub mod OurFrames
+pub mod OurTiles
+pub mod Own

@@ -1,0 +1,220 @@
+-- Our own frames read back, over the calls: 01's demand 2, the other way. The calls appear as their promises, over any values that meet
+-- them; no code is mentioned.
+-- Assumes nothing.
+use Prim.Native.Nat.{ℕ, zero, suc, _+_, _*_, _-_, _/_, _%_, _≤_, _<_}
+use mathlib.Core.Path.{_≡_, refl, ap, ap₂, sym, _∙_, subst}
+use mathlib.Core.Bool.{true, false}
+use mathlib.Core.List.{List, _++_}
+use mathlib.Core.Logic.{_⊎_, ⊎-elim}
+use native.Mathlib.Omega.{arith}
+use native.Mathlib.Nat.{div-add-mod', mul-comm}
+use lib.IntN.{ℤ}
+use lib.ListN.{length, take, drop}
+use lib.Dec.{eqb}
+use lib.Seq.{take-append-seam}
+use borrow.Author.Tests.{eqb-true, eq-eqb, ne-eqb, le-leb}
+use Rattle.wire.specs.Le.{written}
+use Rattle.whole.specs.Row.{_⇒_∣_}
+use Rattle.whole.specs.laws.Row.{passes, fails, both, held, goes-on, case-is, case-no}
+use Rattle.frame_layout.specs.Bytes.{Tile, quantBytes, tilesOf, frameOf, endOf}
+use Rattle.frame_layout.specs.Reader.{sizeAt, setPlace, rectCount, quantAt, frameTiles}
+use Rattle.frame_layout.specs.Tiles.{listed}
+use Rattle.frame_layout.specs.laws.ReadBack.{front, sent-small, Taken}
+use Rattle.frame_blocks.specs.Blocks.{rectsOf}
+use Rattle.bands.specs.Bands.{quantOf, summed, scaledBy}
+use Rattle.session.specs.declared.Session.{Session}
+use Rattle.session.specs.declared.HeaderAnswer.{HeaderAnswer}
+use Rattle.headers.specs.laws.Wrote as HW
+use Rattle.headers.specs.Headers.{headersOf, headersFault}
+use Rattle.headers.specs.laws.ReadBack.{FourCalls, AllTaken, our-headers}
+use Rattle.session.specs.Header.{sizeGood, modeGood, made, ready}
+use Rattle.code.specs.Read.{isMode}
+use Rattle.code_write.specs.declared.call.Writing.{Writing}
+use Rattle.code_write.specs.Write.{bytesOf, writingNumber, writingLength, lengthSaid, outLeft, Wrote}
+use Rattle.tile_back.specs.Component.{componentFault, samplesOf}
+use Rattle.wave_back.specs.Tile.{tileBack}
+use Rattle.frame_blocks.specs.Tiles.{codeOf, indexOf}
+use Rattle.frame_blocks.specs.Judged.{judged}
+use Rattle.whole.specs.laws.Tab.{row-in}
+use Rattle.frame_draw.specs.laws.Pixels.{split}
+use Rattle.frame_draw.specs.Draw.{inRegion}
+use Rattle.frame_draw.specs.Shown.{inTile, Found, found, lastTile, wordIn}
+use Rattle.frame_draw.specs.Show.{planeOf, tileWord}
+use Rattle.frame.specs.declared.call.FrameAnswer.{FrameAnswer}
+use Rattle.frame.specs.Frame.{full, callFault, frameNumber, FrameDone}
+use Rattle.frame.specs.laws.Glass.{accepted, shown-pixel, shown-past, shown-length}
+use Rattle.frame_pieces.specs.Parts.{tileWith, colsOf, tilesNo}
+use Rattle.frame_write.specs.Encode.{partOf, tileP, frameP, refusals}
+use Rattle.frame_write.specs.FrameWrite.{argFault, sendFault, FrameWritten}
+use Rattle.frame_write.specs.laws.FrameWrite.{args-good}
+use Rattle.frame_readback.specs.laws.OurTiles.{quant-back, PartTaken, Sendable, tile-taken, sent, our-frame}
+use Rattle.frame_readback.specs.Own.{samplesBack, wordBack, tileNo, Shown}
+use Rattle.frame_readback.specs.laws.Own.{last-found, tile-place, whole-region}
+
+-- ---- what the writer's 0 gives
+
+wrote-frame : (f : ℕ) (frame out out′ : List ℕ) (r : Writing) → Wrote f frame out out′ r → writingNumber r ≡ 0 → take (writingLength r) out′ ≡ frame
+unfolding lengthSaid outLeft written
+wrote-frame zero frame out out′ r w e = rw (w .said, w .left) (take-append-seam frame (drop (length frame) out))
+wrote-frame (suc f) frame out out′ r w e = absurd (omega (arith, w .number, e))
+
+mode-of : (w h mode : ℕ) (q : List ℕ) (pixels list scratch : ℕ) → 0 ≡ argFault w h mode q pixels list scratch → (sizeGood w h ≡ true) × (isMode mode ≡ true)
+unfolding argFault modeGood isMode
+mode-of w h mode q pixels list scratch e =
+    let a = held (sizeGood w h) 5 _ 0 (λ z. omega arith) e in
+    let b = held (modeGood mode) 5 _ 0 (λ z. omega arith) (a .1) in
+    (a .0, b .0)
+
+pub record Written (w h mode : ℕ) (q : List ℕ) (index : ℕ) (p out′ : List ℕ) (r : Writing) : Type 0 where
+  pub size : sizeGood w h ≡ true
+  pub sendable : Sendable p w h mode q
+  pub bytes : take (writingLength r) out′ ≡ frameP index w h mode q p
+
+pub written-is :
+    (w h mode : ℕ) (q : List ℕ) (index : ℕ) (p : List ℕ) (list list′ scratch scratch′ : List ℤ) (out out′ : List ℕ) (r : Writing) → length q ≡ 10 →
+    FrameWritten w h mode q index p list list′ scratch scratch′ out out′ r → writingNumber r ≡ 0 → Written w h mode q index p out′ r
+unfolding sendFault
+written-is w h mode q index p list list′ scratch scratch′ out out′ r ten f e =
+    let a = both (argFault w h mode q (length p) (length list) (length scratch)) _ (sym e ∙ f .wrote .number) in
+    let b = both (refusals p w h mode q (tilesNo w h) 0) _ (a .1) in
+    let g = args-good w h mode q p (length list) (length scratch) (a .0) in
+    let m = mode-of w h mode q (length p) (length list) (length scratch) (a .0) in
+    record {
+      size = m .0;
+      sendable = record { picture = g .picture; ten = ten; allowed = m .1; none = b .0 };
+      bytes = wrote-frame _ (frameP index w h mode q p) out out′ r (f .wrote) e;
+    }
+
+-- ---- the tile of a pixel
+
+module _ (p : List ℕ) (w h mode : ℕ) (q : List ℕ) (px py : ℕ) (in-w : px < w) (in-h : py < h) where
+  col-in : px / 64 < colsOf w
+  unfolding colsOf
+  col-in = omega arith
+
+  row-in-h : py / 64 < colsOf h
+  unfolding colsOf
+  row-in-h = omega arith
+
+  here : inTile (tileP p w h mode q (tileNo w px py)) px py ≡ true
+  unfolding inTile tileP tileWith tileNo
+  here =
+      let e = tile-place (colsOf w) (px / 64) (py / 64) col-in in
+      sym (passes _ _ _ _ (eq-eqb (px / 64) ((py / 64 * colsOf w + px / 64) % colsOf w) (sym (e .0))) (sym (eq-eqb (py / 64) ((py / 64 * colsOf w + px / 64) / colsOf w) (sym (e .1)))))
+
+  other : (j : ℕ) → (j ≡ tileNo w px py → ⊥) → inTile (tileP p w h mode q j) px py ≡ false
+  unfolding inTile tileP tileWith tileNo
+  other j ne =
+      ⊎-elim
+      (λ (a : eqb (px / 64) (j % colsOf w) ≡ true).
+      sym (passes _ _ _ _ a (sym (ne-eqb (py / 64) (j / colsOf w) (λ b. ne (sym (div-add-mod' j (colsOf w)) ∙ ap₂ (λ (y x : ℕ). y * colsOf w + x) (sym b) (sym (eqb-true _ _ a))))))))
+      (λ (a : eqb (px / 64) (j % colsOf w) ≡ false). sym (fails _ _ _ _ a refl))
+      (split (eqb (px / 64) (j % colsOf w)))
+
+  among : tileNo w px py < 0 + tilesNo w h
+  unfolding tileNo tilesNo
+  among = omega (arith, row-in (py / 64) (colsOf h) (colsOf w) row-in-h, col-in, mul-comm (colsOf w) (colsOf h))
+
+  pub its-tile : lastTile (listed (tileP p w h mode q) (tilesNo w h) 0) px py ≡ found (tileP p w h mode q (tileNo w px py))
+  its-tile = last-found (tileP p w h mode q) px py (tileNo w px py) here other (tilesNo w h) 0 (omega arith) among
+
+  pub tile-among : tileNo w px py < tilesNo w h
+  tile-among = omega (arith, among)
+
+-- ---- what our frame is to the frame call
+
+judges : (mode : ℕ) (set code : List ℕ) → judged mode set code ≡ componentFault mode (quantOf set) code
+unfolding judged
+judges mode set code = refl
+
+module _ (p : List ℕ) (w h mode : ℕ) (q : List ℕ) (index : ℕ) (s : Sendable p w h mode q) where
+  abbrev pub m : List ℕ
+  m = frameP index w h mode q p
+
+  taken : Taken judged w h mode (tilesNo w h) (tileP p w h mode q) m
+  taken = our-frame p w h mode q s judged (judges mode) index
+
+  set-is : quantAt m (setPlace m) 0 ≡ quantBytes q
+  unfolding frameP frameOf quantAt setPlace sizeAt quantBytes
+  set-is =
+      let t = sent p w h mode q s judged (judges mode) in
+      let D = tilesOf (tileP p w h mode q) (tilesNo w h) 0 in
+      let f = front index w h mode q (tilesNo w h) (length D) (D ++ endOf) (t .wide) (t .high) (t .mode) (omega (arith, t .few)) (sent-small judged w h mode q (tilesNo w h) (tileP p w h mode q) t) in
+      rw (f .region .1 .0) (ap (take 5) (f .quants))
+
+  part-back : (zs : List ℤ) → PartTaken mode q zs → samplesOf mode (quantOf (quantAt m (setPlace m) 0)) (bytesOf mode zs) ≡ tileBack (scaledBy q (summed zs))
+  part-back zs t =
+      ap (λ (v : List ℕ). samplesOf mode (quantOf v) (bytesOf mode zs)) set-is
+      ∙ ap (λ (v : List ℕ). samplesOf mode v (bytesOf mode zs)) (quant-back q (s .ten) (s .picture .quants)) ∙ t .samples
+
+  word-back : (k i : ℕ) → k < tilesNo w h → tileWord mode (quantAt m (setPlace m)) (tileP p w h mode q k) i ≡ wordBack p w h q k i
+  unfolding tileWord planeOf indexOf codeOf tileP tileWith partOf wordBack samplesBack
+  word-back k i l =
+      let t = tile-taken p w h mode q s k l in
+      rw (part-back _ (t .y), part-back _ (t .cb), part-back _ (t .cr)) refl
+
+  region : (px py : ℕ) → px < w → py < h → inRegion (rectsOf m 14) (rectCount m 14) px py ≡ true
+  unfolding rectsOf
+  region px py a b = rw (taken .rects) (whole-region m w h px py (taken .rect .0) (taken .rect .1 .0) (taken .rect .1 .1 .0) (taken .rect .1 .1 .1) a b)
+
+  shown-word : (px py old : ℕ) → px < w → py < h →
+      (inRegion (rectsOf m 14) (rectCount m 14) px py ⇒ wordIn (tileWord mode (quantAt m (setPlace m))) px py (lastTile (frameTiles m) px py) old ∣ old)
+      ≡ wordBack p w h q (tileNo w px py) (64 * (py % 64) + px % 64)
+  unfolding wordIn
+  shown-word px py old a b =
+      case-is _ _ _ _ (region px py a b) refl
+      ∙ ap (λ (f : Found). wordIn (tileWord mode (quantAt m (setPlace m))) px py f old) (ap (λ (ts : List Tile). lastTile ts px py) (taken .tiles) ∙ its-tile p w h mode q px py a b)
+      ∙ word-back (tileNo w px py) (64 * (py % 64) + px % 64) (tile-among p w h mode q px py a b)
+
+  -- the frame call on it, with the record that our headers give, lists of 4,096 and a picture long enough
+  abbrev pub record-of : Session
+  record-of = record { headers = 4; width = w; height = h; mode = mode }
+
+  module _ (good : sizeGood w h ≡ true) (pic : List ℕ) (y cb cr tmp : List ℤ) (pic′ : List ℕ) (y′ cb′ cr′ tmp′ : List ℤ) (r : FrameAnswer)
+      (ly : length y ≡ 4096) (lb : length cb ≡ 4096) (lr : length cr ≡ 4096) (lt : length tmp ≡ 4096) (room : h * w ≤ length pic)
+      (done : FrameDone record-of m pic y cb cr tmp pic′ y′ cb′ cr′ tmp′ r) where
+    ready-is : true ≡ ready record-of
+    unfolding ready made isMode modeGood
+    ready-is = passes _ _ _ _ refl (case-no _ _ _ _ refl (passes _ _ _ _ good (case-no _ _ _ _ refl (passes _ _ _ _ refl (sym (s .allowed))))))
+
+    call-fine : 0 ≡ callFault record-of (length pic) (length y) (length cb) (length cr) (length tmp)
+    unfolding callFault full
+    call-fine =
+        passes _ _ _ _ (sym ready-is) (passes _ _ _ _
+        (sym (passes _ _ _ _ (eq-eqb (length y) 4096 ly) (passes _ _ _ _ (eq-eqb (length cb) 4096 lb) (passes _ _ _ _ (eq-eqb (length cr) 4096 lr) (sym (eq-eqb (length tmp) 4096 lt))))))
+        (passes _ _ _ _ (le-leb (h * w) (length pic) room) refl))
+
+    number-0 : r .number ≡ 0
+    unfolding frameNumber
+    number-0 = done .number ∙ sym (goes-on _ _ _ (sym call-fine) (taken .fault))
+
+    pub shown : Shown p w h q pic pic′ r
+    shown = record {
+      number = number-0;
+      tiles = accepted record-of m pic y cb cr tmp pic′ y′ cb′ cr′ tmp′ r done number-0 .counted ∙ taken .count;
+      word = λ px py a b. shown-pixel record-of m pic y cb cr tmp pic′ y′ cb′ cr′ tmp′ r done number-0 px py a b ∙ shown-word px py _ a b;
+      past = shown-past record-of m pic y cb cr tmp pic′ y′ cb′ cr′ tmp′ r done number-0;
+      long = shown-length record-of m pic y cb cr tmp pic′ y′ cb′ cr′ tmp′ r done number-0;
+    }
+
+-- THE STATEMENT OVER THE CALLS. Whenever our two writers are done, for the same size and mode: four header calls on our headers, from any
+-- record at all, answer 0; and the frame call on our frame, with the record that they leave, work lists of 4,096 and a picture long enough,
+-- answers 0, reports the number of tiles and shows at every place of the channel the word that decoding gives for the rounded
+-- coefficients of the given pixels; nothing else changes.
+pub our-own-frames :
+    (s₀ : Session) (w h mode n k : ℕ) (ho ho′ : List ℕ) (a b c d : HeaderAnswer) →
+    HW.Wrote (headersFault w h mode (length ho)) (headersOf w h mode) ho ho′ n k → n ≡ 0 → FourCalls s₀ (take k ho′) a b c d →
+    (q : List ℕ) (index : ℕ) (p : List ℕ) (list list′ scratch scratch′ : List ℤ) (out out′ : List ℕ) (r : Writing) → length q ≡ 10 →
+    FrameWritten w h mode q index p list list′ scratch scratch′ out out′ r → writingNumber r ≡ 0 →
+    (pic : List ℕ) (y cb cr tmp : List ℤ) (pic′ : List ℕ) (y′ cb′ cr′ tmp′ : List ℤ) (answer : FrameAnswer) →
+    length y ≡ 4096 → length cb ≡ 4096 → length cr ≡ 4096 → length tmp ≡ 4096 → h * w ≤ length pic →
+    FrameDone (d .session) (take (writingLength r) out′) pic y cb cr tmp pic′ y′ cb′ cr′ tmp′ answer →
+    AllTaken w h mode a b c d × Shown p w h q pic pic′ answer
+our-own-frames s₀ w h mode n k ho ho′ a b c d hw e four q index p list list′ scratch scratch′ out out′ r ten fw f pic y cb cr tmp pic′ y′ cb′ cr′ tmp′ answer ly lb lr lt room done =
+    let t = our-headers s₀ w h mode n k ho ho′ a b c d hw e four in
+    let u = written-is w h mode q index p list list′ scratch scratch′ out out′ r ten fw f in
+    let m₀ = frameP index w h mode q p in
+    let z : d .session ≡ record-of p w h mode q index (u .sendable) = ap (λ (x : HeaderAnswer). x .session) (t .four) in
+    let d₁ = subst (λ (x : List ℕ). FrameDone (d .session) x pic y cb cr tmp pic′ y′ cb′ cr′ tmp′ answer) (u .bytes) done in
+    let d₂ = subst (λ (x : Session). FrameDone x m₀ pic y cb cr tmp pic′ y′ cb′ cr′ tmp′ answer) z d₁ in
+    (t, shown p w h mode q index (u .sendable) (u .size) pic y cb cr tmp pic′ y′ cb′ cr′ tmp′ answer ly lb lr lt room d₂)

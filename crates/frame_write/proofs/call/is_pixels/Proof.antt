@@ -1,0 +1,27 @@
+use Prim.Native.Nat.{_-_}
+use mathlib.Core.Path.{refl}
+use native.Mathlib.Omega.{arith}
+use Rattle.frame_write.specs.FrameWrite.{pixelsGood}
+use Rattle.frame_write.specs.laws.FrameWrite.{size-small}
+use Rattle.frame_write.proofs.call.is_pixels.Statement.{statement}
+use Rattle.frame_write.proofs.call.is_pixels.Tie as tie
+use Rattle.frame_write.proofs.call.is_pixels.Reads as reads
+use Rattle.frame_write.proofs.call.is_pixels.Lts as lts
+
+mul-result : tie.Need-mul-result
+mul-result c = omega (arith, size-small (c .args .w) (c .args .h) (c .pre .0) (c .pre .1))
+
+mul-result-2 : tie.Need-mul-result-2
+mul-result-2 c = omega (arith, size-small (c .args .w) (c .args .h) (c .pre .0) (c .pre .1))
+
+returns : tie.Need-returns
+unfolding pixelsGood
+returns c = refl
+
+pub is-pixels-spec : {M : Type 1} → statement M
+is-pixels-spec =
+    tie.close
+    (tie.spec
+    mul-result
+    mul-result-2
+    returns)

@@ -1,0 +1,47 @@
+-- The frame writer: what it answers and what it leaves, for every input. 01, last paragraph of "Colour", and "Numbers the fitter sees".
+use Prim.Native.Nat.{ℕ, zero, suc, _*_}
+use mathlib.Core.Path.{_≡_}
+use mathlib.Core.Bool.{Bool}
+use mathlib.Core.List.{List}
+use lib.Dec.{leb, eqb}
+use lib.IntN.{ℤ, pos}
+use lib.ListN.{length, replicate}
+use Rattle.whole.specs.Row.{_!_⨾_, _⨟_}
+use Rattle.session.specs.Header.{sizeGood, modeGood}
+use Rattle.bands.specs.Bands.{isGood}
+use Rattle.code_write.specs.Write.{Wrote}
+use Rattle.code_write.specs.declared.call.Writing.{Writing}
+use Rattle.frame_pieces.specs.Parts.{tilesNo}
+use Rattle.frame_write.specs.Encode.{refusals, frameP}
+
+-- not 2: "a writer's pixels are not 3 x width x height bytes"
+unfoldable pub pixelsGood : ℕ → ℕ → ℕ → Bool
+pixelsGood w h pixels = eqb pixels (3 * (w * h))
+
+-- "size or mode 5, quantiser 7, pixel or work list length 2", by the lengths of the pixels and of the two work lists
+unfoldable pub argFault : ℕ → ℕ → ℕ → List ℕ → ℕ → ℕ → ℕ → ℕ
+argFault w h mode q pixels list scratch =
+    sizeGood w h ! 5 ⨾
+    modeGood mode ! 5 ⨾
+    isGood q ! 7 ⨾
+    pixelsGood w h pixels ! 2 ⨾
+    eqb list 4096 ! 2 ⨾
+    eqb scratch 4096 ! 2 ⨾
+    0
+
+-- "then per component in order 9 .. then 6, then 13", which is given where "the lent output is shorter than what is to be written"
+unfoldable pub sendFault : ℕ → ℕ → ℕ → ℕ → List ℕ → List ℕ → ℕ → ℕ
+sendFault index w h mode q p room =
+    refusals p w h mode q (tilesNo w h) 0 ⨟
+    (leb (length (frameP index w h mode q p)) room ! 13 ⨾ 0)
+
+-- "The frame writer's work lists are untouched on 5, 7 and 2 and hold only zeros after every other answer": by the fault of the arguments
+unfoldable pub workLeft : ℕ → List ℤ → List ℤ
+workLeft zero xs = replicate 4096 (pos 0)
+workLeft (suc f) xs = xs
+
+-- what the call says and leaves; xs′ is a list at exit
+pub record FrameWritten (w h mode : ℕ) (q : List ℕ) (index : ℕ) (p : List ℕ) (list list′ scratch scratch′ : List ℤ) (out out′ : List ℕ) (r : Writing) : Type 0 where
+  pub wrote : Wrote (argFault w h mode q (length p) (length list) (length scratch) ⨟ sendFault index w h mode q p (length out)) (frameP index w h mode q p) out out′ r
+  pub first : list′ ≡ workLeft (argFault w h mode q (length p) (length list) (length scratch)) list
+  pub second : scratch′ ≡ workLeft (argFault w h mode q (length p) (length list) (length scratch)) scratch

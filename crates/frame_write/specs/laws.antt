@@ -1,0 +1,3 @@
+pub mod Encode
+pub mod FrameWrite
+pub mod Put

@@ -1,0 +1,195 @@
+-- Laws of what the frame writer refuses: places of tiles, sizes of components and tiles, and the sizing loop.
+-- Assumes nothing.
+use Prim.Native.Nat.{ℕ, zero, suc, _+_, _*_, _-_, _/_, _%_, _≤_, _<_}
+use mathlib.Core.Path.{_≡_, refl, ap, sym, _∙_, subst}
+use mathlib.Core.Bool.{true}
+use mathlib.Core.List.{List}
+use native.Mathlib.Omega.{arith}
+use native.Mathlib.Decide.{decLt}
+use native.Mathlib.Nat.{div-lt-iff-lt-mul, mod-lt, mul-comm, sub-zero, add-zero}
+use borrow.Author.Tests.{leb-true}
+use lib.IntN.{ℤ, pos, natAbs}
+use lib.ListN.{length, getD, length-append, List·getD-eq-default}
+use Rattle.whole.specs.Row.{_⨟_}
+use Rattle.whole.specs.laws.Row.{held, both, stops, goes-on, passes}
+use Rattle.whole.specs.Tab.{at}
+use Rattle.frame_layout.specs.Bytes.{tileLen, tileOf, tilesOf}
+use Rattle.frame_layout.specs.laws.Here.{tile-length}
+use Rattle.bands.specs.Bands.{coefficientsFault, rangeFault, allIn}
+use Rattle.bands.specs.laws.Range.{all-each}
+use Rattle.code_write.specs.Write.{bytesOf, inRange, componentFault, Measures}
+use Rattle.code_write.specs.laws.Write.{is-range}
+use Rattle.code_write.specs.declared.call.Sized.{Sized}
+use Rattle.frame_pieces.specs.Parts.{colsOf, tilesNo}
+use Rattle.frame_pieces.specs.laws.Parts.{tile-parts, tiles-step-length, few-tiles}
+use Rattle.tile_forth.specs.laws.TileForth.{rounded-of-length}
+use Rattle.frame_write.specs.Encode.{listOf, partOf, tileP, partRefusal, tileRefusal, refusals}
+
+-- ---- where a tile stands
+
+place : (w h k c r : ℕ) → 1 ≤ c → 64 * c ≤ w + 63 → 64 * r ≤ h + 63 → k < c * r → (64 * (k % c) < w) × (64 * (k / c) < h)
+place w h k c r p a b l =
+    let x : k % c < c = mod-lt k {m = c} (omega arith) in
+    let y : k / c < r = div-lt-iff-lt-mul {k = c} {x = k} {y = r} (omega arith) .1 (subst (λ (z : ℕ). k < z) (mul-comm c r) l) in
+    (omega arith, omega arith)
+
+pub place-good : (w h k : ℕ) → 1 ≤ w → k < tilesNo w h → (64 * (k % colsOf w) < w) × (64 * (k / colsOf w) < h)
+unfolding tilesNo colsOf
+place-good w h k a l = place w h k ((w + 63) / 64) ((h + 63) / 64) (omega arith) (omega arith) (omega arith) l
+
+pub few : (w h : ℕ) → w ≤ 4096 → h ≤ 2048 → tilesNo w h ≤ 2048
+unfolding tilesNo colsOf
+few w h a b = few-tiles ((w + 63) / 64) ((h + 63) / 64) w h (omega arith) (omega arith) a b
+
+-- ---- a component
+
+pub list-long : (p : List ℕ) (w h : ℕ) (q : List ℕ) (k c : ℕ) → length (listOf p w h q k c) ≡ 4096
+unfolding listOf
+list-long p w h q k c = rounded-of-length p w h q (k % colsOf w) (k / colsOf w) c
+
+-- what is not refused has its coefficients in range
+pub judged-range : (q : List ℕ) (zs : List ℤ) → 0 ≡ coefficientsFault q zs → inRange zs ≡ true
+unfolding coefficientsFault rangeFault
+judged-range q zs e =
+    let a = held (allIn (at zs) (length zs)) 9 0 0 (λ z. omega arith) (both _ _ e .0) .0 in
+    is-range zs (λ i. within i (decLt i (length zs)) a)
+  where
+    within : (i : ℕ) → Dec (i < length zs) → allIn (at zs) (length zs) ≡ true → natAbs (getD zs i (pos 0)) ≤ 32767
+    within i (yes l) a = all-each (at zs) (length zs) a i l .near
+    within i (no l) a = subst (λ (z : ℤ). natAbs z ≤ 32767) (sym (List·getD-eq-default zs (pos 0) (omega arith))) (omega arith)
+
+module _ (mode : ℕ) (q : List ℕ) (zs : List ℤ) where
+  pub part-small : 0 ≡ partRefusal mode q zs → length (bytesOf mode zs) ≤ 65535
+  unfolding partRefusal
+  part-small e = leb-true (length (bytesOf mode zs)) 65535 (held _ _ _ _ (λ z. omega arith) (both _ _ e .1) .0)
+
+  pub part-range : 0 ≡ partRefusal mode q zs → inRange zs ≡ true
+  unfolding partRefusal
+  part-range e = judged-range q zs (both _ _ e .0)
+
+  pub part-judged : (f : ℕ) → f ≡ coefficientsFault q zs → (f ≡ 0 → ⊥) → Measures (partRefusal mode q zs) (length (bytesOf mode zs)) (record { number = f; size = 0 })
+  unfolding partRefusal
+  part-judged f e h = record { number = stops _ _ _ (λ z. h (e ∙ z)) e; size = λ z. absurd (h z) }
+
+  -- behind the reader's 9 the component writer's own is silent
+  same-six : 0 ≡ coefficientsFault q zs → componentFault mode zs ≡ partRefusal mode q zs
+  unfolding partRefusal componentFault
+  same-six e = goes-on _ _ _ (sym e) (sym (passes _ _ _ _ (judged-range q zs e) refl))
+
+  pub part-measured : (f : ℕ) → f ≡ coefficientsFault q zs → f ≡ 0 → (s : Sized) → Measures (componentFault mode zs) (length (bytesOf mode zs)) s → Measures (partRefusal mode q zs) (length (bytesOf mode zs)) s
+  part-measured f e z s m = record { number = m .number ∙ same-six (sym z ∙ e); size = m .size }
+
+-- ---- a tile: the first of three refusals, or the three sizes together
+
+module _ (a b c x y z : ℕ) where
+  pub first-of : (s : Sized) (n : ℕ) → Measures a x s → (s .number ≡ 0 → ⊥) → Measures (a ⨟ (b ⨟ c)) n s
+  first-of s n m h = record { number = stops _ _ _ (λ e. h (m .number ∙ e)) (m .number); size = λ e. absurd (h e) }
+
+  pub second-of : (r s : Sized) (n : ℕ) → Measures a x r → r .number ≡ 0 → Measures b y s → (s .number ≡ 0 → ⊥) → Measures (a ⨟ (b ⨟ c)) n s
+  second-of r s n mr er m h = record { number = goes-on _ _ _ (sym (mr .number) ∙ er) (stops _ _ _ (λ e. h (m .number ∙ e)) (m .number)); size = λ e. absurd (h e) }
+
+  pub third-of : (r s t : Sized) (n : ℕ) → Measures a x r → r .number ≡ 0 → Measures b y s → s .number ≡ 0 → Measures c z t → (t .number ≡ 0 → ⊥) → Measures (a ⨟ (b ⨟ c)) n t
+  third-of r s t n mr er ms es m h = record { number = goes-on _ _ _ (sym (mr .number) ∙ er) (goes-on _ _ _ (sym (ms .number) ∙ es) (m .number)); size = λ e. absurd (h e) }
+
+module _ (p : List ℕ) (w h mode : ℕ) (q : List ℕ) where
+  pub tile-long : (k : ℕ) → tileLen (tileP p w h mode q k) ≡ 19 + length (partOf p w h mode q k 0) + length (partOf p w h mode q k 1) + length (partOf p w h mode q k 2)
+  unfolding tileP
+  tile-long k = tile-parts (k % colsOf w) (k / colsOf w) (partOf p w h mode q k 0) (partOf p w h mode q k 1) (partOf p w h mode q k 2)
+
+  module _ (k : ℕ) (r s t : Sized) where
+    pub tile-sized :
+        Measures (partRefusal mode q (listOf p w h q k 0)) (length (partOf p w h mode q k 0)) r → r .number ≡ 0 →
+        Measures (partRefusal mode q (listOf p w h q k 1)) (length (partOf p w h mode q k 1)) s → s .number ≡ 0 →
+        Measures (partRefusal mode q (listOf p w h q k 2)) (length (partOf p w h mode q k 2)) t → t .number ≡ 0 →
+        (n : ℕ) → n ≡ 19 + r .size + s .size + t .size → Measures (tileRefusal p w h mode q k) (tileLen (tileP p w h mode q k)) (record { number = 0; size = n })
+    unfolding tileRefusal
+    tile-sized mr er ms es mt et n e = record {
+      number = goes-on _ _ _ (sym (mr .number) ∙ er) (goes-on _ _ _ (sym (ms .number) ∙ es) (sym et ∙ mt .number));
+      size = λ u. omega (arith, tile-long k, mr .size er, ms .size es, mt .size et);
+    }
+
+  tile-small : (k : ℕ) → 0 ≡ tileRefusal p w h mode q k → tileLen (tileP p w h mode q k) ≤ 196624
+  unfolding tileRefusal partOf
+  tile-small k e =
+      let a = both _ _ e in
+      let b = both _ _ (a .1) in
+      let x = part-small mode q (listOf p w h q k 0) (a .0) in
+      let y = part-small mode q (listOf p w h q k 1) (b .0) in
+      let z = part-small mode q (listOf p w h q k 2) (b .1) in
+      omega (arith, tile-long k)
+
+  -- a tile that is among those not refused is not refused
+  pub not-refused : (n i d : ℕ) → 0 ≡ refusals p w h mode q n i → d < n → 0 ≡ tileRefusal p w h mode q (i + d)
+  unfolding refusals
+  not-refused zero i d e l = absurd (omega arith)
+  not-refused (suc n) i zero e l = subst (λ (j : ℕ). 0 ≡ tileRefusal p w h mode q j) (sym (add-zero i)) (both _ _ e .0)
+  not-refused (suc n) i (suc d) e l =
+      let s : i + 1 + d ≡ i + suc d = omega arith in
+      subst (λ (j : ℕ). 0 ≡ tileRefusal p w h mode q j) s (not-refused n (i + 1) d (both _ _ e .1) (omega arith))
+
+-- a part that is sized and not refused
+pub part-sized : (mode : ℕ) (q : List ℕ) (zs : List ℤ) (s : Sized) → Measures (partRefusal mode q zs) (length (bytesOf mode zs)) s → s .number ≡ 0 → s .size ≤ 65535
+part-sized mode q zs s m e = let a = m .size e in let b = part-small mode q zs (sym e ∙ m .number) in omega arith
+
+-- ---- the sizing loop: what is left to refuse, and the bytes so far
+
+pub record Sizing (p : List ℕ) (w h mode : ℕ) (q : List ℕ) (n i total : ℕ) : Type 0 where
+  pub rest : refusals p w h mode q n 0 ≡ refusals p w h mode q (n - i) i
+  pub sum : total + length (tilesOf (tileP p w h mode q) (n - i) i) ≡ length (tilesOf (tileP p w h mode q) n 0)
+  pub small : total ≤ i * 196624
+
+left : (n i : ℕ) → i < n → n - i ≡ suc (n - (i + 1))
+left n i l = omega arith
+
+module _ (p : List ℕ) (w h mode : ℕ) (q : List ℕ) where
+  pub sizing-start : (n : ℕ) → Sizing p w h mode q n 0 0
+  sizing-start n = record { rest = rw sub-zero; sum = rw sub-zero (omega arith); small = omega arith }
+
+  refusals-step : (n i : ℕ) → i < n → refusals p w h mode q (n - i) i ≡ (tileRefusal p w h mode q i ⨟ refusals p w h mode q (n - (i + 1)) (i + 1))
+  unfolding refusals
+  refusals-step n i l = rw (left n i l)
+
+  module _ (n i total : ℕ) (r : Sized) (l : i < n) (s : Sizing p w h mode q n i total) (m : Measures (tileRefusal p w h mode q i) (tileLen (tileP p w h mode q i)) r) where
+    pub sizing-stops : (r .number ≡ 0 → ⊥) → Measures (refusals p w h mode q n 0) (length (tilesOf (tileP p w h mode q) n 0)) r
+    sizing-stops f = record {
+      number = stops _ _ _ (λ e. f (m .number ∙ e)) (m .number) ∙ sym (s .rest ∙ refusals-step n i l);
+      size = λ z. absurd (f z);
+    }
+
+    pub sizing-next : r .number ≡ 0 → Sizing p w h mode q n (i + 1) (total + r .size) × (total + r .size ≤ (i + 1) * 196624)
+    sizing-next e =
+        let k = m .size e in
+        let t = tile-small p w h mode q i (sym e ∙ m .number) in
+        let u = tiles-step-length (tileP p w h mode q) n i l in
+        let a = s .sum in
+        let b = s .small in
+        let c : total + r .size ≤ (i + 1) * 196624 = omega arith in
+        (record { rest = s .rest ∙ (refusals-step n i l ∙ sym (goes-on _ _ _ (sym (m .number) ∙ e) refl)); sum = omega arith; small = c }, c)
+
+  pub sizing-ends : (n i total : ℕ) → n ≤ i → Sizing p w h mode q n i total → Measures (refusals p w h mode q n 0) (length (tilesOf (tileP p w h mode q) n 0)) (record { number = 0; size = total })
+  unfolding refusals tilesOf
+  sizing-ends n i total l s =
+      let z : n - i ≡ 0 = omega arith in
+      record {
+        number = sym (s .rest ∙ ap (λ (k : ℕ). refusals p w h mode q k i) z);
+        size = λ e. omega (arith, subst (λ (k : ℕ). total + length (tilesOf (tileP p w h mode q) k i) ≡ length (tilesOf (tileP p w h mode q) n 0)) z (s .sum));
+      }
+
+  -- the bytes of tiles that are not refused
+  refusals-small : (n i : ℕ) → 0 ≡ refusals p w h mode q n i → length (tilesOf (tileP p w h mode q) n i) ≤ n * 196624
+  unfolding refusals tilesOf
+  refusals-small zero i e = omega arith
+  refusals-small (suc n) i e =
+      let b = both _ _ e in
+      let s = tile-small p w h mode q i (b .0) in
+      let more = refusals-small n (i + 1) (b .1) in
+      let t = tile-length (tileP p w h mode q i) in
+      let a = length-append (tileOf (tileP p w h mode q i)) (tilesOf (tileP p w h mode q) n (i + 1)) in
+      omega arith
+
+  pub sized-small : (n : ℕ) (s : Sized) → n ≤ 2048 → Measures (refusals p w h mode q n 0) (length (tilesOf (tileP p w h mode q) n 0)) s → s .number ≡ 0 →
+      (s .size ≡ length (tilesOf (tileP p w h mode q) n 0)) × (s .size ≤ 402685952)
+  sized-small n s l m e =
+      let a = m .size e in
+      let b = refusals-small n 0 (sym e ∙ m .number) in
+      (a, omega arith)

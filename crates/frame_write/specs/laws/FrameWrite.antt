@@ -1,0 +1,156 @@
+-- Laws of the frame writer: what good arguments give, and one law for each way out. Its promise leaves one answer and one content of lent memory.
+-- Assumes nothing.
+use Prim.Native.Nat.{ℕ, zero, suc, _+_, _*_, _≤_, _<_}
+use mathlib.Core.Path.{_≡_, refl, ap, sym, _∙_}
+use mathlib.Core.List.{List}
+use mathlib.Core.Logic.{⊎-elim}
+use native.Mathlib.Omega.{arith}
+use native.Mathlib.Nat.{mul-le-mul}
+use borrow.Author.Tests.{le-leb, lt-leb, eqb-true}
+use lib.Dec.{eqb}
+use lib.IntN.{ℤ, pos}
+use lib.ListN.{length, replicate}
+use Rattle.whole.specs.Row.{_⨟_}
+use Rattle.whole.specs.laws.Row.{held, stops, goes-on, passes, fails}
+use Rattle.wire.specs.Le.{written}
+use Rattle.frame_layout.specs.Bytes.{tilesOf, frameOf}
+use Rattle.session.specs.Header.{sizeGood, modeGood}
+use Rattle.session.specs.laws.Header.{allowed}
+use Rattle.bands.specs.Bands.{isGood}
+use Rattle.bands.specs.laws.Band.{good-set}
+use Rattle.code_write.specs.Write.{writingNumber, writingLength, lengthSaid, outLeft, Wrote, Measures}
+use Rattle.code_write.specs.declared.call.Writing.{Writing}
+use Rattle.code_write.specs.declared.call.Writing.the-variants.{Done, Refused}
+use Rattle.code_write.specs.declared.call.Sized.{Sized}
+use Rattle.code_write.specs.laws.Once.{answerOf}
+use Rattle.frame_pieces.specs.Parts.{tilesNo}
+use Rattle.frame_pieces.specs.laws.Parts.{frame-long}
+use Rattle.frame_write.specs.Encode.{tileP, refusals, frameP, Picture}
+use Rattle.frame_write.specs.FrameWrite.{pixelsGood, argFault, sendFault, workLeft, FrameWritten}
+
+-- ---- the arguments
+
+pub record ArgsGood (w h mode : ℕ) (q p : List ℕ) (list scratch : ℕ) : Type 0 where
+  pub picture : Picture p w h q
+  pub small : mode < 16
+  pub first : list ≡ 4096
+  pub second : scratch ≡ 4096
+
+pub args-good : (w h mode : ℕ) (q p : List ℕ) (list scratch : ℕ) → 0 ≡ argFault w h mode q (length p) list scratch → ArgsGood w h mode q p list scratch
+unfolding argFault pixelsGood
+args-good w h mode q p list scratch e =
+    let a = held (sizeGood w h) 5 _ 0 (λ z. omega arith) e in
+    let b = held (modeGood mode) 5 _ 0 (λ z. omega arith) (a .1) in
+    let c = held (isGood q) 7 _ 0 (λ z. omega arith) (b .1) in
+    let d = held (eqb (length p) (3 * (w * h))) 2 _ 0 (λ z. omega arith) (c .1) in
+    let f = held (eqb list 4096) 2 _ 0 (λ z. omega arith) (d .1) in
+    let g = held (eqb scratch 4096) 2 0 0 (λ z. omega arith) (f .1) in
+    let s = allowed w h mode (a .0) (b .0) in
+    record {
+      picture = record {
+        wide = s .some-w;
+        wider = s .most-w;
+        high = s .some-h;
+        higher = s .most-h;
+        pixels = eqb-true (length p) (3 * (w * h)) (d .0);
+        quants = good-set q (c .0);
+      };
+      small = ⊎-elim {C = mode < 16} (λ z. omega arith) (λ z. omega arith) (s .mode);
+      first = eqb-true list 4096 (f .0);
+      second = eqb-true scratch 4096 (g .0);
+    }
+
+-- the size has been judged: no product of it is too big
+pub size-small : (w h : ℕ) → w ≤ 4096 → h ≤ 2048 → w * h ≤ 8388608
+size-small w h a b = mul-le-mul {n₂ = 4096} {m₂ = 2048} a b
+
+-- ---- the answers
+
+refused : (f x : ℕ) (bytes out : List ℕ) → x ≡ f → (x ≡ 0 → ⊥) → Wrote f bytes out out (Refused x)
+unfolding writingNumber writingLength lengthSaid outLeft
+refused zero x bytes out e h = absurd (h e)
+refused (suc f) x bytes out e h = record { number = e; said = refl; left = refl }
+
+done : (f k : ℕ) (bytes out out′ : List ℕ) → 0 ≡ f → k ≡ length bytes → out′ ≡ written bytes out → Wrote f bytes out out′ (Done k)
+unfolding writingNumber writingLength lengthSaid outLeft
+done zero k bytes out out′ e l w = record { number = refl; said = l; left = w }
+done (suc f) k bytes out out′ e l w = absurd (omega arith)
+
+module _ (index w h mode : ℕ) (q p out : List ℕ) (n : ℕ) (count : n ≡ tilesNo w h) (s : Sized) (m : Measures (refusals p w h mode q n 0) (length (tilesOf (tileP p w h mode q) n 0)) s) where
+  frame-is : frameOf index w h mode q n (tileP p w h mode q) ≡ frameP index w h mode q p
+  unfolding frameP
+  frame-is = ap (λ (k : ℕ). frameOf index w h mode q k (tileP p w h mode q)) count
+
+  first-is : s .number ≡ refusals p w h mode q (tilesNo w h) 0
+  first-is = m .number ∙ ap (λ (k : ℕ). refusals p w h mode q k 0) count
+
+  pub send-stop : (s .number ≡ 0 → ⊥) → Wrote (sendFault index w h mode q p (length out)) (frameP index w h mode q p) out out (Refused (s .number))
+  unfolding sendFault
+  send-stop f = refused _ (s .number) _ out (stops _ _ _ (λ z. f (first-is ∙ z)) first-is) f
+
+  module _ (e : s .number ≡ 0) where
+    frame-size : length (frameP index w h mode q p) ≡ 72 + s .size
+    frame-size = sym (ap length frame-is) ∙ (frame-long index w h mode q n (tileP p w h mode q) ∙ ap (λ (k : ℕ). 72 + k) (sym (m .size e)))
+
+    pub send-room : length out < 72 + s .size → Wrote (sendFault index w h mode q p (length out)) (frameP index w h mode q p) out out (Refused 13)
+    unfolding sendFault
+    send-room l =
+        refused _ 13 _ out (goes-on _ _ _ (sym first-is ∙ e) (fails _ _ _ _ (lt-leb (length (frameP index w h mode q p)) (length out) (omega (arith, frame-size))) refl)) (λ y. omega arith)
+
+    pub send-done : 72 + s .size ≤ length out → (out′ : List ℕ) (k : ℕ) → out′ ≡ written (frameOf index w h mode q n (tileP p w h mode q)) out → k ≡ length (frameOf index w h mode q n (tileP p w h mode q)) →
+        Wrote (sendFault index w h mode q p (length out)) (frameP index w h mode q p) out out′ (Done k)
+    unfolding sendFault
+    send-done l out′ k w′ lk =
+        done _ k _ out out′ (goes-on _ _ _ (sym first-is ∙ e) (passes _ _ _ _ (le-leb (length (frameP index w h mode q p)) (length out) (omega (arith, frame-size))) refl))
+        (lk ∙ ap length frame-is) (w′ ∙ ap (λ (y : List ℕ). written y out) frame-is)
+
+untouched : (f x : ℕ) (xs : List ℤ) → x ≡ f → (x ≡ 0 → ⊥) → xs ≡ workLeft f xs
+unfolding workLeft
+untouched zero x xs e h = absurd (h e)
+untouched (suc f) x xs e h = refl
+
+cleared : (f : ℕ) (xs ys : List ℤ) → 0 ≡ f → ys ≡ replicate 4096 (pos 0) → ys ≡ workLeft f xs
+unfolding workLeft
+cleared zero xs ys e c = c
+cleared (suc f) xs ys e c = absurd (omega arith)
+
+onward : (f g : ℕ) (bytes out out′ : List ℕ) (r : Writing) → 0 ≡ f → Wrote g bytes out out′ r → Wrote (f ⨟ g) bytes out out′ r
+unfolding _⨟_
+onward zero g bytes out out′ r e w = w
+onward (suc f) g bytes out out′ r e w = absurd (omega arith)
+
+module _ (w h mode : ℕ) (q : List ℕ) (index : ℕ) (p : List ℕ) (list scratch : List ℤ) (out : List ℕ) (x : ℕ) (is : x ≡ argFault w h mode q (length p) (length list) (length scratch)) where
+  pub all-refused : (x ≡ 0 → ⊥) → FrameWritten w h mode q index p list list scratch scratch out out (Refused x)
+  all-refused f = record {
+    wrote = refused _ x _ out (stops _ _ _ (λ z. f (is ∙ z)) is) f;
+    first = untouched _ x list is f;
+    second = untouched _ x scratch is f;
+  }
+
+  pub all-sent : x ≡ 0 → (list′ scratch′ : List ℤ) (out′ : List ℕ) (r : Writing) → Wrote (sendFault index w h mode q p (length out)) (frameP index w h mode q p) out out′ r →
+      list′ ≡ replicate 4096 (pos 0) → scratch′ ≡ replicate 4096 (pos 0) → FrameWritten w h mode q index p list list′ scratch scratch′ out out′ r
+  all-sent z list′ scratch′ out′ r s c d = record {
+    wrote = onward _ _ _ out out′ r (sym z ∙ is) s;
+    first = cleared _ list list′ (sym z ∙ is) c;
+    second = cleared _ scratch scratch′ (sym z ∙ is) d;
+  }
+
+-- ---- the promise leaves one answer, one output and one content of each work list
+
+-- a done answer says a length that no refusal says
+some-frame : (index w h mode : ℕ) (q p : List ℕ) → 0 < length (frameP index w h mode q p)
+unfolding frameP
+some-frame index w h mode q p = omega (arith, frame-long index w h mode q (tilesNo w h) (tileP p w h mode q))
+
+wrote-answer : (f : ℕ) (bytes out out′ : List ℕ) (r : Writing) → 0 < length bytes → Wrote f bytes out out′ r → r ≡ answerOf f bytes
+unfolding writingNumber writingLength lengthSaid
+wrote-answer zero bytes out out′ (Done k) s w = ap Done (w .said)
+wrote-answer zero bytes out out′ (Refused k) s w = absurd (omega (arith, w .said))
+wrote-answer (suc f) bytes out out′ (Done k) s w = absurd (omega (arith, w .number))
+wrote-answer (suc f) bytes out out′ (Refused k) s w = ap Refused (w .number)
+
+pub frame-once : (w h mode : ℕ) (q : List ℕ) (index : ℕ) (p : List ℕ) (list a a′ scratch b b′ : List ℤ) (out c c′ : List ℕ) (r r′ : Writing) →
+    FrameWritten w h mode q index p list a scratch b out c r → FrameWritten w h mode q index p list a′ scratch b′ out c′ r′ → (r ≡ r′) × (a ≡ a′) × (b ≡ b′) × (c ≡ c′)
+frame-once w h mode q index p list a a′ scratch b b′ out c c′ r r′ x y =
+    let s = some-frame index w h mode q p in
+    (wrote-answer _ _ out c r s (x .wrote) ∙ sym (wrote-answer _ _ out c′ r′ s (y .wrote)), x .first ∙ sym (y .first), x .second ∙ sym (y .second), x .wrote .left ∙ sym (y .wrote .left))

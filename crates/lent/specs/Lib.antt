@@ -1,4 +1,0 @@
-pub mod Hash
-pub mod HashLaws
-pub mod Filled
-pub mod FilledLaws

@@ -1,5 +1,0 @@
-pub mod Line
-pub mod LineLaws
-pub mod Rows
-pub mod More
-pub mod Cases

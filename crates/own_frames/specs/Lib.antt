@@ -1,3 +1,0 @@
-pub mod Own
-pub mod OwnLaws
-pub mod OurFrames

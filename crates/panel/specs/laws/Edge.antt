@@ -1,0 +1,44 @@
+-- The calls for C are the panel's own: each promise follows from that call's answer, and gives it back, so the demands hold of them too. And each
+-- promise leaves one number, one value and one content of every list.
+use Prim.Native.Nat.{ℕ}
+use mathlib.Core.Path.{_≡_, refl, ap, _∙_, subst}
+use mathlib.Core.List.{List}
+use lib.IntN.{ℤ}
+use Rattle.session.specs.declared.Session.{Session}
+use Rattle.code.specs.declared.read.Reading.{Reading}
+use Rattle.code.specs.Read.{readingNumber, readingBits, ComponentRead}
+use Rattle.code_write.specs.declared.call.Writing.{Writing}
+use Rattle.code_write.specs.Write.{writingNumber, writingLength, Wrote}
+use Rattle.frame_write.specs.FrameWrite.{FrameWritten}
+use Rattle.panel.specs.declared.HeaderReading.{HeaderReading}
+use Rattle.panel.specs.declared.FrameReading.{FrameReading}
+use Rattle.panel.specs.Panel.{headerNumber, headerRecord, headerReading, frameReadingNumber, frameReadingTiles, FrameRead}
+use Rattle.panel.specs.Edge.{ReadHeaderCall, ReadFrameCall, ReadComponentCall, WriterCall, WriteFrameCall}
+
+-- ---- from the panel's calls
+
+pub header-call : (s s′ : Session) (m : List ℕ) (n : ℕ) (h : HeaderReading) → h ≡ headerReading s m → n ≡ headerNumber h → s′ ≡ headerRecord h s → ReadHeaderCall s s′ m n
+header-call s s′ m n h e f g = record { number = f ∙ ap headerNumber e; session = g ∙ ap (λ (x : HeaderReading). headerRecord x s) e }
+
+pub frame-call :
+    (s : Session) (m pic : List ℕ) (y cb cr tmp : List ℤ) (pic′ : List ℕ) (y′ cb′ cr′ tmp′ : List ℤ) (tiles n : ℕ) (r : FrameReading) →
+    FrameRead s m pic y cb cr tmp pic′ y′ cb′ cr′ tmp′ r → tiles ≡ frameReadingTiles r → n ≡ frameReadingNumber r →
+    ReadFrameCall s s m pic y cb cr tmp pic′ y′ cb′ cr′ tmp′ tiles n
+frame-call s m pic y cb cr tmp pic′ y′ cb′ cr′ tmp′ tiles n r p e f =
+    record { number = f ∙ ap frameReadingNumber (p .answer); count = e ∙ ap frameReadingTiles (p .answer); session = refl; lists = subst (FrameRead s m pic y cb cr tmp pic′ y′ cb′ cr′ tmp′) (p .answer) p }
+
+pub component-call :
+    (mode : ℕ) (s : List ℕ) (before after : List ℤ) (bits n : ℕ) (r : Reading) → ComponentRead mode s before after r → bits ≡ readingBits r → n ≡ readingNumber r →
+    ReadComponentCall mode s before after bits n
+component-call mode s before after bits n r p e f =
+    record { number = f ∙ ap readingNumber (p .answer); long = e ∙ ap readingBits (p .answer); list = subst (ComponentRead mode s before after) (p .answer) p }
+
+pub write-call : (f : ℕ) (bytes out out′ : List ℕ) (size n : ℕ) (r : Writing) → Wrote f bytes out out′ r → size ≡ writingLength r → n ≡ writingNumber r → WriterCall f bytes out out′ size n
+write-call f bytes out out′ size n r w e g = record { number = g ∙ w .number; long = e ∙ w .said; left = w .left }
+
+pub frame-write-call :
+    (w h mode : ℕ) (q : List ℕ) (index : ℕ) (p : List ℕ) (list list′ scratch scratch′ : List ℤ) (out out′ : List ℕ) (size n : ℕ) (r : Writing) →
+    FrameWritten w h mode q index p list list′ scratch scratch′ out out′ r → size ≡ writingLength r → n ≡ writingNumber r →
+    WriteFrameCall w h mode q index p list list′ scratch scratch′ out out′ size n
+frame-write-call w h mode q index p list list′ scratch scratch′ out out′ size n r x e g =
+    record { wrote = write-call _ _ _ _ _ _ r (x .wrote) e g; first = x .first; second = x .second }

@@ -1,2 +1,0 @@
-pub mod Play
-pub mod PlayLaws

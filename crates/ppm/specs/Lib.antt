@@ -1,2 +1,0 @@
-pub mod Ppm
-pub mod PpmLaws

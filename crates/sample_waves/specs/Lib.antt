@@ -1,3 +1,0 @@
-pub mod Range
-pub mod Waves
-pub mod WavesLaws

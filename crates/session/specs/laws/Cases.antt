@@ -1,0 +1,25 @@
+-- Cases of 01 on the header call, computed by the definitions.
+use mathlib.Core.Path.{refl}
+use Rattle.wire.specs.Le.{le16, le32}
+use Rattle.whole.specs.Row.{_!_⨾_, _⇒_∣_, _⨟_}
+use Rattle.session.specs.Header.{sizeGood, modeGood, made, ready, due, sizeOf, syncJudge, versionsJudge, channelsJudge, propertiesGood, contextJudge, etOf, syncFault, versionsFault, channelsFault, contextFault, fieldFault, headJudge, headerFault, recordAfter, headerOf}
+use Rattle.session.specs.Cases.{Cases}
+
+pub cases : Cases
+unfolding le16 le32 _!_⨾_ _⇒_∣_ _⨟_ sizeGood modeGood made ready due sizeOf syncJudge versionsJudge channelsJudge propertiesGood contextJudge etOf syncFault versionsFault channelsFault contextFault fieldFault headJudge headerFault recordAfter headerOf
+cases = record {
+  sync-taken = refl;
+  versions-taken = refl;
+  channels-taken = refl;
+  rlgr3-taken = refl;
+  rlgr1-taken = refl;
+  wide-taken = refl;
+  wide-refused = refl;
+  sync-again = refl;
+  sync-unmade = refl;
+  early = refl;
+  unmade = refl;
+  more = refl;
+  cut = refl;
+  is-ready = refl;
+}

@@ -1,4 +1,0 @@
-pub mod Component
-pub mod ComponentLaws
-pub mod Word
-pub mod WordLaws

@@ -1,0 +1,38 @@
+-- One component of a tile, from its code to its 64 x 64 samples (01, "Order": "then Y, Cb, Cr: code, then LL3 sums and scaling (9)").
+use Prim.Native.Nat.{ℕ}
+use mathlib.Core.Path.{_≡_}
+use mathlib.Core.List.{List}
+use lib.Dec.{eqb}
+use lib.IntN.{ℤ}
+use Rattle.whole.specs.Row.{_!_⨾_, _⨟_}
+use Rattle.bands.specs.Bands.{sumsFault, summed, scaleFault, scaledBy}
+use Rattle.code.specs.Read.{readFault, decoded, readInto}
+use Rattle.wave_back.specs.Tile.{tileBack}
+
+-- the first fault of a component: of the mode, its quantisers (ten values) and the bytes of its code
+unfoldable pub componentFault : ℕ → List ℕ → List ℕ → ℕ
+componentFault mode q s =
+    readFault mode 4096 s ⨟
+    sumsFault (decoded mode s) ⨟
+    scaleFault q (summed (decoded mode s))
+
+-- "sum first, then scale"
+unfoldable pub coefficientsOf : ℕ → List ℕ → List ℕ → List ℤ
+coefficientsOf mode q s = scaledBy q (summed (decoded mode s))
+
+unfoldable pub samplesOf : ℕ → List ℕ → List ℕ → List ℤ
+samplesOf mode q s = tileBack (coefficientsOf mode q s)
+
+-- the work list at exit, by the first fault: as the component reader leaves it where the code is refused (untouched, or zeros), the sums
+-- where one of them is out of range, else the scaled values, all of them in range or not
+unfoldable pub coefficientsInto : ℕ → List ℕ → List ℕ → List ℤ → List ℤ
+coefficientsInto mode q s before =
+    eqb (readFault mode 4096 s) 0 ! readInto mode s before ⨾
+    eqb (sumsFault (decoded mode s)) 0 ! summed (decoded mode s) ⨾
+    coefficientsOf mode q s
+
+-- what decoding says and leaves, for every code and list: the number and the list; where the number is 0, the list is the coefficients
+pub record Coefficients (mode : ℕ) (q s : List ℕ) (before after : List ℤ) (r : ℕ) : Type 0 where
+  pub number : r ≡ componentFault mode q s
+  pub into : after ≡ coefficientsInto mode q s before
+  pub list : r ≡ 0 → after ≡ coefficientsOf mode q s

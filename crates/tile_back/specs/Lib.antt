@@ -1,0 +1,4 @@
+pub mod Cases
+pub mod Component
+pub mod Word
+pub mod laws

@@ -1,0 +1,55 @@
+// One tile of document 01's frames, read: a component's code to its coefficients and its 64 x 64 samples ("code, then LL3 sums and
+// scaling"), and three lists of samples to the picture's words. One function serves the check pass (its number) and the draw pass (its list).
+use bands::Quant;
+ghost use mathlib.Core.Path.{_≡_};
+ghost use Prim.Native.Nat.{_+_, _*_, _<_};
+ghost use lib.ListN.{length};
+ghost use Rattle.bands.specs.Bands.{QuantGood};
+ghost use Rattle.tile_back.specs.Component.{Coefficients, componentFault, samplesOf};
+ghost use Rattle.tile_back.specs.Word.{Plane, wordAt, WordsRow};
+
+// The number of a component, and what the work list holds, whatever the number: on 0 the coefficients.
+pub fn coefficients(mode: u8, q: Quant, code: &[u8], work: &mut [i32]) -> u8
+    requires { ⌜ (length (now work) ≡ 4096) × QuantGood (q .v) ⌝ }
+    ensures { λ r. ⌜ Coefficients mode (q .v) (now (code .entry)) (now (work .entry)) (now (work .exit)) r ⌝ }
+{
+    let read = code::read::read_component(mode, code, work);
+    let n = code::read::reading_number(read);
+    if n != 0 {
+        return n;
+    }
+    let f = bands::sums(work);
+    if f != 0 {
+        return f;
+    }
+    bands::scale(work, q)
+}
+
+// The samples of a component that has been checked.
+pub fn samples(mode: u8, q: Quant, code: &[u8], work: &mut [i32], tmp: &mut [i32])
+    requires { ⌜ (length (now work) ≡ 4096) × (length (now tmp) ≡ 4096) × QuantGood (q .v) × (0 ≡ componentFault mode (q .v) (now code)) ⌝ }
+    ensures { λ _. ⌜ now (work .exit) ≡ samplesOf mode (q .v) (now (code .entry)) ⌝ }
+{
+    coefficients(mode, q, code, work);
+    wave_back::tile::tile_back(work, tmp);
+}
+
+// The word at place i of a tile.
+pub fn pixel(ys: &[i32], cbs: &[i32], crs: &[i32], i: usize) -> u16
+    requires { ⌜ (i < 4096) × Plane (now ys) × Plane (now cbs) × Plane (now crs) ⌝ }
+    ensures { λ r. ⌜ r ≡ wordAt (now (ys .entry)) (now (cbs .entry)) (now (crs .entry)) i ⌝ }
+{
+    colour::word(ys[i], cbs[i], crs[i])
+}
+
+// The 64 words of row y of a tile, in a loop of their own, so that they are made once and side by side.
+pub fn words_row(ys: &[i32], cbs: &[i32], crs: &[i32], y: usize, row: &mut [u16])
+    requires { ⌜ (y < 64) × (length (now row) ≡ 64) × Plane (now ys) × Plane (now cbs) × Plane (now crs) ⌝ }
+    ensures { λ _. ⌜ WordsRow (now (ys .entry)) (now (cbs .entry)) (now (crs .entry)) y (now (row .exit)) ⌝ }
+{
+    let mut x = 0;
+    while x < 64 {
+        row[x] = pixel(ys, cbs, crs, 64 * y + x);
+        x += 1;
+    }
+}

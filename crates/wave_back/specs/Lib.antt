@@ -1,0 +1,4 @@
+pub mod Cases
+pub mod Line
+pub mod Tile
+pub mod laws

@@ -1,0 +1,6 @@
+pub mod Cases
+pub mod Column
+pub mod Level
+pub mod Line
+pub mod Rows
+pub mod Tile

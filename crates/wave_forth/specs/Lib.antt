@@ -1,0 +1,3 @@
+pub mod Forth
+pub mod Halves
+pub mod laws

@@ -1,0 +1,5 @@
+pub mod Column
+pub mod Forth
+pub mod Halves
+pub mod Level
+pub mod Row

@@ -1,4 +1,0 @@
-pub mod Tile
-pub mod ColumnLaws
-pub mod LevelLaws
-pub mod TileLaws

@@ -1,0 +1,9 @@
+pub mod Fill
+pub mod Floor
+pub mod Holds
+pub mod More
+pub mod Part
+pub mod Put
+pub mod Row
+pub mod Tab
+pub mod Test
