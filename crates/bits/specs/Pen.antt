@@ -1,5 +1,5 @@
 -- What a pen has written.
-use Prim.Native.Nat.{ℕ, _+_, _*_, _^_, _≤_, _<_}
+use Prim.Native.Nat.{ℕ, _+_, _*_, _/_, _^_, _≤_, _<_}
 use mathlib.Core.Path.{_≡_}
 use mathlib.Core.Bool.{Bool}
 use mathlib.Core.List.{List, _++_}
@@ -29,6 +29,7 @@ pub record Put (before : List ℕ) (p : Pen) (after : List ℕ) (r : Pen) (bs : 
 
 -- the first `size` bytes after hold the pen's bits, padded with zeros, and no byte past them is changed
 pub record Closed (before : List ℕ) (p : Pen) (after : List ℕ) (size : ℕ) : Type 0 where
+  pub end : size ≡ p .at + (p .n + 7) / 8
   pub written : Written (take size after) (penBits before p)
   pub long : length after ≡ length before
   pub rest : drop size after ≡ drop size before

@@ -4,3 +4,4 @@ pub mod Gr
 pub mod Here
 pub mod Lead
 pub mod Pen
+pub mod PenOnce

@@ -14,7 +14,7 @@ use Rattle.bits.specs.Bytes.{Written}
 abbrev pub Bytes : List ℕ → Type 0
 Bytes s = (i : ℕ) → getD s i 0 < 256
 
-numBits-inj : (k a b : ℕ) → a < 2 ^ k → b < 2 ^ k → numBits k a ≡ numBits k b → a ≡ b
+pub numBits-inj : (k a b : ℕ) → a < 2 ^ k → b < 2 ^ k → numBits k a ≡ numBits k b → a ≡ b
 numBits-inj k a b ha hb e =
     let p = got-v (sym (num-put k a 0 0 []) ∙ ap (λ (l : List Bool). numOf k 0 0 (l ++ [])) e ∙ num-put k b 0 0 []) in
     omega (arith, p, mod-eq-of-lt ha, mod-eq-of-lt hb)

@@ -148,7 +148,7 @@ none a = refl
 
 pub close-even : (out : List ℕ) (p : Pen) → p .n ≡ 0 → Closed out p out (p .at)
 unfolding penBits
-close-even out p z = record { written = record { pad = 0; few = omega arith; bits = sym (append-nil _ ∙ ap (λ (l : List Bool). bitsOf (take (p .at) out) ++ l) (ap (λ (k : ℕ). numBits k (p .acc)) z ∙ none (p .acc)) ∙ append-nil (bitsOf (take (p .at) out))) }; long = refl; rest = refl }
+close-even out p z = record { end = omega (arith, z); written = record { pad = 0; few = omega arith; bits = sym (append-nil _ ∙ ap (λ (l : List Bool). bitsOf (take (p .at) out) ++ l) (ap (λ (k : ℕ). numBits k (p .acc)) z ∙ none (p .acc)) ∙ append-nil (bitsOf (take (p .at) out))) }; long = refl; rest = refl }
 
 pub close-byte : (out : List ℕ) (p : Pen) (x : ℕ) → x ≡ p .acc * 2 ^ (8 - p .n) → p .n < 8 → (p .n ≡ 0 → ⊥) → p .at < length out → Closed out p (set out (p .at) x) (p .at + 1)
 unfolding penBits bitsOf
@@ -157,6 +157,7 @@ close-byte out p x ex h z l =
     let e : p .n + (8 - p .n) ≡ 8 = omega arith in
     let w : numBits 8 x ≡ numBits (p .n) (p .acc) ++ replicate (8 - p .n) false = rw ex (ap (λ (m : ℕ). numBits m (p .acc * 2 ^ (8 - p .n))) (sym e) ∙ numBits-shift (8 - p .n) (p .n) (p .acc)) in
     record {
+      end = omega arith;
       written = record { pad = 8 - p .n; few = omega arith; bits = ap bitsOf t ∙ bitsOf-append (take (p .at) out) (x ∷ []) ∙ ap (λ (y : List Bool). bitsOf (take (p .at) out) ++ y) (append-nil (numBits 8 x) ∙ w) ∙ sym (append-assoc (bitsOf (take (p .at) out)) (numBits (p .n) (p .acc)) (replicate (8 - p .n) false)) };
       long = length-set out (p .at) x;
       rest = drop-set-lt (p .at + 1) out (p .at) x (omega arith);
