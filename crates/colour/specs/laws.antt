@@ -1,3 +1,5 @@
 pub mod Cases
 pub mod Colour
 pub mod Near
+pub mod Step
+pub mod Steps

@@ -1,3 +1,5 @@
+-- `colour::clamp` meets its contract: the three answers of the clamp (ColourLaws), by the two tests.
+-- Assumes nothing.
 use mathlib.Core.Path.{_≡_, _∙_, ap, sym, subst}
 use mathlib.Core.Bool.{true, false}
 use lib.Dec.{T}
@@ -12,23 +14,19 @@ use Rattle.colour.specs.laws.Colour.{clamp-low, clamp-high, clamp-mid}
 use Rattle.colour.proofs.clamp.Statement.{statement}
 use Rattle.colour.proofs.clamp.Tie as tie
 
-returns : tie.Need-returns
-returns c = clamp-low (c .before .args .x) (test-l (pos 0) true (c .before .fits .x) (c .if1 .taken))
+abbrev x : tie.Else2 → ℤ
+x c = c .before .before .args .x
 
-returns-2 : tie.Need-returns-2
-returns-2 c = clamp-high (c .before .before .args .x) (test-r (pos 255) true (c .before .before .fits .x) (c .if2 .taken))
-
-mid : (c : tie.Else2) → T (nonNeg (c .before .before .args .x)) × Fits w8 (natAbs (c .before .before .args .x)) × (natAbs (c .before .before .args .x) ≡ clampByte (c .before .before .args .x))
+mid : (c : tie.Else2) → T (nonNeg (x c)) × Fits w8 (natAbs (x c)) × (natAbs (x c) ≡ clampByte (x c))
 mid c =
-    clamp-mid (c .before .before .args .x) (test-l (pos 0) false (c .before .before .fits .x) (c .before .if1 .left))
-    (test-r (pos 255) false (c .before .before .fits .x) (c .if2 .left))
-
-cast-result : tie.Need-cast-result
-cast-result c =
-    subst (λ (s : ℤ). T (nonNeg s) × Fits w8 (natAbs s)) (sym (toZ-ofZ (c .before .before .fits .x))) (mid c .0, mid c .1)
-
-returns-3 : tie.Need-returns-3
-returns-3 c = ap natAbs (toZ-ofZ (c .before .before .fits .x)) ∙ mid c .2
+    let s = c .before .before in
+    clamp-mid (x c) (test-l (pos 0) false (s .fits .x) (c .before .if1 .left)) (test-r (pos 255) false (s .fits .x) (c .if2 .left))
 
 pub clamp-spec : {M : Type 1} → statement M
-clamp-spec = tie.close (tie.spec returns returns-2 cast-result returns-3)
+clamp-spec =
+    tie.close
+    (tie.spec
+    (λ c. clamp-low (c .before .args .x) (test-l (pos 0) true (c .before .fits .x) (c .if1 .taken)))
+    (λ c. let s = c .before .before in clamp-high (s .args .x) (test-r (pos 255) true (s .fits .x) (c .if2 .taken)))
+    (λ c. subst (λ (s : ℤ). T (nonNeg s) × Fits w8 (natAbs s)) (sym (toZ-ofZ (c .before .before .fits .x))) (mid c .0, mid c .1))
+    (λ c. ap natAbs (toZ-ofZ (c .before .before .fits .x)) ∙ mid c .2))

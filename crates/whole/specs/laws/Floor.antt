@@ -1,18 +1,15 @@
 -- Floors of sums and of floors: what lets a product of 38 bits be computed in 32.
 -- Assumes nothing.
 use mathlib.Core.Path.{_≡_, refl, sym, _∙_, ap}
-use mathlib.Core.Bool.{Bool, true, false, not, cond}
 use Prim.Native.Nat.{ℕ, zero, suc, _+_, _*_, _-_, _/_, _%_, _≤_, _<_}
 use native.Mathlib.Nat.{div-add-mod', mod-lt, div-div-eq-div-mul}
 use native.Mathlib.Omega.{arith}
 use lib.Arith.{digits-div}
-use lib.Dec.{T, ltb, ltb→lt, nltb→le}
-use lib.IntN.{ℤ, pos, negsuc, negℤ, sucℤ, predℤ, subℕ, _+ℤ_, _-ℤ_, _*ℤ_, +ℤ-assoc, +ℤ-comm, +ℤ-idl, zero-*ℤ, sucℤ-+ℤ, predℤ-+ℤ, sucℤ-*ℤ, predℤ-*ℤ}
+use lib.Dec.{ltb, ltb→lt, nltb→le}
+use lib.IntN.{ℤ, pos, negsuc, negℤ, subℕ, _+ℤ_, _-ℤ_, _*ℤ_, +ℤ-assoc, +ℤ-comm, +ℤ-negℤ-cancel}
 use lib.Signed.{shrZ}
-
-cond-ind : (c : Bool) (x y : ℤ) (P : ℤ → Type 0) → (T c → P x) → (T (not c) → P y) → P (cond c x y)
-cond-ind true x y P f g = f tt
-cond-ind false x y P f g = g tt
+use Rattle.whole.specs.Near.{cond-ind}
+use Rattle.whole.specs.Sums.{distrib}
 
 -- a - b: by cases, with the fact that omega wants
 pub sub-cases : (a b : ℕ) (P : ℤ → Type 0) → ((n : ℕ) → a + suc n ≡ b → P (negsuc n)) → ((n : ℕ) → a ≡ b + n → P (pos n)) → P (subℕ a b)
@@ -42,28 +39,6 @@ shr-digits (negsuc q) m r h =
     ap (λ (i : ℕ). negsuc (i / m)) e ∙ ap negsuc (digits-div q l))
     (λ n k. absurd (omega arith))
 
-swap : (a b c : ℤ) → a +ℤ b +ℤ c ≡ a +ℤ c +ℤ b
-swap a b c = +ℤ-assoc a b c ∙ ap (λ (z : ℤ). a +ℤ z) (+ℤ-comm b c) ∙ sym (+ℤ-assoc a c b)
-
-up : (a q k : ℤ) → (a +ℤ q) *ℤ k ≡ a *ℤ k +ℤ q *ℤ k → (sucℤ a +ℤ q) *ℤ k ≡ sucℤ a *ℤ k +ℤ q *ℤ k
-up a q k h =
-    ap (λ (z : ℤ). z *ℤ k) (sucℤ-+ℤ a q) ∙ sucℤ-*ℤ (a +ℤ q) k ∙ ap (λ (z : ℤ). z +ℤ k) h
-    ∙ swap (a *ℤ k) (q *ℤ k) k ∙ ap (λ (z : ℤ). z +ℤ q *ℤ k) (sym (sucℤ-*ℤ a k))
-
-down : (a q k : ℤ) → (a +ℤ q) *ℤ k ≡ a *ℤ k +ℤ q *ℤ k → (predℤ a +ℤ q) *ℤ k ≡ predℤ a *ℤ k +ℤ q *ℤ k
-down a q k h =
-    ap (λ (z : ℤ). z *ℤ k) (predℤ-+ℤ a q) ∙ predℤ-*ℤ (a +ℤ q) k ∙ ap (λ (z : ℤ). z -ℤ k) h
-    ∙ swap (a *ℤ k) (q *ℤ k) (negℤ k) ∙ ap (λ (z : ℤ). z +ℤ q *ℤ k) (sym (predℤ-*ℤ a k))
-
-none : (q k : ℤ) → (pos zero +ℤ q) *ℤ k ≡ pos zero *ℤ k +ℤ q *ℤ k
-none q k = ap (λ (z : ℤ). z *ℤ k) (+ℤ-idl q) ∙ sym (+ℤ-idl (q *ℤ k)) ∙ ap (λ (z : ℤ). z +ℤ q *ℤ k) (sym (zero-*ℤ k))
-
-pub distrib : (a q k : ℤ) → (a +ℤ q) *ℤ k ≡ a *ℤ k +ℤ q *ℤ k
-distrib (pos zero) q k = none q k
-distrib (pos (suc n)) q k = up (pos n) q k (distrib (pos n) q k)
-distrib (negsuc zero) q k = down (pos zero) q k (none q k)
-distrib (negsuc (suc n)) q k = down (negsuc n) q k (distrib (negsuc n) q k)
-
 -- shrZ is the floor, for a sceptical reader: z is m times it and a rest, and the rest is from 0 to m - 1
 pub rest : ℤ → ℕ → ℕ
 rest (pos a) m = a % m
@@ -82,6 +57,12 @@ floor-is (negsuc a) m h =
     let l : a % m < m = mod-lt a h in
     neg-plus (suc (a / m) * m) (m - suc (a % m)) (omega arith)
     ∙ sub-cases (m - suc (a % m)) (suc (a / m) * m) (λ z. z ≡ negsuc a) (λ n k. ap negsuc (omega arith)) (λ n k. absurd (omega arith))
+
+-- what m times the floor leaves
+pub rest-is : (z : ℤ) (m : ℕ) → 0 < m → z -ℤ shrZ z m *ℤ pos m ≡ pos (rest z m)
+rest-is z m h =
+    let q = shrZ z m *ℤ pos m in
+    ap (λ (x : ℤ). x -ℤ q) (sym (floor-is z m h) ∙ +ℤ-comm q (pos (rest z m))) ∙ +ℤ-negℤ-cancel (pos (rest z m)) q
 
 -- whole parts come out of a floor
 pub shr-sum : (a b : ℤ) (m : ℕ) → 0 < m → shrZ (a *ℤ pos m +ℤ b) m ≡ a +ℤ shrZ b m
