@@ -33,13 +33,15 @@ static void constants(void)
                                           "quant", "place", "range",  "overrun", "tail",   "order", "room"};
     static const int numbers[14] = {XURBALENZ_DONE,  XURBALENZ_CUT,   XURBALENZ_BUFFER, XURBALENZ_KIND,    XURBALENZ_LENGTH, XURBALENZ_FIELD, XURBALENZ_TOO_BIG,
                                     XURBALENZ_QUANT, XURBALENZ_PLACE, XURBALENZ_RANGE,  XURBALENZ_OVERRUN, XURBALENZ_TAIL,   XURBALENZ_ORDER, XURBALENZ_ROOM};
+    char version[40];
     int i;
     for (i = 0; i < 14; i++) CHECK(numbers[i] == i && strcmp(xurbalenz_word((uint8_t)i), words[i]) == 0);
     CHECK(strcmp(xurbalenz_word(14), "unknown") == 0 && strcmp(xurbalenz_word(255), "unknown") == 0);
     for (i = 0; i < 14; i++) CHECK(strlen(xurbalenz_says((uint8_t)i)) > 10 && strcmp(xurbalenz_says((uint8_t)i), xurbalenz_says(14)) != 0);
     CHECK(strcmp(xurbalenz_says(XURBALENZ_PLACE), "a tile starts outside the channel") == 0);
     CHECK(strcmp(xurbalenz_says(14), "a number that has no word here") == 0 && xurbalenz_says(255) == xurbalenz_says(14));
-    CHECK(XURBALENZ_VERSION >= 200 && strchr(XURBALENZ_VERSION_TEXT, '.') != NULL);
+    sprintf(version, "%d.%d.%d", XURBALENZ_VERSION / 10000, XURBALENZ_VERSION / 100 % 100, XURBALENZ_VERSION % 100);
+    CHECK(strcmp(version, XURBALENZ_VERSION_TEXT) == 0);
     CHECK(sizeof session == 8 && offsetof(XurbalenzSession, width) == 2 && offsetof(XurbalenzSession, height) == 4 &&
           offsetof(XurbalenzSession, mode) == 6);
     CHECK(XURBALENZ_TILES(70, 40) == 2 && XURBALENZ_TILES(64, 64) == 1 && XURBALENZ_TILES(4096, 2048) == 2048);
