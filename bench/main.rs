@@ -1,4 +1,4 @@
-// The benchmark: the library's calls (the archive of `rt staticlib panel`) beside plain Rust, both in one process, on the same inputs.
+// The benchmark: the library's calls (libxurbalenz.a, through the crate of bindings/rust) beside plain Rust, both in one process, on the same inputs.
 // First every list, code and picture is compared; then the sides take turns, and the best of N counts.
 //   main N        CPU time, best of N
 //   main count    each case once, inside a function mark_K, for callgrind (by name) or the qemu plugin (by the syscall before and after)
@@ -8,25 +8,10 @@ mod screens;
 use plain::{Lists, Size, PLACES};
 use screens::{HEIGHT, WIDTH};
 use std::hint::black_box;
-
-#[repr(C)]
-#[derive(Clone, Copy, Default)]
-struct Session {
-    headers: u8,
-    width: u16,
-    height: u16,
-    mode: u8,
-}
+use xurbalenz::edge::{self, read_component, write_component};
+use xurbalenz::{Quant, Session, HEADERS_SIZE};
 
 extern "C" {
-    fn xurbalenz_read_header(session: *mut Session, message: *const u8, len: usize) -> u8;
-    fn xurbalenz_read_frame(session: *mut Session, message: *const u8, len: usize, picture: *mut u16, words: usize, y: *mut i32, ny: usize,
-        cb: *mut i32, ncb: usize, cr: *mut i32, ncr: usize, scratch: *mut i32, nscratch: usize, tiles: *mut usize) -> u8;
-    fn xurbalenz_read_component(mode: u8, code: *const u8, len: usize, list: *mut i32, places: usize, bits: *mut usize) -> u8;
-    fn xurbalenz_write_component(mode: u8, list: *const i32, places: usize, out: *mut u8, room: usize, size: *mut usize) -> u8;
-    fn xurbalenz_write_headers(width: usize, height: usize, mode: u8, out: *mut u8, room: usize, size: *mut usize) -> u8;
-    fn xurbalenz_write_frame(width: usize, height: usize, mode: u8, quant: *const u8, index: u32, pixels: *const u8, len: usize,
-        list: *mut i32, places: usize, scratch: *mut i32, nscratch: usize, out: *mut u8, room: usize, size: *mut usize) -> u8;
     fn syscall(n: i64, id: i64) -> i64;
     fn clock_gettime(clock: i32, time: *mut [i64; 2]) -> i32;
 }
@@ -38,48 +23,22 @@ fn now() -> f64 {
     t[0] as f64 + t[1] as f64 * 1e-9
 }
 
-// ---- the library's calls
-
-fn read_component(mode: u8, code: &[u8], list: &mut [i32]) -> (u8, usize) {
-    let mut bits = 0;
-    let number = unsafe { xurbalenz_read_component(mode, code.as_ptr(), code.len(), list.as_mut_ptr(), list.len(), &mut bits) };
-    (number, bits)
-}
-
-fn write_component(mode: u8, list: &[i32], out: &mut [u8]) -> (u8, usize) {
-    let mut size = 0;
-    let number = unsafe { xurbalenz_write_component(mode, list.as_ptr(), list.len(), out.as_mut_ptr(), out.len(), &mut size) };
-    (number, size)
-}
+// ---- the library's calls, with a side's lists
 
 fn read_frame(s: &mut Session, m: &[u8], picture: &mut [u16], l: &mut Lists) -> (u8, usize) {
-    let mut tiles = 0;
-    let number = unsafe {
-        xurbalenz_read_frame(s, m.as_ptr(), m.len(), picture.as_mut_ptr(), picture.len(), l.y.as_mut_ptr(), l.y.len(), l.cb.as_mut_ptr(), l.cb.len(),
-            l.cr.as_mut_ptr(), l.cr.len(), l.sheet.as_mut_ptr(), l.sheet.len(), &mut tiles)
-    };
-    (number, tiles)
+    edge::read_frame(s, m, picture, &mut l.y, &mut l.cb, &mut l.cr, &mut l.sheet)
 }
 
-const QUANT: [u8; 10] = [6, 6, 6, 6, 7, 7, 8, 8, 8, 9];
-
 fn write_frame(mode: u8, pixels: &[u8], l: &mut Lists, out: &mut [u8]) -> (u8, usize) {
-    let mut size = 0;
-    let number = unsafe {
-        xurbalenz_write_frame(WIDTH, HEIGHT, mode, QUANT.as_ptr(), 1, pixels.as_ptr(), pixels.len(), l.y.as_mut_ptr(), l.y.len(),
-            l.cb.as_mut_ptr(), l.cb.len(), out.as_mut_ptr(), out.len(), &mut size)
-    };
-    (number, size)
+    edge::write_frame(WIDTH, HEIGHT, mode, &Quant::DEFAULT.0, 1, pixels, &mut l.y, &mut l.cb, out)
 }
 
 /// A session after our own four headers.
 fn session(mode: u8) -> Session {
-    let (mut s, mut out, mut size) = (Session::default(), [0u8; 47], 0);
-    assert_eq!(unsafe { xurbalenz_write_headers(WIDTH, HEIGHT, mode, out.as_mut_ptr(), out.len(), &mut size) }, 0);
-    let mut at = 0;
-    for n in [12, 10, 12, 13] {
-        assert_eq!(unsafe { xurbalenz_read_header(&mut s, out[at..].as_ptr(), n) }, 0);
-        at += n;
+    let (mut s, mut out) = (Session::default(), [0; HEADERS_SIZE]);
+    assert_eq!(edge::write_headers(WIDTH, HEIGHT, mode, &mut out), (0, HEADERS_SIZE));
+    for block in xurbalenz::header_blocks(&out) {
+        assert_eq!(edge::read_header(&mut s, block), 0);
     }
     s
 }

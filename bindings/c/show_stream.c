@@ -15,9 +15,9 @@
 #include <stdio.h>
 #include <stdlib.h>
 
-/* All that a session needs: the record, the picture, four work lists. */
+/* All that a session needs: the record, the picture, the work lists. */
 static XurbalenzSession session; /* static, so all 0: fresh */
-static int32_t y[XURBALENZ_LIST], cb[XURBALENZ_LIST], cr[XURBALENZ_LIST], scratch[XURBALENZ_LIST];
+static XurbalenzWork work;
 static uint16_t no_picture[1]; /* a slice of length 0 still has a pointer */
 static uint16_t *picture = no_picture;
 static size_t picture_width, picture_height;
@@ -105,8 +105,7 @@ static int header(const uint8_t *message, size_t length)
 static void frame(const uint8_t *message, size_t length)
 {
     size_t tiles;
-    uint8_t number = xurbalenz_read_frame(&session, message, length, picture, picture_width * picture_height, y, XURBALENZ_LIST, cb,
-                                          XURBALENZ_LIST, cr, XURBALENZ_LIST, scratch, XURBALENZ_LIST, &tiles);
+    uint8_t number = xurbalenz_read_frame_with(&session, message, length, picture, picture_width * picture_height, &work, &tiles);
     printf("frame, %zu bytes: %u %s; %zu tiles\n", length, number, xurbalenz_word(number), tiles);
 }
 

@@ -1,6 +1,7 @@
 /*
  * six_calls: every call of xurbalenz.h from C (and, the same file, from C++): arguments in their order, the value behind the last pointer, the
- * constants. The Rust tests look at much more; this one is here because a header that is wrong for C is not seen from Rust.
+ * constants, the calls over a work struct. The Rust tests look at much more; this one is here because a header that is wrong for C is not seen
+ * from Rust.
  */
 #include "xurbalenz.h"
 #include "xurbalenz.h" /* twice: it is guarded */
@@ -32,9 +33,15 @@ static void constants(void)
                                           "quant", "place", "range",  "overrun", "tail",   "order", "room"};
     static const int numbers[14] = {XURBALENZ_DONE,  XURBALENZ_CUT,   XURBALENZ_BUFFER, XURBALENZ_KIND,    XURBALENZ_LENGTH, XURBALENZ_FIELD, XURBALENZ_TOO_BIG,
                                     XURBALENZ_QUANT, XURBALENZ_PLACE, XURBALENZ_RANGE,  XURBALENZ_OVERRUN, XURBALENZ_TAIL,   XURBALENZ_ORDER, XURBALENZ_ROOM};
+    char version[40];
     int i;
     for (i = 0; i < 14; i++) CHECK(numbers[i] == i && strcmp(xurbalenz_word((uint8_t)i), words[i]) == 0);
     CHECK(strcmp(xurbalenz_word(14), "unknown") == 0 && strcmp(xurbalenz_word(255), "unknown") == 0);
+    for (i = 0; i < 14; i++) CHECK(strlen(xurbalenz_says((uint8_t)i)) > 10 && strcmp(xurbalenz_says((uint8_t)i), xurbalenz_says(14)) != 0);
+    CHECK(strcmp(xurbalenz_says(XURBALENZ_PLACE), "a tile starts outside the channel") == 0);
+    CHECK(strcmp(xurbalenz_says(14), "a number that has no word here") == 0 && xurbalenz_says(255) == xurbalenz_says(14));
+    sprintf(version, "%d.%d.%d", XURBALENZ_VERSION / 10000, XURBALENZ_VERSION / 100 % 100, XURBALENZ_VERSION % 100);
+    CHECK(strcmp(version, XURBALENZ_VERSION_TEXT) == 0);
     CHECK(sizeof session == 8 && offsetof(XurbalenzSession, width) == 2 && offsetof(XurbalenzSession, height) == 4 &&
           offsetof(XurbalenzSession, mode) == 6);
     CHECK(XURBALENZ_TILES(70, 40) == 2 && XURBALENZ_TILES(64, 64) == 1 && XURBALENZ_TILES(4096, 2048) == 2048);
@@ -94,13 +101,67 @@ static void frames(uint8_t mode)
     CHECK(i == 70 * 40 && picture[i] == 0); /* all white, and the word behind the channel as it was */
 }
 
+/* Do the numbers of a list have this value? */
+static int all(const int32_t *list, int32_t value)
+{
+    int i = 0;
+    while (i < XURBALENZ_LIST && list[i] == value) i++;
+    return i == XURBALENZ_LIST;
+}
+
+static void fill(struct XurbalenzWork *work)
+{
+    int i;
+    for (i = 0; i < XURBALENZ_LIST; i++) work->y[i] = work->cb[i] = work->cr[i] = work->scratch[i] = 7;
+}
+
+/* The calls over a work struct answer and leave memory as the raw ones do, whatever the struct holds. */
+static void works(uint8_t mode)
+{
+    static const uint8_t quant[10] = XURBALENZ_DEFAULT_QUANT, coarse[10] = {16, 6, 6, 6, 7, 7, 8, 8, 8, 9};
+    static struct XurbalenzWork work; /* tag and name are one type */
+    static uint8_t again[sizeof out];
+    static uint16_t shown[70 * 40 + 1];
+    struct XurbalenzSession *s = &session;
+    size_t size = 9, tiles = 9, n = 9, i;
+    CHECK(sizeof work == 4 * 4 * 4096 && sizeof work.y == 4 * XURBALENZ_LIST);
+    for (i = 0; i < sizeof pixels; i++) pixels[i] = (uint8_t)(i * i >> 5);
+    memset(out, 0xA5, sizeof out);
+    memset(again, 0xA5, sizeof again);
+    fill(&work);
+    CHECK(xurbalenz_write_frame_with(70, 40, mode, coarse, 5, pixels, sizeof pixels, &work, again, sizeof again, &n) == XURBALENZ_QUANT && n == 0);
+    CHECK(xurbalenz_write_frame_with(70, 40, mode, quant, 5, pixels, sizeof pixels - 1, &work, again, sizeof again, &n) == XURBALENZ_BUFFER && n == 0);
+    CHECK(all(work.y, 7) && all(work.scratch, 7));
+    CHECK(xurbalenz_write_frame_with(70, 40, mode, quant, 5, pixels, sizeof pixels, &work, again, sizeof again, &n) == XURBALENZ_DONE && n > 72);
+    CHECK(all(work.y, 0) && all(work.cb, 7) && all(work.cr, 7) && all(work.scratch, 0));
+    CHECK(xurbalenz_write_frame(70, 40, mode, quant, 5, pixels, sizeof pixels, y, XURBALENZ_LIST, scratch, XURBALENZ_LIST, out, sizeof out,
+                                &size) == XURBALENZ_DONE &&
+          size == n && memcmp(out, again, sizeof out) == 0);
+    CHECK(xurbalenz_write_frame_with(70, 40, mode, quant, 5, pixels, sizeof pixels, &work, again, size - 1, &n) == XURBALENZ_ROOM && n == 0);
+    fill(&work);
+    memset(shown, 0, sizeof shown);
+    CHECK(xurbalenz_read_frame_with(s, out, size, shown, 70 * 40 - 1, &work, &tiles) == XURBALENZ_BUFFER && tiles == 0 && all(work.y, 7));
+    CHECK(xurbalenz_read_frame_with(s, out, size - 1, shown, 70 * 40, &work, &tiles) == XURBALENZ_CUT && tiles == 0 && shown[0] == 0);
+    CHECK(all(work.y, 0) && all(work.cb, 0) && all(work.cr, 0) && all(work.scratch, 0));
+    fill(&work);
+    CHECK(xurbalenz_read_frame_with(s, out, size, shown, 70 * 40, &work, &tiles) == XURBALENZ_DONE && tiles == 2);
+    CHECK(all(work.y, 0) && all(work.cb, 0) && all(work.cr, 0) && all(work.scratch, 0));
+    CHECK(xurbalenz_read_frame(s, out, size, picture, 70 * 40, y, XURBALENZ_LIST, cb, XURBALENZ_LIST, cr, XURBALENZ_LIST, scratch,
+                               XURBALENZ_LIST, &tiles) == XURBALENZ_DONE &&
+          tiles == 2 && memcmp(picture, shown, sizeof picture) == 0 && picture[0] != 0xFFFF);
+    memset(s, 0, sizeof *s); /* fresh */
+    CHECK(xurbalenz_read_frame_with(s, out, size, shown, 70 * 40, &work, &tiles) == XURBALENZ_ORDER && tiles == 0);
+}
+
 int main(void)
 {
     constants();
     components(XURBALENZ_RLGR1);
     components(XURBALENZ_RLGR3);
     frames(XURBALENZ_RLGR1);
+    works(XURBALENZ_RLGR1);
     frames(XURBALENZ_RLGR3);
+    works(XURBALENZ_RLGR3);
     printf("six_calls: %d checks, %d faults\n", checks, faults);
     return faults != 0;
 }

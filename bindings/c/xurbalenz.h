@@ -1,7 +1,7 @@
 /*
  * xurbalenz.h - RemoteFX (MS-RDPRFX) pictures for the door glass: six calls, proved for every input.
  *
- * Link target/staticlib/libpanel.a (made by `rt staticlib panel`, x86-64). Its functions read four header blocks and whole frames into a
+ * Link target/staticlib/libxurbalenz.a (made by `tools/archive`, x86-64). Its functions read four header blocks and whole frames into a
  * lent picture of 16-bit words, and write headers, components and frames.
  *
  * WHAT YOU CAN RELY ON
@@ -23,8 +23,14 @@
  * THREADS, MEMORY, TIME
  *  - No global state, no allocation, no input or output, no locks: calls on different memory may run at the same time. One record, picture
  *    or list belongs to one call at a time.
- *  - Stack: a few KB, see docs/BENCH.md.
  *  - A frame is read twice, once to judge it and once to draw it, so a bad last tile costs the time of judging those before it.
+ *
+ * WHAT THE ARCHIVE NEEDS
+ *  - Any x86-64 processor (SSE2 and nothing newer) and the System V calling convention, as on Linux. It is position independent: programs and
+ *    shared objects may hold it.
+ *  - memset, and nothing else, of a C library.
+ *  - 1,024 bytes of stack (XURBALENZ_STACK), whatever the input: no function calls itself. Measured were 889 for a frame written and 760 for one
+ *    read (docs/BENCH.md). A dynamic linker that looks memset up at its first call takes more of its own then.
  *
  * The numbers, and the rules behind every sentence here, are the project's requirements; docs/PROMISES.md names the theorem for each.
  */
@@ -37,6 +43,10 @@
 #ifdef __cplusplus
 extern "C" {
 #endif
+
+/* The version of this header: 10,000 x major + 100 x minor + patch, and as text. The Rust crate has the same. */
+#define XURBALENZ_VERSION 200
+#define XURBALENZ_VERSION_TEXT "0.2.0"
 
 /* ---- the numbers the fitter sees ---- */
 
@@ -63,6 +73,26 @@ static inline const char *xurbalenz_word(uint8_t number)
     return number < sizeof words / sizeof words[0] ? words[number] : "unknown";
 }
 
+/* What a number says, for the fitter: printf("%u %s: %s\n", number, xurbalenz_word(number), xurbalenz_says(number)); */
+static inline const char *xurbalenz_says(uint8_t number)
+{
+    static const char *const sentences[] = {"all that was asked",
+                                            "a block, or the code being read, needs more than is there",
+                                            "a list is not 4,096 numbers, or a picture or the pixels do not have their length",
+                                            "not a block type that is taken or due here",
+                                            "a length disagrees with the layout, or bytes follow the last block",
+                                            "a fixed field differs, or size or mode is not allowed",
+                                            "over 256 rectangles, 2,048 tiles, or 65,535 bytes in a component",
+                                            "a quantiser outside 6 to 15, or an index with no set",
+                                            "a tile starts outside the channel",
+                                            "a coefficient, LL3 sum or scaled value outside -32,767 to 32,767",
+                                            "a value with no place left for it",
+                                            "more than filling follows the 4,096th value",
+                                            "a header that is not due, or a frame before all four headers",
+                                            "the output is shorter than what is to be written"};
+    return number < sizeof sentences / sizeof sentences[0] ? sentences[number] : "a number that has no word here";
+}
+
 /* ---- sizes and settings ---- */
 
 #define XURBALENZ_RLGR1 1 /* the two modes of the component code (et in the context header) */
@@ -73,6 +103,7 @@ static inline const char *xurbalenz_word(uint8_t number)
 #define XURBALENZ_MAX_HEIGHT 2048      /* and 1 to 2,048 high */
 #define XURBALENZ_HEADERS_SIZE 47      /* the four header blocks: 12, 10, 12 and 13 bytes */
 #define XURBALENZ_MAX_COMPONENT 65535u /* bytes in a component's code: an output of this size always has room for one */
+#define XURBALENZ_STACK 1024           /* bytes of stack with which every call runs, its arguments counted in */
 
 /* The ten quantisers that servers commonly send, in a set's own order: LL3, LH3, HL3, HH3, LH2, HL2, HH2, LH1, HL1, HH1. Each value is
    6 (finest) to 15 (coarsest). Use: const uint8_t quant[10] = XURBALENZ_DEFAULT_QUANT; */
@@ -88,7 +119,7 @@ static inline const char *xurbalenz_word(uint8_t number)
 /* How many headers are in (0 to 4), the channel's width and height, and the mode. All 0 when fresh: XurbalenzSession s = {0, 0, 0, 0};
    Only xurbalenz_read_header changes it. A record that no calls could have made (a stray write, a stale copy) is answered 12 where a record
    is judged, and a good sync still starts it over. */
-typedef struct {
+typedef struct XurbalenzSession {
     uint8_t headers;
     uint16_t width;
     uint16_t height;
@@ -182,6 +213,34 @@ uint8_t xurbalenz_write_headers(size_t width, size_t height, uint8_t mode, uint8
 uint8_t xurbalenz_write_frame(size_t width, size_t height, uint8_t mode, const uint8_t quant[10], uint32_t index, const uint8_t *pixels,
                               size_t pixels_len, int32_t *list, size_t list_len, int32_t *scratch, size_t scratch_len, uint8_t *out,
                               size_t out_len, size_t *size);
+
+/* ---- frames with the work lists in one struct ---- */
+
+/* The four work lists: 64 KiB, so static or from malloc rather than on a small stack. It need not be cleared, holds nothing between calls, and
+   may serve any number of sessions, one call at a time. */
+typedef struct XurbalenzWork {
+    int32_t y[XURBALENZ_LIST];
+    int32_t cb[XURBALENZ_LIST];
+    int32_t cr[XURBALENZ_LIST];
+    int32_t scratch[XURBALENZ_LIST];
+} XurbalenzWork;
+
+/* xurbalenz_read_frame with these lists: 2 can then only mean the picture. */
+static inline uint8_t xurbalenz_read_frame_with(XurbalenzSession *s, const uint8_t *message, size_t message_len, uint16_t *picture,
+                                                size_t picture_len, XurbalenzWork *work, size_t *tiles)
+{
+    return xurbalenz_read_frame(s, message, message_len, picture, picture_len, work->y, XURBALENZ_LIST, work->cb, XURBALENZ_LIST, work->cr,
+                                XURBALENZ_LIST, work->scratch, XURBALENZ_LIST, tiles);
+}
+
+/* xurbalenz_write_frame with the lists y and scratch of it: 2 can then only mean the pixels. cb and cr are not touched. */
+static inline uint8_t xurbalenz_write_frame_with(size_t width, size_t height, uint8_t mode, const uint8_t quant[10], uint32_t index,
+                                                 const uint8_t *pixels, size_t pixels_len, XurbalenzWork *work, uint8_t *out, size_t out_len,
+                                                 size_t *size)
+{
+    return xurbalenz_write_frame(width, height, mode, quant, index, pixels, pixels_len, work->y, XURBALENZ_LIST, work->scratch, XURBALENZ_LIST, out,
+                                 out_len, size);
+}
 
 #ifdef __cplusplus
 }

@@ -1,4 +1,4 @@
-//! Finds libpanel.a: in XURBALENZ_LIB_DIR, else where `rt staticlib panel` writes it.
+//! Finds libxurbalenz.a: in XURBALENZ_LIB_DIR, else where the repository's `tools/archive` leaves it.
 use std::{env, path::PathBuf, process::exit};
 
 fn main() {
@@ -8,12 +8,12 @@ fn main() {
         Some(dir) => PathBuf::from(dir),
         None => here.join("../../target/staticlib"),
     };
-    let archive = dir.join("libpanel.a");
+    let archive = dir.join("libxurbalenz.a");
     println!("cargo:rerun-if-changed={}", archive.display());
     if !archive.is_file() {
-        eprintln!("xurbalenz: {} is not there. Make it with `rt staticlib panel`, or name its folder in XURBALENZ_LIB_DIR.", archive.display());
+        eprintln!("xurbalenz: {} is not there. Make it with `tools/archive`, or name its folder in XURBALENZ_LIB_DIR.", archive.display());
         exit(1);
     }
     println!("cargo:rustc-link-search=native={}", dir.display());
-    println!("cargo:rustc-link-lib=static=panel");
+    println!("cargo:rustc-link-lib=static=xurbalenz");
 }

@@ -12,7 +12,7 @@
 
 use crate::Session;
 
-/// The archive's own functions, as in `bindings/c/xurbalenz.h`.
+/// The archive's own functions, as in `bindings/c/xurbalenz.h`. `tools/edge` holds them, and the safe calls below, to what the archive exports.
 mod archive {
     use crate::Session;
 
@@ -61,13 +61,15 @@ mod archive {
 // precondition and are proved to touch only what is lent.
 
 /// Reads one header block: the number. Refused, the record is what it was.
-pub fn read_header(session: &mut Session, message: &[u8]) -> u8 {
-    unsafe { archive::xurbalenz_read_header(session, message.as_ptr(), message.len()) }
+#[inline]
+pub fn read_header(s: &mut Session, message: &[u8]) -> u8 {
+    unsafe { archive::xurbalenz_read_header(s, message.as_ptr(), message.len()) }
 }
 
 /// Reads one frame and draws it: the number, and how many tiles it lists (0 when refused). See [`crate::read_frame`].
+#[inline]
 pub fn read_frame(
-    session: &mut Session,
+    s: &mut Session,
     message: &[u8],
     picture: &mut [u16],
     y: &mut [i32],
@@ -78,7 +80,7 @@ pub fn read_frame(
     let mut tiles = 0;
     let number = unsafe {
         archive::xurbalenz_read_frame(
-            session,
+            s,
             message.as_ptr(),
             message.len(),
             picture.as_mut_ptr(),
@@ -98,6 +100,7 @@ pub fn read_frame(
 }
 
 /// Reads one component's code: the number, and the code's length in bits (on 0 and 11, else 0). See [`crate::read_component`].
+#[inline]
 pub fn read_component(mode: u8, code: &[u8], list: &mut [i32]) -> (u8, usize) {
     let mut bits = 0;
     let number = unsafe { archive::xurbalenz_read_component(mode, code.as_ptr(), code.len(), list.as_mut_ptr(), list.len(), &mut bits) };
@@ -105,6 +108,7 @@ pub fn read_component(mode: u8, code: &[u8], list: &mut [i32]) -> (u8, usize) {
 }
 
 /// Writes one component's code: the number, and the bytes written (0 when refused). See [`crate::write_component_into`].
+#[inline]
 pub fn write_component(mode: u8, list: &[i32], out: &mut [u8]) -> (u8, usize) {
     let mut size = 0;
     let number = unsafe { archive::xurbalenz_write_component(mode, list.as_ptr(), list.len(), out.as_mut_ptr(), out.len(), &mut size) };
@@ -112,6 +116,7 @@ pub fn write_component(mode: u8, list: &[i32], out: &mut [u8]) -> (u8, usize) {
 }
 
 /// Writes the four header blocks: the number, and the bytes written (0 when refused). See [`crate::write_headers_into`].
+#[inline]
 pub fn write_headers(width: usize, height: usize, mode: u8, out: &mut [u8]) -> (u8, usize) {
     let mut size = 0;
     let number = unsafe { archive::xurbalenz_write_headers(width, height, mode, out.as_mut_ptr(), out.len(), &mut size) };
@@ -120,6 +125,7 @@ pub fn write_headers(width: usize, height: usize, mode: u8, out: &mut [u8]) -> (
 
 /// Writes one frame: the number, and the bytes written (0 when refused). See [`crate::write_frame_into`].
 #[allow(clippy::too_many_arguments)] // the archive's own list
+#[inline]
 pub fn write_frame(
     width: usize,
     height: usize,

@@ -1,4 +1,4 @@
-//! RemoteFX (MS-RDPRFX) pictures for the door glass of control cabinets: safe Rust over the proved library `libpanel.a`.
+//! RemoteFX (MS-RDPRFX) pictures for the door glass of control cabinets: safe Rust over the proved library `libxurbalenz.a`.
 //!
 //! Any bytes may be handed to any call. A frame is drawn whole, or refused by its first fault, and after a refusal the picture and the
 //! session are what they were. Nothing here panics on what comes from the wire.
@@ -9,7 +9,8 @@
 //! - [`edge`] has the six calls with plain numbers, as C sees them.
 //!
 //! The crate needs neither std nor any other crate, but `alloc` for [`Screen`] and the writers that return a `Vec`. It links
-//! `target/staticlib/libpanel.a` of the repository (make it with `rt staticlib panel`), or the one in the folder `XURBALENZ_LIB_DIR`.
+//! `target/staticlib/libxurbalenz.a` of the repository (make it with `tools/archive`), or the one in the folder `XURBALENZ_LIB_DIR`. That archive is
+//! x86-64 code and needs `memset`, less than 1 KiB of stack, and nothing else.
 //!
 //! ```
 //! use xurbalenz::{read_component, write_component, Mode};
@@ -51,6 +52,11 @@ pub const HEADERS_SIZE: usize = 47;
 pub const MAX_COMPONENT: usize = 65_535;
 
 /// The two modes of the component code.
+///
+/// ```
+/// use xurbalenz::Mode;
+/// assert_eq!((Mode::Rlgr3.number(), Mode::of(4), Mode::of(2)), (4, Some(Mode::Rlgr3), None));
+/// ```
 #[derive(Clone, Copy, Debug, PartialEq, Eq, Hash)]
 pub enum Mode {
     /// et = 1
@@ -80,6 +86,14 @@ impl Mode {
 
 /// A quantiser set: ten values, each 6 (finest) to 15 (coarsest), for the bands LL3, LH3, HL3, HH3, LH2, HL2, HH2, LH1, HL1, HH1 in this order
 /// (in each level LH comes before HL). A value outside is answered [`Refusal::Quant`].
+///
+/// ```
+/// use xurbalenz::{write_frame, Mode, Quant, Refusal};
+/// let (pixel, mut quant) = ([9, 99, 199], Quant::FINEST);
+/// assert!(write_frame(1, 1, Mode::Rlgr1, quant, 0, &pixel).is_ok());
+/// quant.0[9] = 16; // HH1
+/// assert_eq!(write_frame(1, 1, Mode::Rlgr1, quant, 0, &pixel), Err(Refusal::Quant));
+/// ```
 #[derive(Clone, Copy, Debug, PartialEq, Eq, Hash)]
 pub struct Quant(pub [u8; 10]);
 
@@ -120,6 +134,19 @@ const _: () = assert!(core::mem::size_of::<Session>() == 8 && core::mem::align_o
 impl Session {
     /// A record that was kept somewhere, by its four numbers. One that no calls could have made is answered [`Refusal::Order`] wherever a
     /// record is judged; a good sync starts it over.
+    ///
+    /// ```
+    /// use xurbalenz::{header_blocks, read_header, write_headers, Mode, Refusal, Session};
+    /// let headers = write_headers(70, 40, Mode::Rlgr1)?;
+    /// let blocks: Vec<&[u8]> = header_blocks(&headers).collect();
+    /// let mut session = Session::of_numbers(2, 0, 0, 0); // sync and versions are in
+    /// read_header(&mut session, blocks[2])?;
+    /// assert_eq!(session.numbers(), (3, 70, 40, 0));
+    /// let mut stray = Session::of_numbers(2, 70, 0, 0); // a width before the channels header
+    /// assert_eq!(read_header(&mut stray, blocks[2]), Err(Refusal::Order));
+    /// assert_eq!(read_header(&mut stray, blocks[0]), Ok(()));
+    /// # Ok::<(), Refusal>(())
+    /// ```
     pub const fn of_numbers(headers: u8, width: u16, height: u16, mode: u8) -> Session {
         Session { headers, width, height, mode }
     }
@@ -162,6 +189,18 @@ fn judged<T>(number: u8, value: T) -> Result<T, Refusal> {
 ///
 /// Judged in this order: head of 6 bytes (`Cut`), type (`Kind`), due (`Order`), blockLen (`Length`), whole block there (`Cut`), fields in wire
 /// order (`Field`), bytes after it (`Length`). Refused, the record is what it was.
+///
+/// ```
+/// use xurbalenz::{header_blocks, read_header, write_headers, Mode, Refusal, Session};
+/// let headers = write_headers(70, 40, Mode::Rlgr3)?;
+/// let mut session = Session::default();
+/// assert_eq!(read_header(&mut session, &headers), Err(Refusal::Length)); // one block a call
+/// for block in header_blocks(&headers) {
+///     read_header(&mut session, block)?;
+/// }
+/// assert_eq!((session.width(), session.height(), session.mode()), (70, 40, Some(Mode::Rlgr3)));
+/// # Ok::<(), Refusal>(())
+/// ```
 pub fn read_header(session: &mut Session, message: &[u8]) -> Result<(), Refusal> {
     judged(edge::read_header(session, message), ())
 }
@@ -174,6 +213,19 @@ pub fn read_header(session: &mut Session, message: &[u8]) -> Result<(), Refusal>
 /// Judged in this order: a record with all four headers (`Order`), lists and picture (`Buffer`), then the blocks in wire order, then tile by
 /// tile; `bindings/c/xurbalenz.h` has the order in full. Refused, the picture is what it was. The record is left equal in every case. The
 /// work lists are untouched on `Order` and `Buffer`, and hold only zeros after every other answer.
+///
+/// ```
+/// use xurbalenz::{read_frame, write_frame, Mode, Quant, Refusal, Session, LIST};
+/// let white = write_frame(70, 40, Mode::Rlgr1, Quant::DEFAULT, 0, &[255; 3 * 70 * 40])?;
+/// let mut session = Session::of_numbers(4, 70, 40, 1);
+/// let mut picture = [0; 70 * 40];
+/// let [mut y, mut cb, mut cr, mut scratch] = [[0; LIST]; 4];
+/// let mut show = |message: &[u8]| read_frame(&mut session, message, &mut picture, &mut y, &mut cb, &mut cr, &mut scratch);
+/// assert_eq!(show(&white[..white.len() - 1]), Err(Refusal::Cut)); // nothing is drawn
+/// assert_eq!(show(&white), Ok(2)); // two tiles
+/// assert_eq!(picture, [0xFFFF; 70 * 40]);
+/// # Ok::<(), Refusal>(())
+/// ```
 pub fn read_frame(
     session: &mut Session,
     message: &[u8],
@@ -206,6 +258,15 @@ pub fn read_component(mode: Mode, code: &[u8], list: &mut [i32]) -> Result<usize
 
 /// Writes a component's code into `out`: its length in bytes. The list has 4,096 numbers (`Buffer`) from -32,767 to 32,767 (`Range`); a code
 /// over 65,535 bytes is `TooBig`, one that `out` cannot hold is `Room`. Refused, `out` is untouched; done, so are the bytes past the length.
+///
+/// ```
+/// use xurbalenz::{write_component_into, Mode, Refusal};
+/// let mut out = [7; 4];
+/// assert_eq!(write_component_into(Mode::Rlgr3, &[0; 4096], &mut out), Ok(3));
+/// assert_eq!(out, [0, 0, 0, 7]);
+/// assert_eq!(write_component_into(Mode::Rlgr3, &[0; 4096], &mut out[..2]), Err(Refusal::Room));
+/// assert_eq!(write_component_into(Mode::Rlgr3, &[40_000; 4096], &mut out), Err(Refusal::Range));
+/// ```
 pub fn write_component_into(mode: Mode, list: &[i32], out: &mut [u8]) -> Result<usize, Refusal> {
     let (number, size) = edge::write_component(mode.number(), list, out);
     judged(number, size)
@@ -219,6 +280,13 @@ pub fn write_component(mode: Mode, list: &[i32]) -> Result<Vec<u8>, Refusal> {
 }
 
 /// Writes the four header blocks into `out`: 47. A size that is not allowed is `Field`, fewer than 47 bytes is `Room`.
+///
+/// ```
+/// use xurbalenz::{write_headers_into, Mode, Refusal, HEADERS_SIZE};
+/// let mut out = [0; HEADERS_SIZE];
+/// assert_eq!(write_headers_into(4096, 2048, Mode::Rlgr1, &mut out), Ok(47));
+/// assert_eq!(write_headers_into(4097, 1, Mode::Rlgr1, &mut out), Err(Refusal::Field));
+/// ```
 pub fn write_headers_into(width: usize, height: usize, mode: Mode, out: &mut [u8]) -> Result<usize, Refusal> {
     let (number, size) = edge::write_headers(width, height, mode.number(), out);
     judged(number, size)
@@ -232,6 +300,13 @@ pub fn write_headers(width: usize, height: usize, mode: Mode) -> Result<Vec<u8>,
 }
 
 /// The blocks of what [`write_headers`] wrote, by their lengths of 12, 10, 12 and 13 bytes. Of bytes that are fewer, the blocks there are.
+///
+/// ```
+/// let headers = xurbalenz::write_headers(70, 40, xurbalenz::Mode::Rlgr1)?;
+/// let types: Vec<u8> = xurbalenz::header_blocks(&headers).map(|block| block[0]).collect();
+/// assert_eq!(types, [0xC0, 0xC1, 0xC2, 0xC3]);
+/// # Ok::<(), xurbalenz::Refusal>(())
+/// ```
 pub fn header_blocks(headers: &[u8]) -> impl Iterator<Item = &[u8]> {
     let mut rest = headers;
     [12, 10, 12, 13].into_iter().map_while(move |n| {
@@ -248,6 +323,10 @@ pub const fn tiles(width: usize, height: usize) -> usize {
 
 /// Bytes with which a frame of this size (within 4,096 x 2,048) always has room: 72 around the tiles, and for each a head of 19 and three
 /// codes of at most 65,535. Real frames are far shorter.
+///
+/// ```
+/// assert_eq!((xurbalenz::tiles(70, 40), xurbalenz::frame_room(70, 40)), (2, 72 + 2 * (19 + 3 * 65_535)));
+/// ```
 pub const fn frame_room(width: usize, height: usize) -> usize {
     tiles(width, height).saturating_mul(19 + 3 * MAX_COMPONENT).saturating_add(72)
 }
@@ -258,6 +337,14 @@ pub const fn frame_room(width: usize, height: usize) -> usize {
 /// numbers. Judged in this order: size (`Field`), quantisers (`Quant`), lengths (`Buffer`), then component by component `Range` and `TooBig`,
 /// then `Room`. Refused, `out` is untouched; done, so are the bytes past the length. The work lists are untouched on `Field`, `Quant` and
 /// `Buffer`, and hold only zeros after every other answer.
+///
+/// ```
+/// use xurbalenz::{write_frame_into, Mode, Quant, LIST};
+/// let (mut list, mut scratch, mut out) = ([0; LIST], [0; LIST], [0; 1000]);
+/// let size = write_frame_into(1, 1, Mode::Rlgr1, Quant::DEFAULT, 7, &[200, 100, 0], &mut list, &mut scratch, &mut out)?;
+/// assert_eq!(out[..size], xurbalenz::write_frame(1, 1, Mode::Rlgr1, Quant::DEFAULT, 7, &[200, 100, 0])?);
+/// # Ok::<(), xurbalenz::Refusal>(())
+/// ```
 #[allow(clippy::too_many_arguments)] // what a frame is made of, and the memory for it
 pub fn write_frame_into(
     width: usize,

@@ -10,6 +10,19 @@ use core::{error::Error, fmt};
 /// assert_eq!(Refusal::of(7), Some(Refusal::Quant));
 /// assert_eq!(Refusal::Cut.to_string(), "1 cut: a block, or the code being read, needs more than is there");
 /// ```
+///
+/// Later versions may have words for more numbers, so a `match` has an arm for the rest:
+///
+/// ```
+/// use xurbalenz::Refusal;
+/// let again = |refusal| match refusal {
+///     Refusal::Cut | Refusal::Length => true, // damaged on the wire, perhaps
+///     Refusal::Order => true,                 // after the headers
+///     _ => false,
+/// };
+/// assert!(again(Refusal::Cut) && !again(Refusal::Buffer));
+/// ```
+#[non_exhaustive]
 #[derive(Clone, Copy, Debug, PartialEq, Eq, Hash)]
 pub enum Refusal {
     /// 1: a block, or the code being read, needs more than is there.
@@ -45,6 +58,13 @@ pub enum Refusal {
 
 impl Refusal {
     /// The refusal of a number; none for 0, which is done.
+    ///
+    /// ```
+    /// use xurbalenz::Refusal;
+    /// assert_eq!(Refusal::of(0), None);
+    /// assert_eq!(Refusal::of(200), Some(Refusal::Unknown(200)));
+    /// assert!((1..=255).all(|n| Refusal::of(n).is_some_and(|refusal| refusal.number() == n)));
+    /// ```
     pub const fn of(number: u8) -> Option<Refusal> {
         Some(match number {
             0 => return None,
@@ -101,7 +121,7 @@ impl Refusal {
             Refusal::Tail => ("tail", "more than filling follows the 4,096th value"),
             Refusal::Order => ("order", "a header that is not due, or a frame before all four headers"),
             Refusal::Room => ("room", "the output is shorter than what is to be written"),
-            Refusal::Unknown(_) => ("unknown", "a number that this crate has no word for"),
+            Refusal::Unknown(_) => ("unknown", "a number that has no word here"),
         }
     }
 
@@ -109,18 +129,33 @@ impl Refusal {
     pub const fn word(self) -> &'static str {
         self.words().0
     }
+
+    /// What it says, for the fitter.
+    ///
+    /// ```
+    /// use xurbalenz::Refusal;
+    /// assert_eq!((Refusal::Place.word(), Refusal::Place.says()), ("place", "a tile starts outside the channel"));
+    /// ```
+    pub const fn says(self) -> &'static str {
+        self.words().1
+    }
 }
 
 impl fmt::Display for Refusal {
     fn fmt(&self, f: &mut fmt::Formatter<'_>) -> fmt::Result {
-        let (word, says) = self.words();
-        write!(f, "{} {word}: {says}", self.number())
+        write!(f, "{} {}: {}", self.number(), self.word(), self.says())
     }
 }
 
 impl Error for Refusal {}
 
 /// Why a component's code was refused. On [`Refusal::Tail`] the code itself was whole: `bits` says how long it is.
+///
+/// ```
+/// use xurbalenz::{read_component, Mode};
+/// let refused = read_component(Mode::Rlgr1, &[0; 5], &mut [0; 4096]).unwrap_err();
+/// assert_eq!(refused.to_string(), "11 tail: more than filling follows the 4,096th value (the code has 21 bits)");
+/// ```
 #[derive(Clone, Copy, Debug, PartialEq, Eq, Hash)]
 pub struct CodeRefusal {
     /// The first fault.

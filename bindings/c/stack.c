@@ -1,0 +1,76 @@
+/*
+ * stack: no call takes more stack than XURBALENZ_STACK, its arguments counted in. Each runs on a painted stack of its own, which is then searched
+ * for the deepest byte that changed. (No function of the archive calls itself, so a frame's depth does not grow with its size.)
+ */
+#define _XOPEN_SOURCE 600
+#include "xurbalenz.h"
+
+#include <stdio.h>
+#include <string.h>
+#include <ucontext.h>
+
+#define PAINT 0xA5
+
+static uint8_t ground[1 << 16];
+static ucontext_t here, there;
+
+static XurbalenzSession session;
+static XurbalenzWork work;
+static uint8_t pixels[3 * 70 * 40], headers[XURBALENZ_HEADERS_SIZE], frame[40000], code[XURBALENZ_MAX_COMPONENT];
+static uint16_t picture[70 * 40];
+static size_t size, frame_size, code_size, at;
+static uint8_t number; /* the first refusal */
+
+static void judge(uint8_t answer) { number = number ? number : answer; }
+
+static void nothing(void) {}
+
+static void write_headers(void) { judge(xurbalenz_write_headers(70, 40, XURBALENZ_RLGR3, headers, sizeof headers, &size)); }
+
+static void read_header(void)
+{
+    judge(xurbalenz_read_header(&session, headers + at, headers[at + 2]));
+    at += headers[at + 2];
+}
+
+static void write_frame(void)
+{
+    static const uint8_t quant[10] = XURBALENZ_DEFAULT_QUANT;
+    judge(xurbalenz_write_frame_with(70, 40, XURBALENZ_RLGR3, quant, 0, pixels, sizeof pixels, &work, frame, sizeof frame, &frame_size));
+}
+
+static void read_frame(void) { judge(xurbalenz_read_frame_with(&session, frame, frame_size, picture, 70 * 40, &work, &size)); }
+
+static void write_component(void) { judge(xurbalenz_write_component(XURBALENZ_RLGR1, work.cb, XURBALENZ_LIST, code, sizeof code, &code_size)); }
+
+static void read_component(void) { judge(xurbalenz_read_component(XURBALENZ_RLGR1, code, code_size, work.y, XURBALENZ_LIST, &size)); }
+
+/* How deep a call goes. */
+static size_t depth(void (*call)(void))
+{
+    size_t i = 0;
+    memset(ground, PAINT, sizeof ground);
+    getcontext(&there);
+    there.uc_stack.ss_sp = ground;
+    there.uc_stack.ss_size = sizeof ground;
+    there.uc_link = &here;
+    makecontext(&there, call, 0);
+    swapcontext(&here, &there);
+    while (i < sizeof ground && ground[i] == PAINT) i++;
+    return sizeof ground - i;
+}
+
+int main(void)
+{
+    static void (*const calls[])(void) = {write_headers, read_header,     read_header,    read_header, read_header,
+                                          write_frame,   write_component, read_component, read_frame};
+    size_t i, deepest = 0, bare = depth(nothing);
+    for (i = 0; i < sizeof pixels; i++) pixels[i] = (uint8_t)(i * i >> 5);
+    for (i = 0; i < XURBALENZ_LIST; i++) work.cb[i] = (int32_t)(i % 7) - 3;
+    for (i = 0; i < sizeof calls / sizeof calls[0]; i++) {
+        size_t deep = depth(calls[i]) - bare;
+        if (deep > deepest) deepest = deep;
+    }
+    printf("stack: %zu bytes at most, %d allowed; first refusal %u\n", deepest, XURBALENZ_STACK, number);
+    return deepest > XURBALENZ_STACK || number != XURBALENZ_DONE;
+}
