@@ -1,0 +1,4 @@
+pub mod Cases
+pub mod Collect
+pub mod Request
+pub mod laws

@@ -1,0 +1,9 @@
+pub mod Block
+pub mod Byte
+pub mod Code
+pub mod Cut
+pub mod Kept
+pub mod Made
+pub mod Reach
+pub mod Request
+pub mod Walk
