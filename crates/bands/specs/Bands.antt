@@ -1,14 +1,14 @@
 -- Document 01, "Bands and the wavelet": quantiser sets, the bands of the list, LL3's sums, scaling and the range.
 -- Assumes nothing.
 use Prim.Native.Nat.{ℕ, zero, suc, _+_, _-_, _/_, _%_, _^_, _≤_, _<_}
-use mathlib.Core.Path.{_≡_}
-use mathlib.Core.Bool.{Bool, true, false, _&&_}
+use mathlib.Core.Bool.{Bool, true, _&&_}
 use mathlib.Core.List.{List, [], _∷_, _++_}
 use lib.Dec.{ltb, leb}
 use lib.IntN.{ℤ, pos, natAbs, _+ℤ_, _*ℤ_}
 use lib.ListN.{length, getD, take}
 use Rattle.whole.specs.Row.{_!_⨾_, _⇒_∣_, _⨟_}
 use Rattle.whole.specs.Tab.{at, tab}
+use Rattle.bands.specs.declared.Band.{Band}
 
 -- "A quantiser set is five bytes, low half first, ten values"
 unfoldable pub quantOf : List ℕ → List ℕ
@@ -59,19 +59,28 @@ HL1 = 8
 abbrev pub HH1 : ℕ
 HH1 = 9
 
--- "The list holds HL1, LH1, HH1 (1,024 each), HL2, LH2, HH2 (256), HL3, LH3, HH3, LL3 (64)": the band of place k
-unfoldable pub bandOf : ℕ → ℕ
-bandOf k =
-    ltb k 1024 ⇒ HL1 ∣
-    ltb k 2048 ⇒ LH1 ∣
-    ltb k 3072 ⇒ HH1 ∣
-    ltb k 3328 ⇒ HL2 ∣
-    ltb k 3584 ⇒ LH2 ∣
-    ltb k 3840 ⇒ HH2 ∣
-    ltb k 3904 ⇒ HL3 ∣
-    ltb k 3968 ⇒ LH3 ∣
-    ltb k 4032 ⇒ HH3 ∣
-    LL3
+-- a band: where in the set its quantiser stands, and where it ends in the list
+abbrev band : ℕ → ℕ → Band
+band set end = record { set = set; end = end }
+
+-- "The list holds HL1, LH1, HH1 (1,024 each), HL2, LH2, HH2 (256), HL3, LH3, HH3, LL3 (64)": those before LL3
+unfoldable pub bands : List Band
+bands =
+    band HL1 1024 ∷ band LH1 2048 ∷ band HH1 3072 ∷
+    band HL2 3328 ∷ band LH2 3584 ∷ band HH2 3840 ∷
+    band HL3 3904 ∷ band LH3 3968 ∷ band HH3 4032 ∷ []
+
+-- the first of them that ends behind place k; behind all of them stands LL3
+unfoldable pub firstBand : List Band → ℕ → Band
+firstBand [] k = band LL3 4096
+firstBand (b ∷ bs) k = ltb k (b .end) ⇒ b ∣ firstBand bs k
+
+-- the band of place k
+unfoldable pub bandAt : ℕ → Band
+bandAt k = firstBand bands k
+
+abbrev pub bandOf : ℕ → ℕ
+bandOf k = bandAt k .set
 
 -- the quantiser of place k, of a set of ten
 abbrev pub quantAt : List ℕ → ℕ → ℕ
@@ -121,12 +130,3 @@ rangeFault xs = allIn (at xs) (length xs) ! 9 ⨾ 0
 
 unfoldable pub coefficientsFault : List ℕ → List ℤ → ℕ
 coefficientsFault q xs = rangeFault xs ⨟ sumsFault xs ⨟ scaleFault q (summed xs)
-
--- what the two steps of the reader leave: the number, and the list
-pub record Summed (before after : List ℤ) (r : ℕ) : Type 0 where
-  pub number : r ≡ sumsFault before
-  pub list : after ≡ summed before
-
-pub record Scaled (q : List ℕ) (before after : List ℤ) (r : ℕ) : Type 0 where
-  pub number : r ≡ scaleFault q before
-  pub list : after ≡ scaledBy q before

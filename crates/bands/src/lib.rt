@@ -1,16 +1,17 @@
-// Document 01, "Bands and the wavelet" (001, 3.1.8.1.5, 3.1.8.1.6, 3.1.8.2.2, 3.1.8.2.3): quantiser sets, LL3's sums, scaling and the range
-// on the reader's way; rounding and LL3's differences on the writer's. Bands are lent as parts of the work list.
+// Document 01, "Bands and the wavelet" (001, 3.1.8.1.5, 3.1.8.1.6, 3.1.8.2.2, 3.1.8.2.3): quantiser sets, LL3's sums and scaling on the reader's way;
+// rounding and LL3's differences on the writer's; the range (9) for both. Bands are lent as parts of the work list.
+// Judging multiplies and stores nothing; summing and scaling judge nothing and answer nothing (02, request Eight).
 ghost use mathlib.Core.Path.{_≡_};
-ghost use Prim.Native.Nat.{ℕ, _+_, _-_, _*_, _<_, _≤_, _^_};
+ghost use Prim.Native.Nat.{ℕ, _+_, _<_, _≤_, _^_};
 ghost use lib.IntN.{pos, _+ℤ_, _-ℤ_, _*ℤ_};
 ghost use lib.Signed.{shrZ};
-ghost use lib.ListN.{length, take, drop};
+ghost use lib.ListN.{length, getD, take, drop};
 ghost use Rattle.whole.specs.Near.{Near};
 ghost use Rattle.whole.specs.Tab.{at, tab};
 ghost use Rattle.whole.specs.laws.Tab.{AllNear};
-ghost use Rattle.bands.specs.Bands.{quantOf, QuantGood, isGood, bandOf, quantAt, sumTo, Summed, Scaled, coefficientsFault};
+ghost use Rattle.bands.specs.Bands.{quantOf, QuantGood, isGood, bandAt, sumTo, summed, scaledBy, coefficientsFault};
 ghost use Rattle.bands.specs.Rounding.{roundAt, diffAt, roundedBy};
-ghost use Rattle.bands.specs.laws.Steps.{outOf, outs, endOf};
+ghost use Rattle.bands.specs.laws.Steps.{overOf, overs, limitOf, limitAt};
 
 // A quantiser set: ten values in the set's order.
 pub struct Quant {
@@ -43,85 +44,44 @@ pub fn quant_at(m: &[u8], at: usize) -> Quant
     }
 }
 
-// Where in the set the quantiser of place k stands.
-fn band_of(k: usize) -> usize
-    ensures { λ r. ⌜ r ≡ bandOf k ⌝ }
-{
-    if k < 1024 {
-        return 8;
-    }
-    if k < 2048 {
-        return 7;
-    }
-    if k < 3072 {
-        return 9;
-    }
-    if k < 3328 {
-        return 5;
-    }
-    if k < 3584 {
-        return 4;
-    }
-    if k < 3840 {
-        return 6;
-    }
-    if k < 3904 {
-        return 2;
-    }
-    if k < 3968 {
-        return 1;
-    }
-    if k < 4032 {
-        return 3;
-    }
-    0
+// A band: where in the set its quantiser stands, and where it ends in the list.
+struct Band {
+    set: usize,
+    end: usize,
 }
 
-// Where the band of place k ends.
-fn band_end(k: usize) -> usize
-    ensures { λ r. ⌜ r ≡ endOf k ⌝ }
+// The band of place k.
+fn band_at(k: usize) -> Band
+    ensures { λ r. ⌜ r ≡ bandAt k ⌝ }
 {
     if k < 1024 {
-        return 1024;
+        return Band { set: 8, end: 1024 };
     }
     if k < 2048 {
-        return 2048;
+        return Band { set: 7, end: 2048 };
     }
     if k < 3072 {
-        return 3072;
+        return Band { set: 9, end: 3072 };
     }
     if k < 3328 {
-        return 3328;
+        return Band { set: 5, end: 3328 };
     }
     if k < 3584 {
-        return 3584;
+        return Band { set: 4, end: 3584 };
     }
     if k < 3840 {
-        return 3840;
+        return Band { set: 6, end: 3840 };
     }
     if k < 3904 {
-        return 3904;
+        return Band { set: 2, end: 3904 };
     }
     if k < 3968 {
-        return 3968;
+        return Band { set: 1, end: 3968 };
     }
     if k < 4032 {
-        return 4032;
+        return Band { set: 3, end: 4032 };
     }
-    4096
-}
-
-// 1 outside -32,767 to 32,767, else 0.
-fn outside(v: i32) -> u32
-    ensures { λ r. ⌜ r ≡ outOf v ⌝ }
-{
-    if v < -32767 {
-        return 1;
-    }
-    if v > 32767 {
-        return 1;
-    }
-    0
+    Band { set: 0, end: 4096 }
 }
 
 fn plus(a: i32, b: i32) -> i32
@@ -151,79 +111,157 @@ fn wide(b: u8) -> u32
     b as u32
 }
 
-// The quantiser of place k.
-fn quant_of(q: Quant, k: usize) -> u32
-    requires { ⌜ QuantGood (q .v) ⌝ }
-    ensures { λ r. ⌜ (r ≡ quantAt (q .v) k) × (6 ≤ r) × (r ≤ 15) ⌝ }
+// The quantiser of a band.
+fn quant_of(q: Quant, b: Band) -> u32
+    requires { ⌜ QuantGood (q .v) × (b .set < 10) ⌝ }
+    ensures { λ r. ⌜ (r ≡ getD (q .v) (b .set) 0) × (6 ≤ r) × (r ≤ 15) ⌝ }
 {
-    let i = band_of(k);
+    let i = b.set;
     wide(q.v[i])
 }
 
-// Running sums over LL3; how many of them are out of range.
-fn sum_part(part: &mut [i32]) -> u32
+// ---- on the reader's way, to draw
+
+// Running sums over LL3.
+fn sum_part(part: &mut [i32])
     requires { ⌜ (length (now part) ≡ 64) × AllNear 32767 (now part) ⌝ }
-    ensures says { λ r. ⌜ r ≡ outs (λ (i : ℕ). sumTo (at (now (part .entry))) (i + 1)) 64 ⌝ }
-    ensures holds { λ r. ⌜ now (part .exit) ≡ tab 64 (λ (i : ℕ). sumTo (at (now (part .entry))) (i + 1)) ⌝ }
+    ensures { λ _. ⌜ now (part .exit) ≡ tab 64 (λ (i : ℕ). sumTo (at (now (part .entry))) (i + 1)) ⌝ }
 {
     let mut s = 0;
-    let mut bad = 0;
     let mut i = 0;
     while i < part.len() {
         s = plus(s, part[i]);
         part[i] = s;
-        bad += outside(s);
         i += 1;
     }
-    bad
 }
 
-// LL3's sums, in the last 64 places: 0, or 9 where one is out of range.
-pub fn sums(work: &mut [i32]) -> u8
+// LL3's sums, in the last 64 places.
+pub fn sum_up(work: &mut [i32])
     requires { ⌜ (length (now work) ≡ 4096) × AllNear 32767 (now work) ⌝ }
-    ensures { λ r. ⌜ Summed (now (work .entry)) (now (work .exit)) r ⌝ }
+    ensures { λ _. ⌜ now (work .exit) ≡ summed (now (work .entry)) ⌝ }
 {
-    if sum_part(&mut work[4032..4096]) == 0 {
-        return 0;
-    }
-    9
+    sum_part(&mut work[4032..4096]);
 }
 
-// One band times a factor; how many places are then out of range.
-fn scale_band(part: &mut [i32], m: i32) -> u32
-    requires { ⌜ (length (now part) ≤ 4096) × AllNear 32767 (now part) × Near 16384 m ⌝ }
-    ensures says { λ r. ⌜ r ≡ outs (λ (i : ℕ). at (now (part .entry)) i *ℤ m) (length (now (part .entry))) ⌝ }
-    ensures holds { λ r. ⌜ now (part .exit) ≡ tab (length (now (part .entry))) (λ (i : ℕ). at (now (part .entry)) i *ℤ m) ⌝ }
+// One band times a factor.
+fn scale_band(part: &mut [i32], m: i32)
+    requires { ⌜ AllNear 32767 (now part) × Near 16384 m ⌝ }
+    ensures { λ _. ⌜ now (part .exit) ≡ tab (length (now (part .entry))) (λ (i : ℕ). at (now (part .entry)) i *ℤ m) ⌝ }
+{
+    let mut i = 0;
+    while i < part.len() {
+        part[i] = times(part[i], m);
+        i += 1;
+    }
+}
+
+// Scaling, band by band.
+pub fn scale_up(work: &mut [i32], q: Quant)
+    requires { ⌜ (length (now work) ≡ 4096) × AllNear 32767 (now work) × QuantGood (q .v) ⌝ }
+    ensures { λ _. ⌜ now (work .exit) ≡ scaledBy (q .v) (now (work .entry)) ⌝ }
+{
+    let mut from = 0;
+    while from < 4096 {
+        let b = band_at(from);
+        let to = b.end;
+        let n = quant_of(q, b);
+        scale_band(&mut work[from..to], power(n - 1));
+        from = to;
+    }
+}
+
+// ---- on both ways: a list judged, place by place
+
+// The largest size that stays in range when it is scaled.
+fn limit(n: u32) -> u16
+    requires { ⌜ (6 ≤ n) × (n ≤ 15) ⌝ }
+    ensures { λ r. ⌜ r ≡ limitOf n ⌝ }
+{
+    32767u16 >> (n - 1)
+}
+
+// 1 where v is above m in size, else 0.
+fn over(v: i32, m: u16) -> u32
+    ensures { λ r. ⌜ r ≡ overOf m v ⌝ }
+{
+    let most = m as i32;
+    if v > most {
+        return 1;
+    }
+    if v < 0 - most {
+        return 1;
+    }
+    0
+}
+
+// How many of a band are above a limit in size.
+fn count_over(part: &[i32], m: u16) -> u32
+    requires { ⌜ length (now part) ≤ 4096 ⌝ }
+    ensures { λ r. ⌜ r ≡ overs (λ (i : ℕ). m) (at (now (part .entry))) (length (now (part .entry))) ⌝ }
 {
     let mut bad = 0;
     let mut i = 0;
     while i < part.len() {
-        let v = times(part[i], m);
-        part[i] = v;
-        bad += outside(v);
+        bad += over(part[i], m);
         i += 1;
     }
     bad
 }
 
-// Scaling, band by band: 0, or 9 where a scaled value is out of range.
-pub fn scale(work: &mut [i32], q: Quant) -> u8
-    requires { ⌜ (length (now work) ≡ 4096) × AllNear 32767 (now work) × QuantGood (q .v) ⌝ }
-    ensures { λ r. ⌜ Scaled (q .v) (now (work .entry)) (now (work .exit)) r ⌝ }
+// How many of LL3's running sums are above a limit in size.
+fn count_sums(part: &[i32], m: u16) -> u32
+    requires { ⌜ (length (now part) ≡ 64) × AllNear 32767 (now part) ⌝ }
+    ensures { λ r. ⌜ r ≡ overs (λ (i : ℕ). m) (λ (i : ℕ). sumTo (at (now (part .entry))) (i + 1)) 64 ⌝ }
+{
+    let mut sum = 0;
+    let mut bad = 0;
+    let mut i = 0;
+    while i < part.len() {
+        let v = part[i];
+        sum = plus(sum, v);
+        bad += over(sum, m);
+        i += 1;
+    }
+    bad
+}
+
+// The nine bands before LL3: how many of their values would leave the range when scaled.
+fn count_bands(work: &[i32], q: Quant) -> u32
+    requires { ⌜ (length (now work) ≡ 4096) × QuantGood (q .v) ⌝ }
+    ensures { λ r. ⌜ r ≡ overs (limitAt (q .v)) (at (now (work .entry))) 4032 ⌝ }
 {
     let mut bad = 0;
     let mut from = 0;
-    while from < 4096 {
-        let to = band_end(from);
-        let m = power(quant_of(q, from) - 1);
-        bad += scale_band(&mut work[from..to], m);
+    while from < 4032 {
+        let b = band_at(from);
+        let to = b.end;
+        let n = quant_of(q, b);
+        bad += count_over(&work[from..to], limit(n));
         from = to;
     }
-    if bad == 0 {
-        return 0;
-    }
-    9
+    bad
 }
+
+// A list judged as its reader does and its writer must: its coefficients, LL3's sums and the scaled values, 0 or 9.
+pub fn judge(work: &[i32], q: Quant) -> u8
+    requires { ⌜ (length (now work) ≡ 4096) × QuantGood (q .v) ⌝ }
+    ensures { λ r. ⌜ r ≡ coefficientsFault (q .v) (now (work .entry)) ⌝ }
+{
+    if count_bands(work, q) != 0 {
+        return 9;
+    }
+    if count_over(&work[4032..4096], 32767) != 0 {
+        return 9;
+    }
+    let n = quant_of(q, band_at(4032));
+    if count_sums(&work[4032..4096], limit(n)) != 0 {
+        return 9;
+    }
+    0
+}
+
+// ---- on the writer's way
 
 fn rounded(v: i32, half: i32, k: u32) -> i32
     requires { ⌜ Near 268435456 v × Near 8192 half × (k < 31) ⌝ }
@@ -251,8 +289,9 @@ fn round_bands(work: &mut [i32], q: Quant)
 {
     let mut from = 0;
     while from < 4096 {
-        let to = band_end(from);
-        let n = quant_of(q, from);
+        let b = band_at(from);
+        let to = b.end;
+        let n = quant_of(q, b);
         round_band(&mut work[from..to], power(n - 2), n - 1);
         from = to;
     }
@@ -287,47 +326,6 @@ pub fn round_all(work: &mut [i32], q: Quant)
 {
     round_bands(work, q);
     difference_part(&mut work[4032..4096]);
-}
-
-// How many of a list are out of range.
-fn count_out(list: &[i32]) -> u32
-    requires { ⌜ length (now list) ≤ 4096 ⌝ }
-    ensures { λ r. ⌜ r ≡ outs (at (now (list .entry))) (length (now (list .entry))) ⌝ }
-{
-    let mut bad = 0;
-    let mut i = 0;
-    while i < list.len() {
-        bad += outside(list[i]);
-        i += 1;
-    }
-    bad
-}
-
-fn copy(from: &[i32], to: &mut [i32])
-    requires { ⌜ length (now from) ≡ length (now to) ⌝ }
-    ensures { λ _. ⌜ now (to .exit) ≡ now (from .entry) ⌝ }
-{
-    let mut i = 0;
-    while i < to.len() {
-        to[i] = from[i];
-        i += 1;
-    }
-}
-
-// A list judged as the reader would: its coefficients, then, in a copy, LL3's sums and the scaled values.
-pub fn judge(work: &[i32], tmp: &mut [i32], q: Quant) -> u8
-    requires { ⌜ (length (now work) ≡ 4096) × (length (now tmp) ≡ 4096) × QuantGood (q .v) ⌝ }
-    ensures { λ r. ⌜ r ≡ coefficientsFault (q .v) (now (work .entry)) ⌝ }
-{
-    if count_out(work) != 0 {
-        return 9;
-    }
-    copy(work, tmp);
-    let f = sums(tmp);
-    if f != 0 {
-        return f;
-    }
-    scale(tmp, q)
 }
 
 // A set's ten values, judged: all from 6 to 15.

@@ -1,5 +1,6 @@
 // The component reader of document 01: "The component code", the numbers 5, 2, 6, 1, 9, 10, 11 and their order, and "The component reader leaves its
 // output list untouched on 5, 2 and 6 and fills it with zeros on 1, 9, 10, 11." One pass: the list is cleared, and runs of zeros store nothing.
+// `read_checked` reads a code a second time, to draw from: it has no way out (document 02, request Eight).
 ghost use mathlib.Core.Path.{_≡_};
 ghost use mathlib.Core.Bool.{true, false};
 ghost use Prim.Native.Nat.{_+_, _*_, _<_, _≤_};
@@ -8,7 +9,7 @@ ghost use lib.IntN.{pos};
 ghost use Rattle.bits.specs.Bits.{bitsOf};
 ghost use Rattle.code.specs.ReadList.{readList};
 ghost use Rattle.code.specs.Fill.{Fills, Fine, placedOf, storedOf};
-ghost use Rattle.code.specs.Read.{clean, isMode, shellFault, readingNumber, readingBits, CodeRead, ComponentRead};
+ghost use Rattle.code.specs.Read.{clean, isMode, shellFault, readFault, readingNumber, readingBits, decoded, CodeRead, ComponentRead};
 use crate::element::Element;
 use crate::element::Refusal;
 use crate::element::State;
@@ -184,4 +185,14 @@ pub fn read_component(mode: u8, s: &[u8], list: &mut [i32]) -> Reading
         return r;
     }
     r
+}
+
+// A code that was read without a fault, once more, to draw from: nothing is judged, and nothing is answered. What `fill` answers is not asked
+// for: it keeps its refusal for the component call, and of such a code it is `Whole` (law `checked-whole`).
+pub fn read_checked(mode: u8, s: &[u8], list: &mut [i32])
+    requires { ⌜ (length (now list) ≡ 4096) × (0 ≡ readFault mode 4096 (now s)) ⌝ }
+    ensures { λ _. ⌜ now (list .exit) ≡ decoded mode (now (s .entry)) ⌝ }
+{
+    whole::clear(list);
+    fill(s, mode == 4, list);
 }

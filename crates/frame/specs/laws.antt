@@ -1,3 +1,4 @@
 pub mod Frame
 pub mod Glass
 pub mod Numbers
+pub mod Sound

@@ -15,7 +15,7 @@ fn part_fault(mode: u8, m: &[u8], sp: usize, d: &[u8], at: usize, k: usize, work
     let j = frame_blocks::tile::quant_index(d, at, k);
     let set = bands::quant_at(m, sp + (22 + 5 * j));
     let code = frame_blocks::tile::code_part(d, at, k);
-    tile_back::coefficients(mode, set, code, work)
+    tile_back::component_fault(mode, set, code, work)
 }
 
 // Y, then Cb, then Cr.

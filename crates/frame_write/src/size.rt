@@ -44,7 +44,7 @@ fn part_size(
     ensures { λ r. ⌜ Measures (partRefusal mode (q .v) (listOf (now (pixels .entry)) w h (q .v) k c)) (length (partOf (now (pixels .entry)) w h mode (q .v) k c)) r ⌝ }
 {
     load_part(pixels, w, h, q, k, c, list, scratch);
-    let f = bands::judge(list, scratch, q);
+    let f = bands::judge(list, q);
     if f != 0 {
         return Sized { number: f, size: 0 };
     }

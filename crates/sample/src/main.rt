@@ -25,7 +25,12 @@ fn coefficients(q: Quant, code: &[u8], work: &mut [i32]) -> u8 {
     if !bands::is_good(q) {
         return 7;
     }
-    tile_back::coefficients(crate::code_stages::MODE, q, code, work)
+    let n = tile_back::component_fault(crate::code_stages::MODE, q, code, work);
+    if n != 0 {
+        return n;
+    }
+    tile_back::coefficients(crate::code_stages::MODE, q, code, work);
+    0
 }
 
 // A code's samples: 01's number.
@@ -39,7 +44,7 @@ fn samples(q: Quant, code: &[u8], work: &mut [i32], tmp: &mut [i32]) -> u8 {
     if !bands::is_good(q) {
         return 7;
     }
-    let n = tile_back::coefficients(crate::code_stages::MODE, q, code, work);
+    let n = tile_back::component_fault(crate::code_stages::MODE, q, code, work);
     if n != 0 {
         return n;
     }

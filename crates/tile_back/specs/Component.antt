@@ -2,9 +2,8 @@
 use Prim.Native.Nat.{ℕ}
 use mathlib.Core.Path.{_≡_}
 use mathlib.Core.List.{List}
-use lib.Dec.{eqb}
 use lib.IntN.{ℤ}
-use Rattle.whole.specs.Row.{_!_⨾_, _⨟_}
+use Rattle.whole.specs.Row.{_⨟_}
 use Rattle.bands.specs.Bands.{sumsFault, summed, scaleFault, scaledBy}
 use Rattle.code.specs.Read.{readFault, decoded, readInto}
 use Rattle.wave_back.specs.Tile.{tileBack}
@@ -23,16 +22,8 @@ coefficientsOf mode q s = scaledBy q (summed (decoded mode s))
 unfoldable pub samplesOf : ℕ → List ℕ → List ℕ → List ℤ
 samplesOf mode q s = tileBack (coefficientsOf mode q s)
 
--- the work list at exit, by the first fault: as the component reader leaves it where the code is refused (untouched, or zeros), the sums
--- where one of them is out of range, else the scaled values, all of them in range or not
-unfoldable pub coefficientsInto : ℕ → List ℕ → List ℕ → List ℤ → List ℤ
-coefficientsInto mode q s before =
-    eqb (readFault mode 4096 s) 0 ! readInto mode s before ⨾
-    eqb (sumsFault (decoded mode s)) 0 ! summed (decoded mode s) ⨾
-    coefficientsOf mode q s
-
--- what decoding says and leaves, for every code and list: the number and the list; where the number is 0, the list is the coefficients
-pub record Coefficients (mode : ℕ) (q s : List ℕ) (before after : List ℤ) (r : ℕ) : Type 0 where
+-- what the check pass says and leaves, for every code and list: the number; and the list as the component reader leaves it (nothing is summed or
+-- scaled there)
+pub record Checked (mode : ℕ) (q s : List ℕ) (before after : List ℤ) (r : ℕ) : Type 0 where
   pub number : r ≡ componentFault mode q s
-  pub into : after ≡ coefficientsInto mode q s before
-  pub list : r ≡ 0 → after ≡ coefficientsOf mode q s
+  pub list : after ≡ readInto mode s before

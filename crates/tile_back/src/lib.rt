@@ -1,28 +1,35 @@
-// One tile of document 01's frames, read: a component's code to its coefficients and its 64 x 64 samples ("code, then LL3 sums and
-// scaling"), and three lists of samples to the picture's words. One function serves the check pass (its number) and the draw pass (its list).
+// One tile of document 01's frames, read: a component judged ("code, then LL3 sums and scaling"), its code to its coefficients and its 64 x 64
+// samples, and three lists of samples to the picture's words. Judging (the check pass) sums, scales and draws nothing; decoding (the drawing
+// pass) judges and answers nothing (document 02, request Eight).
 use bands::Quant;
 ghost use mathlib.Core.Path.{_≡_};
 ghost use Prim.Native.Nat.{_+_, _*_, _<_};
 ghost use lib.ListN.{length};
 ghost use Rattle.bands.specs.Bands.{QuantGood};
-ghost use Rattle.tile_back.specs.Component.{Coefficients, componentFault, samplesOf};
+ghost use Rattle.tile_back.specs.Component.{componentFault, coefficientsOf, samplesOf, Checked};
 ghost use Rattle.tile_back.specs.Word.{Plane, wordAt, WordsRow};
 
-// The number of a component, and what the work list holds, whatever the number: on 0 the coefficients.
-pub fn coefficients(mode: u8, q: Quant, code: &[u8], work: &mut [i32]) -> u8
+// The check pass: the number of a component. The work list is left as the component reader leaves it.
+pub fn component_fault(mode: u8, q: Quant, code: &[u8], work: &mut [i32]) -> u8
     requires { ⌜ (length (now work) ≡ 4096) × QuantGood (q .v) ⌝ }
-    ensures { λ r. ⌜ Coefficients mode (q .v) (now (code .entry)) (now (work .entry)) (now (work .exit)) r ⌝ }
+    ensures { λ r. ⌜ Checked mode (q .v) (now (code .entry)) (now (work .entry)) (now (work .exit)) r ⌝ }
 {
     let read = code::read::read_component(mode, code, work);
     let n = code::read::reading_number(read);
     if n != 0 {
         return n;
     }
-    let f = bands::sums(work);
-    if f != 0 {
-        return f;
-    }
-    bands::scale(work, q)
+    bands::judge(work, q)
+}
+
+// The coefficients of a component that has been checked.
+pub fn coefficients(mode: u8, q: Quant, code: &[u8], work: &mut [i32])
+    requires { ⌜ (length (now work) ≡ 4096) × QuantGood (q .v) × (0 ≡ componentFault mode (q .v) (now code)) ⌝ }
+    ensures { λ _. ⌜ now (work .exit) ≡ coefficientsOf mode (q .v) (now (code .entry)) ⌝ }
+{
+    code::read::read_checked(mode, code, work);
+    bands::sum_up(work);
+    bands::scale_up(work, q);
 }
 
 // The samples of a component that has been checked.

@@ -1,64 +1,83 @@
-use mathlib.Core.Path.{_∙_, ap, subst, sym}
-use lib.ListN.{length}
+-- `bands::judge` meets its contract: one law of JudgeLaws for each of its four ways out, fed with the counts. Assumes nothing.
+use mathlib.Core.Path.{_≡_, ap, _∙_}
+use native.Mathlib.Omega.{arith}
 use denote.Ref.{now}
-use Rattle.whole.specs.laws.Tab.{AllNear}
-use Rattle.bands.specs.laws.Part.{out-refused, none-refused, sums-judged, sums-passed, scale-judged}
 use borrow.Author.Needs.{needs}
+use Rattle.whole.specs.laws.Part.{part-length}
+use Rattle.bands.specs.laws.Steps.{limitOf, limitAt}
+use Rattle.bands.specs.laws.Band.{band-is, quant-is}
+use Rattle.bands.specs.laws.Judge.{places-over, last-over, last-near, sums-over, none-is-over}
 use Rattle.bands.proofs.judge.Statement.{statement}
 use Rattle.bands.proofs.judge.Tie as tie
-use Rattle.bands.proofs.judge.Reads as reads
-use Rattle.bands.proofs.judge.Lts as lts
-use Rattle.bands.proofs.copy.Reads as copy-reads
-use Rattle.bands.proofs.count_out.Reads as count-out-reads
-use Rattle.bands.proofs.scale.Reads as scale-reads
-use Rattle.bands.proofs.sums.Reads as sums-reads
-
-count-out-requires : tie.Need-count-out-requires
-count-out-requires c κs = search needs
 
 returns : tie.Need-returns
-returns c = out-refused (c .before .before .args .q .v) (now (c .before .before .args .work)) (c .before .count-out .result) (c .before .count-out .ensures) (c .if1 .taken)
-
-copy-requires : tie.Need-copy-requires
-copy-requires c κs = search needs
-
-sums-requires : tie.Need-sums-requires
-sums-requires c κs =
-    let t = none-refused (c .before .before .before .before .before .before .args .q .v) (now (c .before .before .before .before .before .before .args .work)) (c .before .before .before .before .before .count-out .result) (c .before .before .before .before .before .count-out .ensures) (c .before .before .before .before .if1 .left) in
-    (ap length (c .before .before .copy .ensures) ∙ c .before .before .before .before .before .before .pre .0, subst (AllNear 32767) (sym (c .before .before .copy .ensures)) (t .1))
-
-same-length : tie.Need-same-length
-same-length c = search needs
+returns c =
+    let s = c .before .before in
+    let n = c .before .count-bands in
+    places-over (s .args .q .v) (now (s .args .work)) (s .pre .0) (n .result) (n .ensures) (c .if1 .taken)
 
 returns-2 : tie.Need-returns-2
 returns-2 c =
-    let t = none-refused (c .before .before .before .before .before .before .before .before .before .args .q .v) (now (c .before .before .before .before .before .before .before .before .before .args .work)) (c .before .before .before .before .before .before .before .before .count-out .result) (c .before .before .before .before .before .before .before .before .count-out .ensures) (c .before .before .before .before .before .before .before .if1 .left) in
-    sums-judged (c .before .before .before .before .before .before .before .before .before .args .q .v) (now (c .before .before .before .before .before .before .before .before .before .args .work)) (c .before .before .before .before .before .copy .last .1 .0) (c .before .before .sums .last .0) (c .before .before .sums .result) (t .0) (c .before .before .before .before .before .copy .ensures) (c .before .before .sums .ensures) (c .if2 .taken)
+    let s = c .before .before .before .before .before in
+    let n = c .before .count-over in
+    last-over (s .args .q .v) (now (s .args .work)) (s .pre .0) (n .result) (n .ensures) (c .if2 .taken)
 
-scale-requires : tie.Need-scale-requires
-scale-requires c κs =
-    let t = none-refused (c .before .before .before .before .before .before .before .before .before .before .args .q .v) (now (c .before .before .before .before .before .before .before .before .before .before .args .work)) (c .before .before .before .before .before .before .before .before .before .count-out .result) (c .before .before .before .before .before .before .before .before .before .count-out .ensures) (c .before .before .before .before .before .before .before .before .if1 .left) in
-    let p = sums-passed (c .before .before .before .before .before .before .before .before .before .before .args .q .v) (now (c .before .before .before .before .before .before .before .before .before .before .args .work)) (c .before .before .before .before .before .before .copy .last .1 .0) (c .before .before .before .sums .last .0) (c .before .before .before .sums .result) (t .0) (c .before .before .before .before .before .before .copy .ensures) (c .before .before .before .sums .ensures) (c .before .if2 .left) (c .before .before .before .before .before .before .before .before .before .before .pre .0) (t .1) in
-    (p .0, p .1, c .before .before .before .before .before .before .before .before .before .before .pre .2)
+quant-of-requires : tie.Need-quant-of-requires
+quant-of-requires c κs =
+    let s = c .before .before .before .before .before .before in
+    (s .pre .1, band-is (c .band-at .ensures) .index)
 
-same-length-2 : tie.Need-same-length-2
-same-length-2 c = search needs
+-- the limit of LL3's sums
+limit-is : (c : tie.After-limit) → c .limit .result ≡ limitAt (c .before .before .before .before .before .before .before .before .before .args .q .v) 4032
+limit-is c =
+    let q = c .before .before .before .before .before .before .before .before .before .args .q .v in
+    let n = c .before .before .quant-of in
+    let b = c .before .before .before .band-at in
+    c .limit .ensures ∙ ap limitOf (quant-is q 4032 (n .result) (b .result) (n .ensures .0) (b .ensures))
+
+count-sums-requires : tie.Need-count-sums-requires
+count-sums-requires c κs =
+    let e = c .before .before .before .before in
+    let s = e .before .before .before .before .before in
+    let work = now (s .args .work) in
+    let n = e .before .count-over in
+    (part-length work 4032 4096 (omega arith) (omega (arith, s .pre .0)), last-near (s .args .q .v) work (s .pre .0) (n .result) (n .ensures) (e .if2 .left))
 
 returns-3 : tie.Need-returns-3
 returns-3 c =
-    let t = none-refused (c .before .before .before .before .before .before .before .before .before .before .before .before .args .q .v) (now (c .before .before .before .before .before .before .before .before .before .before .before .before .args .work)) (c .before .before .before .before .before .before .before .before .before .before .before .count-out .result) (c .before .before .before .before .before .before .before .before .before .before .before .count-out .ensures) (c .before .before .before .before .before .before .before .before .before .before .if1 .left) in
-    scale-judged (c .before .before .before .before .before .before .before .before .before .before .before .before .args .q .v) (now (c .before .before .before .before .before .before .before .before .before .before .before .before .args .work)) (c .before .before .before .before .before .before .before .before .copy .last .1 .0) (c .before .before .before .before .before .sums .last .0) (c .before .before .before .before .before .sums .result) (t .0) (c .before .before .before .before .before .before .before .before .copy .ensures) (c .before .before .before .before .before .sums .ensures) (c .before .before .before .if2 .left) _ _ (c .before .scale .ensures)
+    let l = c .before .before in
+    let s = l .before .before .before .before .before .before .before .before .before in
+    let n = c .before .count-sums in
+    sums-over (s .args .q .v) (now (s .args .work)) (s .pre .0) (l .limit .result) (n .result) (limit-is l) (n .ensures) (c .if3 .taken)
+
+returns-4 : tie.Need-returns-4
+returns-4 c =
+    let l = c .before .before in
+    let e = l .before .before .before .before in
+    let f = e .before .before .before in
+    let s = f .before .before in
+    let n = c .before .count-sums in
+    none-is-over (s .args .q .v) (now (s .args .work)) (s .pre .0) (l .limit .result) (n .result) (limit-is l) (n .ensures) (f .before .count-bands .result)
+    (e .before .count-over .result)
+    (f .before .count-bands .ensures) (f .if1 .left) (e .before .count-over .ensures) (e .if2 .left) (c .if3 .left)
 
 pub judge-spec : {M : Type 1} → statement M
 judge-spec =
     tie.close
     (tie.spec
-    count-out-requires
+    (λ c κs. search needs)
     returns
-    copy-requires
-    sums-requires
-    same-length
+    (λ c. search needs)
+    (λ c. search needs)
+    (λ c. search needs)
+    (λ c κs. search needs)
     returns-2
-    scale-requires
-    same-length-2
-    returns-3)
+    (λ c κs. search needs)
+    quant-of-requires
+    (λ c. search needs)
+    (λ c. search needs)
+    (λ c. search needs)
+    (λ c κs. search needs)
+    count-sums-requires
+    returns-3
+    returns-4)

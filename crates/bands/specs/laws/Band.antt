@@ -7,8 +7,8 @@ use Prim.Native.Nat.{ℕ, zero, suc, _+_, _*_, _-_, _%_, _^_, _≤_, _<_}
 use native.Mathlib.Nat.{not-suc-le-zero, one-mul}
 use native.Mathlib.Decide.{decLt, ℕ-discrete}
 use native.Mathlib.Omega.{arith}
-use borrow.Author.Tests.{ltb-true, ltb-false, leb-true, lt-ltb, le-ltb, le-leb, lt-leb}
-use lib.Dec.{ltb, leb, lit<}
+use borrow.Author.Tests.{ltb-true, leb-true, eqb-true, lt-ltb, le-ltb, le-leb, lt-leb}
+use lib.Dec.{ltb, leb, eqb, lit<}
 use lib.IntN.{pos}
 use lib.ListN.{length, getD, take, drop}
 use lib.Seq.{drop-cons}
@@ -17,63 +17,87 @@ use lib.Pow.{pow-mono, pow-lt, shl-exact}
 use Rattle.whole.specs.Row.{_⇒_∣_}
 use Rattle.whole.specs.laws.Row.{case-yes, case-no}
 use Rattle.whole.specs.Near.{Near}
-use Rattle.bands.specs.Bands.{bandOf, quantAt, goodTo, isGood, QuantGood}
-use Rattle.bands.specs.laws.Steps.{endOf}
+use Rattle.bands.specs.declared.Band.{Band}
+use Rattle.bands.specs.Bands.{bands, firstBand, bandAt, bandOf, quantAt, goodTo, isGood, QuantGood}
 
--- ---- the row of bands, one step at a time
+-- ---- the table of bands
 
-case-both : (P : ℕ → Type 0) (b : Bool) (x y : ℕ) → (b ≡ true → P x) → (b ≡ false → P y) → P (b ⇒ x ∣ y)
-unfolding _⇒_∣_
-case-both P true x y p q = p refl
-case-both P false x y p q = q refl
+both-true : (a b : Bool) → (a && b) ≡ true → (a ≡ true) × (b ≡ true)
+both-true true b e = (refl, e)
+both-true false b e = absurd (let z : _≡_ {A = ℕ} 0 1 = cc in omega arith)
+
+-- what a place's band has: an index into the set, and an end behind the place and within the list; the bands before LL3 end before it
+pub record BandGood (k : ℕ) (b : Band) : Type 0 where
+  pub index : b .set < 10
+  pub behind : k < 4096 → k < b .end
+  pub within : b .end ≤ 4096
+  pub before : k < 4032 → b .end ≤ 4032
+
+-- the test of a table that starts at a place: indices below 10, ends up to 4,032, and the last one there
+tableGood : ℕ → List Band → Bool
+tableGood from [] = eqb from 4032
+tableGood from (b ∷ bs) = ltb (b .set) 10 && (leb (b .end) 4032 && tableGood (b .end) bs)
+
+found-good : (from k : ℕ) (bs : List Band) → tableGood from bs ≡ true → from ≤ k → BandGood k (firstBand bs k)
+unfolding tableGood firstBand
+found-good from k [] t l =
+    let e = eqb-true from 4032 t in
+    record { index = omega arith; behind = λ h. h; within = omega arith; before = λ h. absurd (omega arith) }
+found-good from k (b ∷ bs) t l =
+    let i = both-true (ltb (b .set) 10) _ t in
+    let e = both-true (leb (b .end) 4032) _ (i .1) in
+    by (ltb-true (b .set) 10 (i .0)) (leb-true (b .end) 4032 (e .0)) (decLt k (b .end)) (found-good (b .end) k bs (e .1))
+  where
+    by : b .set < 10 → b .end ≤ 4032 → Dec (k < b .end) → (b .end ≤ k → BandGood k (firstBand bs k)) → BandGood k (ltb k (b .end) ⇒ b ∣ firstBand bs k)
+    by i e (yes h) rest = subst (BandGood k) (case-yes (ltb k (b .end)) b (firstBand bs k) b (lt-ltb k (b .end) h) refl)
+        (record { index = i; behind = λ q. h; within = omega arith; before = λ q. e })
+    by i e (no h) rest = subst (BandGood k) (case-no (ltb k (b .end)) b (firstBand bs k) (firstBand bs k) (le-ltb k (b .end) (omega arith)) refl)
+        (rest (omega arith))
+
+pub band-good : (k : ℕ) → BandGood k (bandAt k)
+unfolding bandAt bands tableGood
+band-good k = found-good 0 k bands refl (omega arith)
 
 pub band-below : (k : ℕ) → bandOf k < 10
-unfolding bandOf
-band-below k =
-    go 1024 8 _ (omega arith) (go 2048 7 _ (omega arith) (go 3072 9 _ (omega arith) (go 3328 5 _ (omega arith) (go 3584 4 _ (omega arith)
-    (go 3840 6 _ (omega arith) (go 3904 2 _ (omega arith) (go 3968 1 _ (omega arith) (go 4032 3 _ (omega arith) (omega arith)))))))))
-  where
-    go : (e x y : ℕ) → x < 10 → y < 10 → (ltb k e ⇒ x ∣ y) < 10
-    go e x y p q = case-both (λ n. n < 10) (ltb k e) x y (λ t. p) (λ t. q)
+band-below k = band-good k .index
 
--- a band ends behind each of its places, and within the list
-pub end-above : (k : ℕ) → k < 4096 → (k < endOf k) × (endOf k ≤ 4096)
-unfolding endOf
-end-above k h =
-    go 1024 _ (omega arith) (λ p. go 2048 _ (omega arith) (λ p. go 3072 _ (omega arith) (λ p. go 3328 _ (omega arith) (λ p. go 3584 _ (omega arith)
-    (λ p. go 3840 _ (omega arith) (λ p. go 3904 _ (omega arith) (λ p. go 3968 _ (omega arith) (λ p. go 4032 _ (omega arith) (λ p. (h, omega arith))))))))))
-  where
-    go : (e y : ℕ) → e ≤ 4096 → (e ≤ k → (k < y) × (y ≤ 4096)) → (k < (ltb k e ⇒ e ∣ y)) × ((ltb k e ⇒ e ∣ y) ≤ 4096)
-    go e y l q = case-both (λ n. (k < n) × (n ≤ 4096)) (ltb k e) e y (λ t. (ltb-true k e t, l)) (λ t. q (ltb-false k e t))
+-- the same of the band that a call gave
+pub band-is : {k : ℕ} {b : Band} → b ≡ bandAt k → BandGood k b
+band-is {k} e = subst (BandGood k) (sym e) (band-good k)
+
+-- and its quantiser is the place's
+pub quant-is : (q : List ℕ) (k n : ℕ) (b : Band) → n ≡ getD q (b .set) 0 → b ≡ bandAt k → n ≡ quantAt q k
+quant-is q k n b e f = e ∙ ap (λ (x : Band). getD q (x .set) 0) f
 
 -- from a place to the end of its band all places are in that band
-pub same-band : (a k : ℕ) → a ≤ k → k < endOf a → bandOf k ≡ bandOf a
-unfolding bandOf endOf
-same-band a k l h =
-    go 1024 8 _ _ _ h (λ h. go 2048 7 _ _ _ h (λ h. go 3072 9 _ _ _ h (λ h. go 3328 5 _ _ _ h (λ h. go 3584 4 _ _ _ h
-    (λ h. go 3840 6 _ _ _ h (λ h. go 3904 2 _ _ _ h (λ h. go 3968 1 _ _ _ h (λ h. go 4032 3 _ _ _ h (λ h. refl)))))))))
+found-same : (bs : List Band) (a k : ℕ) → a ≤ k → k < firstBand bs a .end → firstBand bs k ≡ firstBand bs a
+unfolding firstBand
+found-same [] a k l h = refl
+found-same (b ∷ bs) a k l h = by (decLt a (b .end)) (found-same bs a k l)
   where
-    go : (e x y s t : ℕ) → k < (ltb a e ⇒ e ∣ y) → (k < y → s ≡ t) → (ltb k e ⇒ x ∣ s) ≡ (ltb a e ⇒ x ∣ t)
-    go e x y s t p q = by (decLt a e)
-      where
-        by : Dec (a < e) → (ltb k e ⇒ x ∣ s) ≡ (ltb a e ⇒ x ∣ t)
-        by (yes u) =
-            let b = lt-ltb a e u in
-            let f : (ltb a e ⇒ e ∣ y) ≡ e = sym (case-yes (ltb a e) e y e b refl) in
-            let v : k < e = subst (λ (n : ℕ). k < n) f p in
-            sym (case-yes (ltb k e) x s x (lt-ltb k e v) refl) ∙ case-yes (ltb a e) x t x b refl
-        by (no u) =
-            let b = le-ltb a e (omega arith) in
-            let f : (ltb a e ⇒ e ∣ y) ≡ y = sym (case-no (ltb a e) e y y b refl) in
-            let v : k < y = subst (λ (n : ℕ). k < n) f p in
-            sym (case-no (ltb k e) x s s (le-ltb k e (omega arith)) refl) ∙ (q v ∙ case-no (ltb a e) x t t b refl)
+    by : Dec (a < b .end) → (k < firstBand bs a .end → firstBand bs k ≡ firstBand bs a) →
+        (ltb k (b .end) ⇒ b ∣ firstBand bs k) ≡ (ltb a (b .end) ⇒ b ∣ firstBand bs a)
+    by (yes u) rest =
+        let y : b ≡ (ltb a (b .end) ⇒ b ∣ firstBand bs a) = case-yes (ltb a (b .end)) b (firstBand bs a) b (lt-ltb a (b .end) u) refl in
+        let v : k < b .end = subst (λ (x : Band). k < x .end) (sym y) h in
+        sym (case-yes (ltb k (b .end)) b (firstBand bs k) b (lt-ltb k (b .end) v) refl) ∙ y
+    by (no u) rest =
+        let y : firstBand bs a ≡ (ltb a (b .end) ⇒ b ∣ firstBand bs a) =
+        case-no (ltb a (b .end)) b (firstBand bs a) (firstBand bs a) (le-ltb a (b .end) (omega arith)) refl in
+        sym (case-no (ltb k (b .end)) b (firstBand bs k) (firstBand bs k) (le-ltb k (b .end) (omega arith)) refl)
+        ∙ (rest (subst (λ (x : Band). k < x .end) (sym y) h) ∙ y)
+
+pub same-band : (a k : ℕ) → a ≤ k → k < bandAt a .end → bandAt k ≡ bandAt a
+unfolding bandAt
+same-band a k l h = found-same bands a k l h
 
 -- ---- five bytes of a message
 
 take-more : (m : List ℕ) (n a b : ℕ) → a < length m → b ≡ a + 1 → take (suc n) (drop a m) ≡ getD m a 0 ∷ take n (drop b m)
 take-more m n a b h e = ap (take (suc n)) (drop-cons m a 0 h) ∙ ap (λ (k : ℕ). getD m a 0 ∷ take n (drop k m)) (sym (e ∙ add-one a))
 
-pub five : (m : List ℕ) (a : ℕ) → a + 5 ≤ length m → take 5 (drop a m) ≡ getD m a 0 ∷ getD m (a + 1) 0 ∷ getD m (a + 2) 0 ∷ getD m (a + 3) 0 ∷ getD m (a + 4) 0 ∷ []
+pub five : (m : List ℕ) (a : ℕ) → a + 5 ≤ length m →
+    take 5 (drop a m) ≡ getD m a 0 ∷ getD m (a + 1) 0 ∷ getD m (a + 2) 0 ∷ getD m (a + 3) 0 ∷ getD m (a + 4) 0 ∷ []
 five m a h =
     take-more m 4 a (a + 1) (omega arith) refl
     ∙ ap (λ (l : List ℕ). getD m a 0 ∷ l) (take-more m 3 (a + 1) (a + 2) (omega arith) (omega arith)
@@ -98,10 +122,6 @@ shl-one k h = shl-exact {a = 1} 1 k 32 (lit< tt) (omega arith) ∙ one-mul (2 ^ 
 
 pub shl-small : (k : ℕ) → k < 31 → (1 * 2 ^ k) % 4294967296 < 2147483648
 shl-small k h = subst (λ (n : ℕ). n < 2147483648) (sym (shl-one k h)) (pow-lt h)
-
-both-true : (a b : Bool) → (a && b) ≡ true → (a ≡ true) × (b ≡ true)
-both-true true b e = (refl, e)
-both-true false b e = absurd (let z : _≡_ {A = ℕ} 0 1 = cc in omega arith)
 
 each-good : (q : List ℕ) (n : ℕ) → goodTo q n ≡ true → (i : ℕ) → i < n → (6 ≤ getD q i 0) × (getD q i 0 ≤ 15)
 unfolding goodTo
@@ -154,4 +174,5 @@ pub good-next : (q : List ℕ) (i : ℕ) → goodTo q i ≡ true → 6 ≤ getD 
 unfolding goodTo
 good-next q i e a l =
     ap (goodTo q) (add-one i)
-    ∙ (ap (λ (b : Bool). b && (leb 6 (getD q i 0) && leb (getD q i 0) 15)) e ∙ (ap (λ (b : Bool). b && leb (getD q i 0) 15) (le-leb 6 (getD q i 0) a) ∙ le-leb (getD q i 0) 15 l))
+    ∙ (ap (λ (b : Bool). b && (leb 6 (getD q i 0) && leb (getD q i 0) 15)) e
+    ∙ (ap (λ (b : Bool). b && leb (getD q i 0) 15) (le-leb 6 (getD q i 0) a) ∙ le-leb (getD q i 0) 15 l))

@@ -1,26 +1,24 @@
 -- Laws of a list whose bands are lent as parts: LL3 at its end, and band after band.
 -- Assumes nothing.
 use mathlib.Core.Path.{_≡_, refl, sym, _∙_, ap, subst}
-use mathlib.Core.Bool.{true}
 use mathlib.Core.List.{List, _++_, append-nil}
-use Prim.Native.Nat.{ℕ, _+_, _*_, _-_, _^_, _≤_, _<_, zero-le}
+use Prim.Native.Nat.{ℕ, _+_, _-_, _^_, _≤_, _<_, zero-le}
 use native.Mathlib.Decide.{decLt}
 use native.Mathlib.Omega.{arith}
 use lib.IntN.{ℤ, pos, _*ℤ_}
 use lib.ListN.{length, getD, set, length-set, take, drop, length-append, length-take, length-drop, drop-of-length-le, List·getD-append, List·getD-eq-default}
 use lib.Seq.{getD-set-other, getD-take, getD-append-add, length-take-le}
 use borrow.Rule.Slice.PartMut.{putMid}
-use Rattle.whole.specs.Row.{_!_⨾_}
-use Rattle.whole.specs.laws.Row.{held, stops, goes-on}
+use Rattle.whole.specs.laws.Row.{held}
 use Rattle.whole.specs.Near.{Near}
 use Rattle.whole.specs.Tab.{at, tab}
 use Rattle.whole.specs.laws.Tab.{AllNear, at-tab, length-tab, is-tab}
 use Rattle.whole.specs.laws.Put.{put-new}
 use Rattle.whole.specs.laws.Part.{part-length, part-at, put-length, put-below, put-in, put-above}
-use Rattle.bands.specs.Bands.{quantAt, allIn, sumTo, ll3, sumsOf, sumsFault, summed, scaleAt, scaleFault, scaledBy, rangeFault, coefficientsFault, Summed, Scaled}
-use Rattle.bands.specs.laws.Steps.{outs, endOf}
-use Rattle.bands.specs.laws.Band.{same-band, end-above}
-use Rattle.bands.specs.laws.Range.{all-each, none-out, some-out, outs-cong, outs-add, sum-cong}
+use Rattle.bands.specs.declared.Band.{Band}
+use Rattle.bands.specs.Bands.{bandAt, quantAt, allIn, sumTo, ll3, sumsOf, sumsFault, summed, scaleAt, scaleFault, scaledBy}
+use Rattle.bands.specs.laws.Band.{same-band, band-good}
+use Rattle.bands.specs.laws.Range.{all-each, sum-cong}
 
 -- ---- a list whose last 64 places were made anew
 
@@ -37,51 +35,43 @@ seam-length xs ys l m = simp (length-append, length-take) (omega arith)
 
 -- a part lent of the last 64 places that came back as ys
 pub put-last : (xs ys : List ℤ) → length xs ≡ 4096 → putMid 4032 64 xs ys ≡ take 4032 xs ++ ys
-put-last xs ys l = ap (λ (zs : List ℤ). take 4032 xs ++ (ys ++ zs)) (drop-of-length-le (drop 4032 xs) {i = 64} (simp length-drop (omega arith))) ∙ ap (λ (zs : List ℤ). take 4032 xs ++ zs) (append-nil ys)
+put-last xs ys l = ap (λ (zs : List ℤ). take 4032 xs ++ (ys ++ zs)) (drop-of-length-le (drop 4032 xs) {i = 64} (simp length-drop (omega arith)))
+    ∙ ap (λ (zs : List ℤ). take 4032 xs ++ zs) (append-nil ys)
 
-pub seam-near : {B : ℕ} (xs ys : List ℤ) → length xs ≡ 4096 → length ys ≡ 64 → AllNear B xs → ((i : ℕ) → i < 64 → Near B (at ys i)) → AllNear B (take 4032 xs ++ ys)
+pub seam-near : {B : ℕ} (xs ys : List ℤ) → length xs ≡ 4096 → length ys ≡ 64 → AllNear B xs → ((i : ℕ) → i < 64 → Near B (at ys i)) →
+    AllNear B (take 4032 xs ++ ys)
 seam-near {B} xs ys l m n p = record { all = λ k. place k (decLt k 4032) (decLt k 4096) }
   where
     place : (k : ℕ) → Dec (k < 4032) → Dec (k < 4096) → Near B (at (take 4032 xs ++ ys) k)
     place k (yes h) d = subst (Near B) (sym (front-at xs ys k l h)) (n .all k)
-    place k (no h) (yes d) = subst (λ (j : ℕ). Near B (at (take 4032 xs ++ ys) j)) {x = 4032 + (k - 4032)} (omega arith) (subst (Near B) (sym (back-at xs ys (k - 4032) l)) (p (k - 4032) (omega arith)))
-    place k (no h) (no d) = subst (Near B) (sym (List·getD-eq-default (take 4032 xs ++ ys) (pos 0) {n = k} (omega (arith, seam-length xs ys l m)))) (record { near = zero-le })
+    place k (no h) (yes d) = subst (λ (j : ℕ). Near B (at (take 4032 xs ++ ys) j)) {x = 4032 + (k - 4032)} (omega arith)
+        (subst (Near B) (sym (back-at xs ys (k - 4032) l)) (p (k - 4032) (omega arith)))
+    place k (no h) (no d) = subst (Near B) (sym (List·getD-eq-default (take 4032 xs ++ ys) (pos 0) {n = k} (omega (arith, seam-length xs ys l m))))
+        (record { near = zero-le })
 
 -- ---- LL3's sums
 
-ll3-part : (xs : List ℤ) (i : ℕ) → i < 64 → at (take 64 (drop 4032 xs)) i ≡ ll3 xs i
-ll3-part xs i h = part-at xs 4032 64 i h
+-- the sums of LL3 lent as a part
+pub part-sums : (xs : List ℤ) (i : ℕ) → i < 64 → sumTo (at (take 64 (drop 4032 xs))) (i + 1) ≡ sumsOf xs i
+unfolding sumsOf
+part-sums xs i h = sum-cong (at (take 64 (drop 4032 xs))) (ll3 xs) (i + 1) (λ k l. part-at xs 4032 64 k (omega arith))
 
-module _ (xs : List ℤ) (len : length xs ≡ 4096) where
-  sums-same : (i : ℕ) → i < 64 → sumTo (at (take 64 (drop 4032 xs))) (i + 1) ≡ sumsOf xs i
-  unfolding sumsOf
-  sums-same i h = sum-cong (at (take 64 (drop 4032 xs))) (ll3 xs) (i + 1) (λ k l. ll3-part xs k (omega arith))
-
-  module _ (ys : List ℤ) (r : ℕ) (says : r ≡ outs (λ (i : ℕ). sumTo (at (take 64 (drop 4032 xs))) (i + 1)) 64) (holds : ys ≡ tab 64 (λ (i : ℕ). sumTo (at (take 64 (drop 4032 xs))) (i + 1))) where
-    counted : r ≡ outs (sumsOf xs) 64
-    counted = says ∙ outs-cong (λ (i : ℕ). sumTo (at (take 64 (drop 4032 xs))) (i + 1)) (sumsOf xs) 64 sums-same
-
-    listed : putMid 4032 64 xs ys ≡ summed xs
-    unfolding summed
-    listed =
-        put-last xs ys len
-        ∙ ap (λ (zs : List ℤ). take 4032 xs ++ zs) (is-tab 64 (sumsOf xs) ys (ap length holds ∙ length-tab 64 _)
-        (λ i h. ap (λ (zs : List ℤ). at zs i) holds ∙ (at-tab 64 (λ (i : ℕ). sumTo (at (take 64 (drop 4032 xs))) (i + 1)) i h ∙ sums-same i h)))
-
-    pub sums-fine : r ≡ 0 → Summed xs (putMid 4032 64 xs ys) 0
-    unfolding sumsFault
-    sums-fine z = record { number = none-out (sumsOf xs) 64 (sym counted ∙ z); list = listed }
-
-    pub sums-range : (r ≡ 0 → ⊥) → Summed xs (putMid 4032 64 xs ys) 9
-    unfolding sumsFault
-    sums-range z = record { number = some-out (sumsOf xs) 64 (λ e. z (counted ∙ e)); list = listed }
+pub sums-listed : (xs ys : List ℤ) → length xs ≡ 4096 → ys ≡ tab 64 (λ (i : ℕ). sumTo (at (take 64 (drop 4032 xs))) (i + 1)) → putMid 4032 64 xs ys ≡ summed xs
+unfolding summed
+sums-listed xs ys l w =
+    put-last xs ys l
+    ∙ ap (λ (zs : List ℤ). take 4032 xs ++ zs) (is-tab 64 (sumsOf xs) ys (ap length w ∙ length-tab 64 _)
+    (λ i h. ap (λ (zs : List ℤ). at zs i) w ∙ (at-tab 64 (λ (i : ℕ). sumTo (at (take 64 (drop 4032 xs))) (i + 1)) i h ∙ part-sums xs i h)))
 
 pub summed-near : (xs : List ℤ) → length xs ≡ 4096 → AllNear 32767 xs → 0 ≡ sumsFault xs → (length (summed xs) ≡ 4096) × AllNear 32767 (summed xs)
 unfolding summed sumsFault
 summed-near xs l n e =
     let t = length-tab 64 (sumsOf xs) in
-    let a = held (allIn (sumsOf xs) 64) 9 0 0 (λ z. omega arith) e .0 in
-    (seam-length xs (tab 64 (sumsOf xs)) l t, seam-near xs (tab 64 (sumsOf xs)) l t n (λ i h. subst (Near 32767) (sym (at-tab 64 (sumsOf xs) i h)) (all-each (sumsOf xs) 64 a i h)))
+    let a = held (allIn (sumsOf xs) 64) 9 0 0 (λ z. omega arith) e .0 in (
+      seam-length xs (tab 64 (sumsOf xs)) l t,
+      seam-near xs (tab 64 (sumsOf xs)) l t n
+          (λ i h. subst (Near 32767) (sym (at-tab 64 (sumsOf xs) i h)) (all-each (sumsOf xs) 64 a i h)),
+    )
 
 -- ---- band after band: the places below a are done, the others are as they were
 
@@ -105,19 +95,13 @@ done-put F i before xs v h e d = record {
 }
 
 -- one band more: G is what is done to a value of it
-module _ (F : ℕ → ℤ) (G : ℤ → ℤ) (before xs : List ℤ) (a e : ℕ) (from : a ≤ e) (to : e ≤ length xs) (d : Done F a before xs) (here : (k : ℕ) → a ≤ k → k < e → G (at before k) ≡ F k) where
+module _ (F : ℕ → ℤ) (G : ℤ → ℤ) (before xs : List ℤ) (a e : ℕ) (from : a ≤ e) (to : e ≤ length xs) (d : Done F a before xs)
+    (here : (k : ℕ) → a ≤ k → k < e → G (at before k) ≡ F k) where
   part-is : (i : ℕ) → i < e - a → G (at (take (e - a) (drop a xs)) i) ≡ F (a + i)
   part-is i h = ap G (part-at xs a (e - a) i h ∙ d .rest (a + i) (omega arith)) ∙ here (a + i) (omega arith) (omega arith)
 
-  pub band-out : outs F a + outs (λ (i : ℕ). G (at (take (e - a) (drop a xs)) i)) (length (take (e - a) (drop a xs))) ≡ outs F e
-  band-out =
-      let l = part-length xs a e from to in
-      let g : ℕ → ℤ = λ i. G (at (take (e - a) (drop a xs)) i) in
-      let n : a + (e - a) ≡ e = omega arith in
-      ap (λ (m : ℕ). outs F a + outs g m) l
-      ∙ (ap (λ (m : ℕ). outs F a + m) (outs-cong g (λ (i : ℕ). F (a + i)) (e - a) part-is) ∙ (sym (outs-add F a (e - a)) ∙ ap (outs F) n))
-
-  pub band-done : (ys : List ℤ) → ys ≡ tab (length (take (e - a) (drop a xs))) (λ (i : ℕ). G (at (take (e - a) (drop a xs)) i)) → Done F e before (putMid a (e - a) xs ys)
+  pub band-done : (ys : List ℤ) → ys ≡ tab (length (take (e - a) (drop a xs))) (λ (i : ℕ). G (at (take (e - a) (drop a xs)) i)) →
+      Done F e before (putMid a (e - a) xs ys)
   band-done ys w =
       let l = part-length xs a e from to in
       let g : ℕ → ℤ = λ i. G (at (take (e - a) (drop a xs)) i) in
@@ -129,16 +113,19 @@ module _ (F : ℕ → ℤ) (G : ℤ → ℤ) (before xs : List ℤ) (a e : ℕ) 
         done = λ k h. place ys w2 yl fit k h (decLt k a);
         rest = λ k h.
             let n : a + ((e - a) + (k - e)) ≡ k = omega arith in
-            subst (λ (m : ℕ). at (putMid a (e - a) xs ys) m ≡ at before m) n (put-above xs ys a (e - a) fit yl (k - e) ∙ d .rest (a + ((e - a) + (k - e))) (omega arith));
+            subst (λ (m : ℕ). at (putMid a (e - a) xs ys) m ≡ at before m) n (put-above xs ys a (e - a) fit yl (k - e)
+            ∙ d .rest (a + ((e - a) + (k - e))) (omega arith));
       }
     where
-      place : (ys : List ℤ) → ys ≡ tab (e - a) (λ (i : ℕ). G (at (take (e - a) (drop a xs)) i)) → length ys ≡ e - a → a + (e - a) ≤ length xs → (k : ℕ) → k < e → Dec (k < a) → at (putMid a (e - a) xs ys) k ≡ F k
+      place : (ys : List ℤ) → ys ≡ tab (e - a) (λ (i : ℕ). G (at (take (e - a) (drop a xs)) i)) → length ys ≡ e - a → a + (e - a) ≤ length xs → (k : ℕ) →
+          k < e → Dec (k < a) → at (putMid a (e - a) xs ys) k ≡ F k
       place ys w yl fit k h (yes p) = put-below xs ys a (e - a) fit yl k p ∙ d .done k p
       place ys w yl fit k h (no p) =
           let n : a + (k - a) ≡ k = omega arith in
           let i : k - a < e - a = omega arith in
           subst (λ (m : ℕ). at (putMid a (e - a) xs ys) m ≡ F m) n
-          (put-in xs ys a (e - a) fit yl (k - a) i ∙ (ap (λ (zs : List ℤ). at zs (k - a)) w ∙ (at-tab (e - a) (λ (i : ℕ). G (at (take (e - a) (drop a xs)) i)) (k - a) i ∙ part-is (k - a) i)))
+          (put-in xs ys a (e - a) fit yl (k - a) i ∙ (ap (λ (zs : List ℤ). at zs (k - a)) w
+          ∙ (at-tab (e - a) (λ (i : ℕ). G (at (take (e - a) (drop a xs)) i)) (k - a) i ∙ part-is (k - a) i)))
 
 -- what a band still has to be done is as near as it was
 pub rest-near : {B : ℕ} (F : ℕ → ℤ) (before xs : List ℤ) (a k : ℕ) → Done F a before xs → AllNear B before → AllNear B (take k (drop a xs))
@@ -146,34 +133,24 @@ rest-near {B} F before xs a k d n = record { all = λ i. place i (decLt i k) }
   where
     place : (i : ℕ) → Dec (i < k) → Near B (at (take k (drop a xs)) i)
     place i (yes h) = subst (Near B) (sym (part-at xs a k i h ∙ d .rest (a + i) (omega arith))) (n .all (a + i))
-    place i (no h) = subst (Near B) (sym (List·getD-eq-default (take k (drop a xs)) (pos 0) {n = i} (simp length-take (omega arith)))) (record { near = zero-le })
+    place i (no h) = subst (Near B) (sym (List·getD-eq-default (take k (drop a xs)) (pos 0) {n = i} (simp length-take (omega arith))))
+        (record { near = zero-le })
 
 -- ---- scaling
 
 -- one band more: a is its first place, e where it ends, m its factor
-module _ (q : List ℕ) (before xs : List ℤ) (a e : ℕ) (m : ℤ) (below : a < 4096) (end : e ≡ endOf a) (len : length before ≡ 4096) (d : Done (scaleAt q (at before)) a before xs) (factor : m ≡ pos (2 ^ (quantAt q a - 1))) where
-  there : (a ≤ e) × (e ≤ length xs)
-  there = let t = end-above a below in (omega (arith, end), omega (arith, end, d .same))
-
+module _ (q : List ℕ) (before xs : List ℤ) (a e : ℕ) (m : ℤ) (below : a < 4096) (end : e ≡ bandAt a .end) (len : length before ≡ 4096)
+    (d : Done (scaleAt q (at before)) a before xs) (factor : m ≡ pos (2 ^ (quantAt q a - 1))) where
   here : (k : ℕ) → a ≤ k → k < e → at before k *ℤ m ≡ scaleAt q (at before) k
-  here k l h = ap (λ (z : ℤ). at before k *ℤ z) (factor ∙ ap (λ (b : ℕ). pos (2 ^ (getD q b 0 - 1))) (sym (same-band a k l (subst (λ (n : ℕ). k < n) end h))))
+  here k l h = ap (λ (z : ℤ). at before k *ℤ z) (factor
+      ∙ ap (λ (b : Band). pos (2 ^ (getD q (b .set) 0 - 1))) (sym (same-band a k l (subst (λ (n : ℕ). k < n) end h))))
 
-  pub scale-turn : (ys : List ℤ) (bad r : ℕ)
-      → bad ≡ outs (scaleAt q (at before)) a
-      → r ≡ outs (λ (i : ℕ). at (take (e - a) (drop a xs)) i *ℤ m) (length (take (e - a) (drop a xs)))
-      → ys ≡ tab (length (take (e - a) (drop a xs))) (λ (i : ℕ). at (take (e - a) (drop a xs)) i *ℤ m)
-      → (bad + r ≡ outs (scaleAt q (at before)) e) × Done (scaleAt q (at before)) e before (putMid a (e - a) xs ys)
-  scale-turn ys bad r b s w =
-      let o = band-out (scaleAt q (at before)) (λ z. z *ℤ m) before xs a e (there .0) (there .1) d here in
-      (omega (arith, o), band-done (scaleAt q (at before)) (λ z. z *ℤ m) before xs a e (there .0) (there .1) d here ys w)
-
-pub scaled-fine : (q : List ℕ) (xs ys : List ℤ) (bad : ℕ) → length xs ≡ 4096 → Done (scaleAt q (at xs)) 4096 xs ys → bad ≡ outs (scaleAt q (at xs)) 4096 → bad ≡ 0 → Scaled q xs ys 0
-unfolding scaleFault scaledBy
-scaled-fine q xs ys bad l d c z = record { number = none-out (scaleAt q (at xs)) 4096 (sym c ∙ z); list = done-all (scaleAt q (at xs)) 4096 xs ys l d }
-
-pub scaled-range : (q : List ℕ) (xs ys : List ℤ) (bad : ℕ) → length xs ≡ 4096 → Done (scaleAt q (at xs)) 4096 xs ys → bad ≡ outs (scaleAt q (at xs)) 4096 → (bad ≡ 0 → ⊥) → Scaled q xs ys 9
-unfolding scaleFault scaledBy
-scaled-range q xs ys bad l d c z = record { number = some-out (scaleAt q (at xs)) 4096 (λ e. z (c ∙ e)); list = done-all (scaleAt q (at xs)) 4096 xs ys l d }
+  pub scale-turn : (ys : List ℤ) → ys ≡ tab (length (take (e - a) (drop a xs))) (λ (i : ℕ). at (take (e - a) (drop a xs)) i *ℤ m) →
+      Done (scaleAt q (at before)) e before (putMid a (e - a) xs ys)
+  scale-turn ys w =
+      let t = band-good a in
+      let u = t .behind below in
+      band-done (scaleAt q (at before)) (λ z. z *ℤ m) before xs a e (omega (arith, end)) (omega (arith, end, t .within, d .same)) d here ys w
 
 pub scaled-near : (q : List ℕ) (xs : List ℤ) → 0 ≡ scaleFault q xs → (length (scaledBy q xs) ≡ 4096) × AllNear 32767 (scaledBy q xs)
 unfolding scaleFault scaledBy
@@ -186,40 +163,5 @@ scaled-near q xs e =
       where
         place : (i : ℕ) → Dec (i < n) → Near B (at (tab n f) i)
         place i (yes h) = subst (Near B) (sym (at-tab n f i h)) (p i h)
-        place i (no h) = subst (Near B) (sym (List·getD-eq-default (tab n f) (pos 0) (subst (λ (m : ℕ). m ≤ i) (sym (length-tab n f)) (omega arith)))) (record { near = zero-le })
-
--- ---- a list judged as the reader would
-
-module _ (q : List ℕ) (xs : List ℤ) (n : ℕ) (count : n ≡ outs (at xs) (length xs)) where
-  pub out-refused : (n ≡ 0 → ⊥) → 9 ≡ coefficientsFault q xs
-  unfolding coefficientsFault rangeFault
-  out-refused h =
-      let e = some-out (at xs) (length xs) (λ z. h (count ∙ z)) in
-      stops (allIn (at xs) (length xs) ! 9 ⨾ 0) _ 9 (λ z. omega (arith, e ∙ z)) e
-
-  pub none-refused : n ≡ 0 → (0 ≡ rangeFault xs) × AllNear 32767 xs
-  unfolding rangeFault
-  none-refused z =
-      let e = none-out (at xs) (length xs) (sym count ∙ z) in
-      let a = held (allIn (at xs) (length xs)) 9 0 0 (λ z. omega arith) e .0 in
-      (e, record { all = λ i. place a i (decLt i (length xs)) })
-    where
-      place : allIn (at xs) (length xs) ≡ true → (i : ℕ) → Dec (i < length xs) → Near 32767 (at xs i)
-      place a i (yes h) = all-each (at xs) (length xs) a i h
-      place a i (no h) = subst (Near 32767) (sym (List·getD-eq-default xs (pos 0) {n = i} (omega arith))) (record { near = zero-le })
-
-module _ (q : List ℕ) (xs ys after : List ℤ) (f : ℕ) (range : 0 ≡ rangeFault xs) (copy : ys ≡ xs) (m : Summed ys after f) where
-  pub sums-judged : (f ≡ 0 → ⊥) → f ≡ coefficientsFault q xs
-  unfolding coefficientsFault
-  sums-judged h = let e = m .number ∙ ap sumsFault copy in goes-on _ _ _ (sym range) (stops _ _ _ (λ z. h (e ∙ z)) e)
-
-  pub sums-passed : f ≡ 0 → length xs ≡ 4096 → AllNear 32767 xs → (length after ≡ 4096) × AllNear 32767 after
-  sums-passed z l n =
-      let p = summed-near xs l n (sym z ∙ (m .number ∙ ap sumsFault copy)) in
-      let e = m .list ∙ ap summed copy in
-      (ap length e ∙ p .0, subst (AllNear 32767) (sym e) (p .1))
-
-  pub scale-judged : f ≡ 0 → (zs : List ℤ) (r : ℕ) → Scaled q after zs r → r ≡ coefficientsFault q xs
-  unfolding coefficientsFault
-  scale-judged z zs r g =
-      goes-on _ _ _ (sym range) (goes-on _ _ _ (sym (m .number ∙ ap sumsFault copy) ∙ z) (g .number ∙ ap (scaleFault q) (m .list ∙ ap summed copy)))
+        place i (no h) = subst (Near B) (sym (List·getD-eq-default (tab n f) (pos 0) (subst (λ (m : ℕ). m ≤ i) (sym (length-tab n f)) (omega arith))))
+            (record { near = zero-le })

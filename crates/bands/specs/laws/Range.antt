@@ -1,21 +1,21 @@
--- Laws of the range and of LL3's sums.
+-- Laws of the range, of counting what is above a limit in size, and of LL3's sums.
 -- Assumes nothing.
 use mathlib.Core.Path.{_≡_, refl, sym, _∙_, ap, subst}
 use mathlib.Core.Bool.{Bool, true, false, _&&_}
-use Prim.Native.Nat.{ℕ, zero, suc, _+_, _*_, _-_, _≤_, _<_, zero-le}
-use native.Mathlib.Nat.{not-suc-le-zero, add-zero, add-suc}
+use Prim.Native.Nat.{ℕ, zero, suc, _+_, _*_, _-_, _^_, _≤_, _<_, zero-le}
+use native.Mathlib.Nat.{not-suc-le-zero, add-zero, add-suc, le-div-iff-mul-le, div-le-self}
 use native.Mathlib.Numerals.{add-one}
 use native.Mathlib.Decide.{ℕ-discrete}
 use native.Mathlib.Omega.{arith}
-use borrow.Author.Tests.{leb-true, ltb-true, ltb-false, le-leb, lt-leb, eq-eqb, ne-eqb}
-use lib.Dec.{eqb}
-use lib.IntN.{ℤ, pos, negsuc, natAbs, _+ℤ_}
+use borrow.Author.Tests.{leb-true, ltb-true, ltb-false, le-leb, lt-leb}
+use lib.Dec.{leb}
+use lib.IntN.{ℤ, pos, negsuc, negℤ, natAbs, _+ℤ_, _*ℤ_}
+use lib.Pow.{pow-pos}
 use lib.Signed.{ltZ}
-use Rattle.whole.specs.Row.{_!_⨾_, _⇒_∣_}
-use Rattle.whole.specs.laws.Row.{passes, fails}
-use Rattle.whole.specs.Near.{Near, add-near}
+use Rattle.whole.specs.Row.{_⇒_∣_}
+use Rattle.whole.specs.Near.{Near, add-near, near-*, wide-near}
 use Rattle.bands.specs.Bands.{inRange, allIn, sumTo}
-use Rattle.bands.specs.laws.Steps.{outOf, outs}
+use Rattle.bands.specs.laws.Steps.{overOf, overs, limitOf}
 
 pub in-near : (z : ℤ) → inRange z ≡ true → Near 32767 z
 unfolding inRange
@@ -27,72 +27,104 @@ near-in z h = le-leb (natAbs z) 32767 (h .near)
 
 -- ---- the test's three answers
 
-out-yes : (z : ℤ) → 32767 < natAbs z → 1 ≡ outOf z
-unfolding outOf inRange _⇒_∣_
-out-yes z h = sym (ap (λ (b : Bool). b ⇒ 0 ∣ 1) (lt-leb (natAbs z) 32767 h))
+over-yes : (m : ℕ) (z : ℤ) → m < natAbs z → 1 ≡ overOf m z
+unfolding overOf _⇒_∣_
+over-yes m z h = sym (ap (λ (b : Bool). b ⇒ 0 ∣ 1) (lt-leb (natAbs z) m h))
 
-out-no : (z : ℤ) → natAbs z ≤ 32767 → 0 ≡ outOf z
-unfolding outOf inRange _⇒_∣_
-out-no z h = sym (ap (λ (b : Bool). b ⇒ 0 ∣ 1) (le-leb (natAbs z) 32767 h))
+over-no : (m : ℕ) (z : ℤ) → natAbs z ≤ m → 0 ≡ overOf m z
+unfolding overOf _⇒_∣_
+over-no m z h = sym (ap (λ (b : Bool). b ⇒ 0 ∣ 1) (le-leb (natAbs z) m h))
 
-pub out-low : (z : ℤ) → ltZ z (negsuc 32766) ≡ true → 1 ≡ outOf z
-out-low (pos n) h = absurd (let z : _≡_ {A = ℕ} 0 1 = cc in omega arith)
-out-low (negsuc n) h = out-yes (negsuc n) (omega (arith, ltb-true 32766 n h))
+pub over-high : (m : ℕ) (z : ℤ) → ltZ (pos m) z ≡ true → 1 ≡ overOf m z
+over-high m (pos n) h = over-yes m (pos n) (ltb-true m n h)
+over-high m (negsuc n) h = absurd (let z : _≡_ {A = ℕ} 0 1 = cc in omega arith)
 
-pub out-high : (z : ℤ) → ltZ (pos 32767) z ≡ true → 1 ≡ outOf z
-out-high (pos n) h = out-yes (pos n) (ltb-true 32767 n h)
-out-high (negsuc n) h = absurd (let z : _≡_ {A = ℕ} 0 1 = cc in omega arith)
+pub over-low : (m : ℕ) (z : ℤ) → ltZ z (negℤ (pos m)) ≡ true → 1 ≡ overOf m z
+over-low zero (pos n) h = absurd (omega (arith, ltb-true n 0 h))
+over-low zero (negsuc n) h = over-yes 0 (negsuc n) (omega arith)
+over-low (suc m) (pos n) h = absurd (let z : _≡_ {A = ℕ} 0 1 = cc in omega arith)
+over-low (suc m) (negsuc n) h = over-yes (suc m) (negsuc n) (omega (arith, ltb-true m n h))
 
-pub out-mid : (z : ℤ) → ltZ z (negsuc 32766) ≡ false → ltZ (pos 32767) z ≡ false → 0 ≡ outOf z
-out-mid (pos n) g h = out-no (pos n) (ltb-false 32767 n h)
-out-mid (negsuc n) g h = out-no (negsuc n) (omega (arith, ltb-false 32766 n g))
+pub over-mid : (m : ℕ) (z : ℤ) → ltZ (pos m) z ≡ false → ltZ z (negℤ (pos m)) ≡ false → 0 ≡ overOf m z
+over-mid m (pos n) g h = over-no m (pos n) (ltb-false m n g)
+over-mid zero (negsuc n) g h = absurd (let z : _≡_ {A = ℕ} 0 1 = cc in omega arith)
+over-mid (suc m) (negsuc n) g h = over-no (suc m) (negsuc n) (omega (arith, ltb-false m n h))
 
 -- ---- counting
 
-pub out-le : (z : ℤ) → outOf z ≤ 1
-unfolding outOf _⇒_∣_
-out-le z = go (inRange z)
+pub over-le : (m : ℕ) (z : ℤ) → overOf m z ≤ 1
+unfolding overOf _⇒_∣_
+over-le m z = go (leb (natAbs z) m)
   where
     go : (b : Bool) → (b ⇒ 0 ∣ 1) ≤ 1
     go true = omega arith
     go false = omega arith
 
-pub outs-le : (f : ℕ → ℤ) (n : ℕ) → outs f n ≤ n
-unfolding outs
-outs-le f zero = omega arith
-outs-le f (suc n) = omega (arith, outs-le f n, out-le (f n))
-
-pub outs-more : (f : ℕ → ℤ) (n : ℕ) → outs f n + outOf (f n) ≡ outs f (n + 1)
-unfolding outs
-outs-more f n = ap (outs f) (sym (add-one n))
-
-pub outs-cong : (f g : ℕ → ℤ) (n : ℕ) → ((k : ℕ) → k < n → f k ≡ g k) → outs f n ≡ outs g n
-unfolding outs
-outs-cong f g zero h = refl
-outs-cong f g (suc n) h = let e = outs-cong f g n (λ k l. h k (omega arith)) in let d = h n (omega arith) in cc
-
-pub outs-add : (f : ℕ → ℤ) (a n : ℕ) → outs f (a + n) ≡ outs f a + outs (λ i. f (a + i)) n
-unfolding outs
-outs-add f a zero = ap (outs f) (add-zero a) ∙ sym (add-zero (outs f a))
-outs-add f a (suc n) = let e : outs f (a + suc n) ≡ outs f (suc (a + n)) = ap (outs f) (add-suc a n) in omega (arith, outs-add f a n)
-
--- none is out exactly where all are in
-pub all-outs : (f : ℕ → ℤ) (n : ℕ) → allIn f n ≡ eqb (outs f n) 0
-unfolding allIn outs outOf _⇒_∣_
-all-outs f zero = sym (eq-eqb 0 0 refl)
-all-outs f (suc n) = ap (λ (b : Bool). b && inRange (f n)) (all-outs f n) ∙ step (inRange (f n)) (outs f n) (ℕ-discrete (outs f n) 0)
+over-none : (m : ℕ) (z : ℤ) → overOf m z ≡ 0 → Near m z
+unfolding overOf _⇒_∣_
+over-none m z e = record { near = leb-true (natAbs z) m (go (leb (natAbs z) m) e) }
   where
-    step : (b : Bool) (m : ℕ) → Dec (m ≡ 0) → (eqb m 0 && b) ≡ eqb (m + (b ⇒ 0 ∣ 1)) 0
-    step true m (yes e) = ap (λ (c : Bool). c && true) (eq-eqb m 0 e) ∙ sym (eq-eqb (m + 0) 0 (omega arith))
-    step true m (no e) = ap (λ (c : Bool). c && true) (ne-eqb m 0 e) ∙ sym (ne-eqb (m + 0) 0 (λ z. e (omega arith)))
-    step false m (yes e) = ap (λ (c : Bool). c && false) (eq-eqb m 0 e) ∙ sym (ne-eqb (m + 1) 0 (λ z. omega arith))
-    step false m (no e) = ap (λ (c : Bool). c && false) (ne-eqb m 0 e) ∙ sym (ne-eqb (m + 1) 0 (λ z. omega arith))
+    go : (b : Bool) → _≡_ {A = ℕ} (b ⇒ 0 ∣ 1) 0 → b ≡ true
+    go true e = refl
+    go false e = absurd (omega arith)
 
-pub none-out : (f : ℕ → ℤ) (n : ℕ) → outs f n ≡ 0 → _≡_ {A = ℕ} 0 (allIn f n ! 9 ⨾ 0)
-none-out f n e = passes (allIn f n) 9 0 0 (all-outs f n ∙ eq-eqb (outs f n) 0 e) refl
+pub overs-le : (m : ℕ → ℕ) (f : ℕ → ℤ) (n : ℕ) → overs m f n ≤ n
+unfolding overs
+overs-le m f zero = omega arith
+overs-le m f (suc n) = omega (arith, overs-le m f n, over-le (m n) (f n))
 
-pub some-out : (f : ℕ → ℤ) (n : ℕ) → (outs f n ≡ 0 → ⊥) → _≡_ {A = ℕ} 9 (allIn f n ! 9 ⨾ 0)
-some-out f n e = fails (allIn f n) 9 0 9 (all-outs f n ∙ ne-eqb (outs f n) 0 e) refl
+pub overs-more : (m : ℕ → ℕ) (f : ℕ → ℤ) (n : ℕ) → overs m f n + overOf (m n) (f n) ≡ overs m f (n + 1)
+unfolding overs
+overs-more m f n = ap (overs m f) (sym (add-one n))
+
+-- one more turn of a loop that counts: the sum fits, and is the next count
+pub count-turn : (m : ℕ → ℕ) (f : ℕ → ℤ) (n bad r : ℕ) → bad ≡ overs m f n → r ≡ overOf (m n) (f n) → (bad + r ≤ n + 1) × (bad + r ≡ overs m f (n + 1))
+count-turn m f n bad r b e =
+    let s : bad + r ≡ overs m f n + overOf (m n) (f n) = omega arith in
+    (omega (arith, overs-le m f n, over-le (m n) (f n)), s ∙ overs-more m f n)
+
+pub overs-cong : (m k : ℕ → ℕ) (f g : ℕ → ℤ) (n : ℕ) → ((i : ℕ) → i < n → m i ≡ k i) → ((i : ℕ) → i < n → f i ≡ g i) → overs m f n ≡ overs k g n
+unfolding overs
+overs-cong m k f g zero p q = refl
+overs-cong m k f g (suc n) p q =
+    let e = overs-cong m k f g n (λ i l. p i (omega arith)) (λ i l. q i (omega arith)) in
+    let a = p n (omega arith) in
+    let b = q n (omega arith) in cc
+
+pub overs-add : (m : ℕ → ℕ) (f : ℕ → ℤ) (a n : ℕ) → overs m f (a + n) ≡ overs m f a + overs (λ i. m (a + i)) (λ i. f (a + i)) n
+unfolding overs
+overs-add m f a zero = ap (overs m f) (add-zero a) ∙ sym (add-zero (overs m f a))
+overs-add m f a (suc n) = let e : overs m f (a + suc n) ≡ overs m f (suc (a + n)) = ap (overs m f) (add-suc a n) in omega (arith, overs-add m f a n)
+
+-- none is above its limit exactly where each is within it
+pub none-over : (m : ℕ → ℕ) (f : ℕ → ℤ) (n : ℕ) → overs m f n ≡ 0 → (i : ℕ) → i < n → Near (m i) (f i)
+unfolding overs
+none-over m f zero e i h = absurd (not-suc-le-zero h)
+none-over m f (suc n) e i h = last (ℕ-discrete i n) (λ l. none-over m f n (omega arith) i l)
+  where
+    last : Dec (i ≡ n) → (i < n → Near (m i) (f i)) → Near (m i) (f i)
+    last (yes d) r = subst (λ (k : ℕ). Near (m k) (f k)) (sym d) (over-none (m n) (f n) (omega arith))
+    last (no d) r = r (omega arith)
+
+pub within-none : (m : ℕ → ℕ) (f : ℕ → ℤ) (n : ℕ) → ((i : ℕ) → i < n → Near (m i) (f i)) → overs m f n ≡ 0
+unfolding overs
+within-none m f zero h = refl
+within-none m f (suc n) h = omega (arith, within-none m f n (λ i l. h i (omega arith)), over-no (m n) (f n) (h n (omega arith) .near))
+
+-- ---- limits
+
+-- within the limit is the same as in range when scaled
+pub limit-scaled : (n : ℕ) (z : ℤ) → Near (limitOf n) z → Near 32767 (z *ℤ pos (2 ^ (n - 1)))
+unfolding limitOf
+limit-scaled n z h = record { near = subst (λ (k : ℕ). k ≤ 32767) (sym (near-* z (pos (2 ^ (n - 1))))) (le-div-iff-mul-le (pow-pos (n - 1)) .0 (h .near)) }
+
+pub scaled-limit : (n : ℕ) (z : ℤ) → Near 32767 (z *ℤ pos (2 ^ (n - 1))) → Near (limitOf n) z
+unfolding limitOf
+scaled-limit n z h = record { near = le-div-iff-mul-le (pow-pos (n - 1)) .1 (subst (λ (k : ℕ). k ≤ 32767) (near-* z (pos (2 ^ (n - 1)))) (h .near)) }
+
+pub limit-near : (n : ℕ) (z : ℤ) → Near (limitOf n) z → Near 32767 z
+unfolding limitOf
+limit-near n z h = wide-near (div-le-self 32767 (2 ^ (n - 1))) h
 
 -- ---- all in range
 
@@ -135,3 +167,7 @@ pub sum-near : {B : ℕ} (f : ℕ → ℤ) (n : ℕ) → ((k : ℕ) → k < n �
 unfolding sumTo
 sum-near f zero h = record { near = zero-le }
 sum-near {B} f (suc n) h = subst (λ (m : ℕ). Near m (sumTo f n +ℤ f n)) (omega arith) (add-near (sum-near f n (λ k l. h k (omega arith))) (h n (omega arith)))
+
+-- a sum of at most 64 values in range
+pub sum-so-far : (f : ℕ → ℤ) (i : ℕ) → i ≤ 64 → ((k : ℕ) → Near 32767 (f k)) → Near 2097152 (sumTo f i)
+sum-so-far f i h n = wide-near (omega arith) (sum-near f i (λ k l. n k))

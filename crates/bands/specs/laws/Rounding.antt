@@ -14,10 +14,10 @@ use Rattle.whole.specs.Near.{Near, add-near, near-shr}
 use Rattle.whole.specs.Tab.{at, tab}
 use Rattle.whole.specs.laws.Tab.{AllNear, at-tab, length-tab, is-tab, tab-near}
 use Rattle.whole.specs.laws.Part.{part-at}
-use Rattle.bands.specs.Bands.{quantAt, ll3, sumTo, QuantGood}
+use Rattle.bands.specs.declared.Band.{Band}
+use Rattle.bands.specs.Bands.{bandAt, quantAt, ll3, sumTo, QuantGood}
 use Rattle.bands.specs.Rounding.{roundZ, roundAt, diffAt, differences, roundedBy}
-use Rattle.bands.specs.laws.Steps.{endOf}
-use Rattle.bands.specs.laws.Band.{same-band, end-above, quant-high}
+use Rattle.bands.specs.laws.Band.{same-band, band-good, quant-high}
 use Rattle.bands.specs.laws.Part.{Done, band-done, put-last, seam-length}
 
 -- ---- rounding
@@ -31,19 +31,23 @@ shr-near {z = z} m p = record { near = omega (arith, near-shr z m, p .near) }
 pub round-near : (q : List ℕ) (f : ℕ → ℤ) (k : ℕ) → QuantGood q → Near 268435456 (f k) → Near 268443648 (roundAt q f k)
 round-near q f k g n = shr-near (2 ^ (quantAt q k - 1)) (add-near n (half-near (quantAt q k) (quant-high q k g)))
 
-pub rounded-near : (q : List ℕ) (xs : List ℤ) → QuantGood q → AllNear 268435456 xs → (length (tab 4096 (roundAt q (at xs))) ≡ 4096) × AllNear 268443648 (tab 4096 (roundAt q (at xs)))
+pub rounded-near : (q : List ℕ) (xs : List ℤ) → QuantGood q → AllNear 268435456 xs → (length (tab 4096 (roundAt q (at xs))) ≡ 4096)
+    × AllNear 268443648 (tab 4096 (roundAt q (at xs)))
 rounded-near q xs g n = (length-tab 4096 _, tab-near 4096 (roundAt q (at xs)) (λ k. round-near q (at xs) k g (n .all k)))
 
 -- one band more: a is its first place, e where it ends
-module _ (q : List ℕ) (before xs : List ℤ) (a e : ℕ) (half : ℤ) (n : ℕ) (below : a < 4096) (end : e ≡ endOf a) (len : length before ≡ 4096) (d : Done (roundAt q (at before)) a before xs) (h : half ≡ pos (2 ^ (n - 2))) (w : n ≡ quantAt q a) where
+module _ (q : List ℕ) (before xs : List ℤ) (a e : ℕ) (half : ℤ) (n : ℕ) (below : a < 4096) (end : e ≡ bandAt a .end) (len : length before ≡ 4096)
+    (d : Done (roundAt q (at before)) a before xs) (h : half ≡ pos (2 ^ (n - 2))) (w : n ≡ quantAt q a) where
   here : (k : ℕ) → a ≤ k → k < e → shrZ (at before k +ℤ half) (2 ^ (n - 1)) ≡ roundAt q (at before) k
   here k l p =
-      let b : quantAt q a ≡ quantAt q k = ap (λ (i : ℕ). getD q i 0) (sym (same-band a k l (subst (λ (m : ℕ). k < m) end p))) in
+      let b : quantAt q a ≡ quantAt q k = ap (λ (b : Band). getD q (b .set) 0) (sym (same-band a k l (subst (λ (m : ℕ). k < m) end p))) in
       ap (λ (z : ℤ). shrZ (at before k +ℤ z) (2 ^ (n - 1))) h ∙ ap (λ (m : ℕ). roundZ m (at before k)) (w ∙ b)
 
-  pub round-turn : (ys : List ℤ) → ys ≡ tab (length (take (e - a) (drop a xs))) (λ (i : ℕ). shrZ (at (take (e - a) (drop a xs)) i +ℤ half) (2 ^ (n - 1))) → Done (roundAt q (at before)) e before (putMid a (e - a) xs ys)
+  pub round-turn : (ys : List ℤ) → ys ≡ tab (length (take (e - a) (drop a xs))) (λ (i : ℕ). shrZ (at (take (e - a) (drop a xs)) i +ℤ half) (2 ^ (n - 1))) →
+      Done (roundAt q (at before)) e before (putMid a (e - a) xs ys)
   round-turn ys v =
-      let t = end-above a below in
+      let t = band-good a in
+      let u = t .behind below in
       band-done (roundAt q (at before)) (λ z. shrZ (z +ℤ half) (2 ^ (n - 1))) before xs a e (omega (arith, end)) (omega (arith, end, d .same)) d here ys v
 
 -- ---- differences
@@ -77,7 +81,8 @@ unfolding differences
 differed xs ys l h =
     put-last xs ys l
     ∙ ap (λ (zs : List ℤ). take 4032 xs ++ zs) (is-tab 64 (diffAt (ll3 xs)) ys (ap length h ∙ length-tab 64 _)
-    (λ i k. ap (λ (zs : List ℤ). at zs i) h ∙ (at-tab 64 (diffAt (at (take 64 (drop 4032 xs)))) i k ∙ diff-cong (at (take 64 (drop 4032 xs))) (ll3 xs) i (λ j m. part-at xs 4032 64 j (omega arith)))))
+    (λ i k. ap (λ (zs : List ℤ). at zs i) h ∙ (at-tab 64 (diffAt (at (take 64 (drop 4032 xs)))) i k
+    ∙ diff-cong (at (take 64 (drop 4032 xs))) (ll3 xs) i (λ j m. part-at xs 4032 64 j (omega arith)))))
 
 sum-back : (f : ℕ → ℤ) (i : ℕ) → sumTo (diffAt f) (suc i) ≡ f i
 unfolding sumTo diffAt

@@ -46,9 +46,11 @@ ones-num zero acc at [] v next l e = go acc ∙ ap (λ (n : ℕ). eqb n 0) (got-
     go (suc n) = rw (ne-eqb (suc n) 0 (λ q. omega arith))
 ones-num zero acc at (b ∷ bs) v next l e = absurd (omega arith)
 ones-num (suc k) acc at [] v next l e = absurd (omega arith)
-ones-num (suc k) acc at (true ∷ bs) v next l e = and-false (eqb acc 0) ∙ sym (ap (λ (b : Bool). b && noOnes bs) (ne-eqb (acc * 2 + 1) 0 (λ q. omega arith))) ∙ ones-num k (acc * 2 + 1) (at + 1) bs v next (omega arith) e
+ones-num (suc k) acc at (true ∷ bs) v next l e = and-false (eqb acc 0) ∙ sym (ap (λ (b : Bool). b && noOnes bs) (ne-eqb (acc * 2 + 1) 0 (λ q. omega arith)))
+    ∙ ones-num k (acc * 2 + 1) (at + 1) bs v next (omega arith) e
 ones-num (suc k) zero at (false ∷ bs) v next l e = ones-num k 0 (at + 1) bs v next (omega arith) e
-ones-num (suc k) (suc acc) at (false ∷ bs) v next l e = ap (λ (b : Bool). b && noOnes bs) (ne-eqb (suc acc) 0 (λ q. omega arith)) ∙ sym (ap (λ (b : Bool). b && noOnes bs) (ne-eqb (suc acc * 2 + 0) 0 (λ q. omega arith))) ∙ ones-num k (suc acc * 2 + 0) (at + 1) bs v next (omega arith) e
+ones-num (suc k) (suc acc) at (false ∷ bs) v next l e = ap (λ (b : Bool). b && noOnes bs) (ne-eqb (suc acc) 0 (λ q. omega arith))
+    ∙ sym (ap (λ (b : Bool). b && noOnes bs) (ne-eqb (suc acc * 2 + 0) 0 (λ q. omega arith))) ∙ ones-num k (suc acc * 2 + 0) (at + 1) bs v next (omega arith) e
 
 num-all : (k acc at : ℕ) (bs : List Bool) → length bs ≡ k → numOf k acc at bs ≡ Cut → ⊥
 unfolding numOf
@@ -67,7 +69,8 @@ module _ (s : List ℕ) (at : ℕ) (h : at ≤ length s * 8) where
   pub tail-cut : (r : Num) → r ≡ numOf (length s * 8 - at) 0 at (drop at (bitsOf s)) → r ≡ Cut → false ≡ clean (drop at (bitsOf s))
   tail-cut r e c = absurd (num-all (length s * 8 - at) 0 at (drop at (bitsOf s)) left-is (sym e ∙ c))
 
-  pub tail-got : (r : Num) (v next : ℕ) → (8 ≤ length s * 8 - at → ⊥) → r ≡ numOf (length s * 8 - at) 0 at (drop at (bitsOf s)) → r ≡ Got v next → eqb v 0 ≡ clean (drop at (bitsOf s))
+  pub tail-got : (r : Num) (v next : ℕ) → (8 ≤ length s * 8 - at → ⊥) → r ≡ numOf (length s * 8 - at) 0 at (drop at (bitsOf s)) → r ≡ Got v next →
+      eqb v 0 ≡ clean (drop at (bitsOf s))
   unfolding clean _!_⨾_
   tail-got r v next l e g =
       rw (lt-ltb (length (drop at (bitsOf s))) 8 (omega (arith, left-is)))
@@ -187,14 +190,19 @@ module _ (mode : ℕ) (s : List ℕ) (before : List ℤ) (f : ℕ) (e : f ≡ sh
     -- it was refused, and the list cleared again
     pub code-refused : (readingNumber r ≡ 0 → ⊥) → after ≡ replicate 4096 (pos 0) → ComponentRead mode s before after r
     unfolding readInto decoded
-    code-refused h a = record { answer = answer-is; list = passes _ _ _ _ (eq-eqb _ 0 (sym e ∙ z)) (a ∙ sym (refused-zeros (eqb mode 4) s (λ q. h (ap readingNumber (c .answer) ∙ q)))) }
+    code-refused h a = record {
+      answer = answer-is;
+      list = passes _ _ _ _ (eq-eqb _ 0 (sym e ∙ z)) (a ∙ sym (refused-zeros (eqb mode 4) s (λ q. h (ap readingNumber (c .answer) ∙ q))));
+    }
 
 -- the number and the bits of what the reader answers
-pub read-number : (mode : ℕ) (s : List ℕ) (before after : List ℤ) (r : Reading) → ComponentRead mode s before after r → readingNumber r ≡ readFault mode (length before) s
+pub read-number : (mode : ℕ) (s : List ℕ) (before after : List ℤ) (r : Reading) → ComponentRead mode s before after r →
+    readingNumber r ≡ readFault mode (length before) s
 unfolding readFault
 read-number mode s before after r c = ap readingNumber (c .answer)
 
-pub read-bits : (mode : ℕ) (s : List ℕ) (before after : List ℤ) (r : Reading) → ComponentRead mode s before after r → readingBits r ≡ readBits mode (length before) s
+pub read-bits : (mode : ℕ) (s : List ℕ) (before after : List ℤ) (r : Reading) → ComponentRead mode s before after r →
+    readingBits r ≡ readBits mode (length before) s
 unfolding readBits
 read-bits mode s before after r c = ap readingBits (c .answer)
 
@@ -263,3 +271,15 @@ module _ (mode n : ℕ) (s : List ℕ) (e : 0 ≡ readFault mode n s) where
 pub into-decoded : (mode : ℕ) (s : List ℕ) (before : List ℤ) → 0 ≡ readFault mode (length before) s → readInto mode s before ≡ decoded mode s
 unfolding readInto
 into-decoded mode s before e = sym (passes _ _ _ _ (eq-eqb _ 0 (sym (accepted mode (length before) s e .shell))) refl)
+
+-- ---- a code read again: where it has no fault, filling cannot end in a refusal, and leaves the decoded list
+
+-- 02, request Eight: "Show that after a passed check it can't be taken"
+pub checked-whole :
+    (mode : ℕ) (s : List ℕ) (n : ℕ) (out : List ℤ) (f : Filled) → 0 ≡ readFault mode 4096 s → n ≡ 4096 → Fills (readList (eqb mode 4) n (bitsOf s)) out f →
+    (at : ℕ) × (f ≡ Whole at) × (out ≡ decoded mode s)
+checked-whole mode s n out f e len h =
+    let a = accepted mode 4096 s e in
+    let w : readList (eqb mode 4) n (bitsOf s) ≡ whole (a .xs) (a .at) = ap (λ (k : ℕ). readList (eqb mode 4) k (bitsOf s)) len ∙ a .walked in
+    let p = subst (λ (x : Walked). Fills x out f) w h in
+    (a .at, p .1, p .0 ∙ sym (accepted-list mode 4096 s a))

@@ -1,47 +1,29 @@
+-- `tile::pixel` meets its contract: three samples of planes are near enough for the colour step, and the word is theirs. Assumes nothing.
 use mir.Syntax.{w32}
+use borrow.Author.Needs.{needs}
 use Rattle.whole.specs.Near.{back, back-near, near-le}
 use Rattle.tile_back.specs.Word.{wordAt}
-use borrow.Author.Needs.{needs}
 use Rattle.tile_back.proofs.pixel.Statement.{statement}
 use Rattle.tile_back.proofs.pixel.Tie as tie
-use Rattle.tile_back.proofs.pixel.Reads as reads
-use Rattle.tile_back.proofs.pixel.Lts as lts
-use Rattle.colour.proofs.word.Reads as word-reads
-
-mul-word : tie.Need-mul-word
-mul-word c = search needs
-
-shared-slice-copy-out-word : tie.Need-shared-slice-copy-out-word
-shared-slice-copy-out-word c = search needs
-
-mul-word-2 : tie.Need-mul-word-2
-mul-word-2 c = search needs
-
-shared-slice-copy-out-word-2 : tie.Need-shared-slice-copy-out-word-2
-shared-slice-copy-out-word-2 c = search needs
-
-mul-word-3 : tie.Need-mul-word-3
-mul-word-3 c = search needs
-
-shared-slice-copy-out-word-3 : tie.Need-shared-slice-copy-out-word-3
-shared-slice-copy-out-word-3 c = search needs
 
 word-requires : tie.Need-word-requires
-word-requires c κs = (back-near w32 (near-le (c .before .before .before .pre .1 .near .all (c .before .before .before .args .i)) tt) tt, back-near w32 (near-le (c .before .before .before .pre .2 .near .all (c .before .before .before .args .i)) tt) tt, back-near w32 (near-le (c .before .before .before .pre .3 .near .all (c .before .before .before .args .i)) tt) tt)
+word-requires c κs =
+    let s = c .before .before .before in
+    let y = back-near w32 (near-le {B = 268435456} (s .pre .1 .near .all (s .args .i)) tt) tt in
+    let cb = back-near w32 (near-le {B = 268435456} (s .pre .2 .near .all (s .args .i)) tt) tt in
+    let cr = back-near w32 (near-le {B = 268435456} (s .pre .3 .near .all (s .args .i)) tt) tt in
+    (search, search, search)
 
 returns : tie.Need-returns
 unfolding wordAt
-returns c = cc (c .word .ensures, back w32 (c .before .before .before .before .pre .1 .near .all (c .before .before .before .before .args .i)) tt, back w32 (c .before .before .before .before .pre .2 .near .all (c .before .before .before .before .args .i)) tt, back w32 (c .before .before .before .before .pre .3 .near .all (c .before .before .before .before .args .i)) tt)
+returns c =
+    let s = c .before .before .before .before in
+    let y = back w32 (s .pre .1 .near .all (s .args .i)) tt in
+    let cb = back w32 (s .pre .2 .near .all (s .args .i)) tt in
+    let cr = back w32 (s .pre .3 .near .all (s .args .i)) tt in
+    cc (c .word .ensures, y, cb, cr)
 
 pub pixel-spec : {M : Type 1} → statement M
 pixel-spec =
     tie.close
-    (tie.spec
-    mul-word
-    shared-slice-copy-out-word
-    mul-word-2
-    shared-slice-copy-out-word-2
-    mul-word-3
-    shared-slice-copy-out-word-3
-    word-requires
-    returns)
+    (tie.spec (λ c. search needs) (λ c. search needs) (λ c. search needs) (λ c. search needs) (λ c. search needs) (λ c. search needs) word-requires returns)

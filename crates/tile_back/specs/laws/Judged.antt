@@ -9,22 +9,19 @@ use native.Mathlib.Decide.{decLt}
 use lib.IntN.{ℤ, pos, natAbs}
 use lib.ListN.{length, getD, List·getD-eq-default}
 use Rattle.whole.specs.Row.{_⨟_}
-use Rattle.whole.specs.laws.Row.{held, passes, goes-on, both}
+use Rattle.whole.specs.laws.Row.{held, goes-on, both}
 use Rattle.whole.specs.Tab.{at}
 use Rattle.bits.specs.Bytes.{Written}
 use Rattle.code.specs.Read.{isMode, readFault, decoded}
 use Rattle.code.specs.OneCode.{code, Listed}
 use Rattle.code.specs.laws.OneCode.{written-decoded}
 use Rattle.bands.specs.Bands.{allIn, rangeFault, sumsFault, summed, scaleFault, scaledBy, coefficientsFault}
-use Rattle.bands.specs.laws.Range.{all-each, each-all}
+use Rattle.bands.specs.laws.Range.{all-each}
+use Rattle.bands.specs.laws.Judge.{range-none}
 use Rattle.wave_back.specs.Tile.{tileBack}
 use Rattle.tile_back.specs.Component.{componentFault, coefficientsOf, samplesOf}
 
--- a list in range has no fault of range, and the other way round
-range-none : (zs : List ℤ) → Listed zs → rangeFault zs ≡ 0
-unfolding rangeFault
-range-none zs l = sym (passes (allIn (at zs) (length zs)) 9 0 0 (each-all (at zs) (length zs) (λ i h. record { near = l .range i })) refl)
-
+-- a list that has no fault of range is in range
 none-range : (zs : List ℤ) → length zs ≡ 4096 → 0 ≡ rangeFault zs → Listed zs
 unfolding rangeFault
 none-range zs l e = record { len = l; range = λ i. place i (decLt i (length zs)) }
@@ -41,7 +38,7 @@ module _ (mode : ℕ) (q s : List ℕ) (zs : List ℤ) (known : isMode mode ≡ 
       let w = written-decoded mode s zs known small l bytes in
       let then : List ℤ → ℕ = λ xs. sumsFault xs ⨟ scaleFault q (summed xs) in
       sym (goes-on (readFault mode 4096 s) (then (decoded mode s)) (then (decoded mode s)) (w .0) refl)
-      ∙ (ap then (w .1) ∙ goes-on (rangeFault zs) (then zs) (then zs) (range-none zs l) refl)
+      ∙ (ap then (w .1) ∙ goes-on (rangeFault zs) (then zs) (then zs) (range-none zs (record { all = λ i. record { near = l .range i } })) refl)
 
   -- of a list that the writer takes: the reader takes its code, and makes the samples of that list
   module _ (len : length zs ≡ 4096) (fine : 0 ≡ coefficientsFault q zs) where

@@ -1,0 +1,97 @@
+-- `bands::scale_up` meets its contract. The loop's invariant: the places before `from`, where a band begins, are scaled, the others are as they were.
+-- Assumes nothing.
+use Prim.Native.Nat.{ℕ, _-_, _^_, _≤_, _<_}
+use mathlib.Core.Path.{_≡_, sym, ap, subst, _∙_}
+use native.Mathlib.Omega.{arith}
+use lib.IntN.{pos}
+use lib.ListN.{length}
+use denote.Ref.{now}
+use mir.Syntax.{w32}
+use mir.Val.{toZ, ofZ}
+use Rattle.whole.specs.Near.{Near, back-ok}
+use Rattle.whole.specs.Tab.{at}
+use Rattle.bands.specs.declared.Band.{Band}
+use Rattle.bands.specs.Bands.{scaleAt, scaledBy, quantAt}
+use Rattle.bands.specs.laws.Band.{BandGood, band-is, quant-is, quant-high, power-near}
+use Rattle.bands.specs.laws.Part.{Done, done-none, done-all, rest-near, scale-turn}
+use Rattle.bands.proofs.scale_up.Statement.{statement}
+use Rattle.bands.proofs.scale_up.Tie as tie
+
+abbrev Inv-loop : tie.InvT-loop
+Inv-loop work₀ q from₀ work from = (from ≤ 4096) × Done (scaleAt (q .v) (at work₀)) from work₀ work
+
+abbrev μ-loop : tie.MeasureT-loop
+μ-loop work₀ q from₀ work from = 4096 - from
+
+-- the band that begins here
+here : (c : tie.After-band-at Inv-loop μ-loop) → BandGood (c .before .before .loop .from) (c .band-at .result)
+here c = band-is (c .band-at .ensures)
+
+ends : (c : tie.After-band-at Inv-loop μ-loop) → let s = c .before .before in
+    (s .loop .from < c .band-at .result .end) × (c .band-at .result .end ≤ length (s .loop .work))
+ends c =
+    let s = c .before .before in
+    let l : s .loop .from < 4096 = c .before .loop-test .taken in
+    (here c .behind l, omega (arith, here c .within, s .loop .inv .1 .same, s .before .pre .0))
+
+quant-of-requires : tie.Need-quant-of-requires Inv-loop μ-loop
+quant-of-requires c κs = (c .before .before .before .pre .2, here c .index)
+
+-- its factor
+factor-is : (c : tie.After-power Inv-loop μ-loop) → let s = c .before .before .before .before .before in
+    toZ w32 (ofZ w32 (c .power .result)) ≡ pos (2 ^ (quantAt (s .before .args .q .v) (s .loop .from) - 1))
+factor-is c =
+    let n = c .before .before .quant-of in
+    let b = c .before .before .before .band-at in
+    let s = c .before .before .before .before .before in
+    let is = quant-is (s .before .args .q .v) (s .loop .from) (n .result) (b .result) (n .ensures .0) (b .ensures) in
+    back-ok w32 (c .power .result) (c .power .ok) ∙ (c .power .ensures ∙ ap (λ (m : ℕ). pos (2 ^ (m - 1))) is)
+
+scale-band-requires : tie.Need-scale-band-requires Inv-loop μ-loop
+scale-band-requires c κs =
+    let b = c .before .before .before in
+    let s = b .before .before in
+    let q = s .before .args .q .v in
+    let k = s .loop .from in
+    let near = rest-near _ (now (s .before .args .work)) (s .loop .work) k (b .band-at .result .end - k) (s .loop .inv .1) (s .before .pre .1) in
+    (near, subst (Near 16384) (sym (factor-is c)) (power-near (quantAt q k) (quant-high q k (s .before .pre .2))))
+
+loop-again : tie.Need-loop-again Inv-loop μ-loop
+loop-again c =
+    let b = c .before .before .before .before .before in
+    let s = b .before .before in
+    let q = s .before .args .q .v in
+    let end = ap (λ (x : Band). x .end) (b .band-at .ensures) in
+    let d = scale-turn q (now (s .before .args .work)) (s .loop .work) (s .loop .from) (b .band-at .result .end) _ (b .before .loop-test .taken) end
+    (s .before .pre .0) (s .loop .inv .1) (factor-is (c .before .before)) (c .before .scale-band .last .0) (c .before .scale-band .ensures) in
+    (here b .within, d)
+
+returns : tie.Need-returns Inv-loop μ-loop
+unfolding scaledBy
+returns c =
+    let s = c .before in
+    let f = scaleAt (s .before .args .q .v) (at (now (s .before .args .work))) in
+    let n : s .loop .from ≡ 4096 = omega arith in
+    let d = subst (λ (i : ℕ). Done f i (now (s .before .args .work)) (s .loop .work)) n (s .loop .inv .1) in
+    done-all f 4096 (now (s .before .args .work)) (s .loop .work) (s .before .pre .0) d
+
+pub scale-up-spec : {M : Type 1} → statement M
+scale-up-spec =
+    tie.close
+    (tie.spec
+    Inv-loop
+    μ-loop
+    (λ c. (omega arith, done-none _ _))
+    (λ c κs. tt)
+    quant-of-requires
+    (λ c. omega (arith, ends (c .before)))
+    (λ c. omega (arith, ends (c .before)))
+    (λ c. omega (arith, ends (c .before)))
+    (λ c. omega (arith, ends (c .before)))
+    (λ c. omega (arith, c .before .quant-of .ensures))
+    (λ c κs. omega (arith, c .before .quant-of .ensures))
+    scale-band-requires
+    (λ c. omega (arith, ends (c .before .before .before .before .before)))
+    loop-again
+    (λ c. c .before .loop .inv .1 .same)
+    returns)
