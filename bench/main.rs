@@ -3,8 +3,11 @@
 //   main N        CPU time, best of N
 //   main count    each case once, inside a function mark_K, for callgrind (by name) or the qemu plugin (by the syscall before and after)
 //   main stack    how deep the stack goes in each call
+//   main worst N  CPU time of frames made to cost, beside the same tiles with one rectangle over all, best of N; fails above what is allowed
+//   main aims     some of them once, for callgrind, as count
 mod plain;
 mod screens;
+mod worst;
 use plain::{Lists, Size, PLACES};
 use screens::{HEIGHT, WIDTH};
 use std::hint::black_box;
@@ -35,8 +38,12 @@ fn write_frame(mode: u8, pixels: &[u8], l: &mut Lists, out: &mut [u8]) -> (u8, u
 
 /// A session after our own four headers.
 fn session(mode: u8) -> Session {
+    session_of(Size { width: WIDTH, height: HEIGHT, mode })
+}
+
+fn session_of(z: Size) -> Session {
     let (mut s, mut out) = (Session::default(), [0; HEADERS_SIZE]);
-    assert_eq!(edge::write_headers(WIDTH, HEIGHT, mode, &mut out), (0, HEADERS_SIZE));
+    assert_eq!(edge::write_headers(z.width, z.height, z.mode, &mut out), (0, HEADERS_SIZE));
     for block in xurbalenz::header_blocks(&out) {
         assert_eq!(edge::read_header(&mut s, block), 0);
     }
@@ -161,6 +168,65 @@ fn cases<'a>(cs: &'a [Component], fs: &'a [Frame]) -> Vec<Case<'a>> {
     all
 }
 
+// ---- frames made to cost
+
+/// Tiles of nothing but zeros, and those of the control screen; with each how many times the time of one rectangle is allowed.
+fn kinds(fs: &[Frame]) -> [(&'static str, f64, Vec<worst::Codes>); 2] {
+    [("zeros", 3.0, vec![[(); 3].map(|_| vec![0; 3])]), ("a picture", 1.5, worst::codes(&fs[0].bytes))]
+}
+
+const SIZES: [(usize, usize); 2] = [(4096, 2048), (1024, 768)];
+
+fn worst_times(fs: &[Frame], reps: usize) {
+    let (mut l, mut over) = (Lists::new(), false);
+    for (kind, allowed, codes) in kinds(fs) {
+        for (width, height) in SIZES {
+            let size = Size { width, height, mode: 1 };
+            let (mut p, mut q, mut most) = (vec![1u16; width * height + 9], vec![1u16; width * height + 9], 0.0);
+            for (one_place, rule) in [false, true].iter().flat_map(|o| (0..worst::RULES.len()).map(move |r| (*o, r))) {
+                let f = worst::frames(size, 2048, one_place, rule, &codes);
+                let mut s = session_of(size);
+                p.fill(1);
+                q.fill(1);
+                let x = plain::read_frame(size, &f.many, &mut p, &mut l);
+                let y = read_frame(&mut s, &f.many, &mut q, &mut l);
+                assert!(x == (0, 2048) && x == y && p == q, "pictures differ: {}", f.name);
+                let mut best = [f64::MAX; 2];
+                for _ in 0..reps {
+                    for (m, b) in [&f.one, &f.many].into_iter().zip(&mut best) {
+                        let t = now();
+                        black_box(read_frame(&mut s, m, &mut q, &mut l));
+                        *b = b.min(now() - t);
+                    }
+                }
+                let ratio = best[1] / best[0];
+                println!("worst {:.1} ms, {:.1} with one rectangle, ratio {ratio:.2}: {kind}, {width} x {height}, {}", best[1] * 1e3, best[0] * 1e3, f.name);
+                most = f64::max(most, ratio);
+            }
+            println!("worst of all {most:.2}, {allowed:.1} allowed: {kind}, {width} x {height}");
+            over |= most > allowed;
+        }
+    }
+    assert!(!over, "a frame costs more than is allowed");
+}
+
+fn worst_cases(fs: &[Frame]) -> Vec<Case<'static>> {
+    let size = Size { width: WIDTH, height: HEIGHT, mode: 1 };
+    let mut all: Vec<Case> = Vec::new();
+    for (kind, _, codes) in kinds(fs) {
+        for rule in 0..worst::RULES.len() {
+            let f = worst::frames(size, 64, true, rule, &codes);
+            let sides = [("one", f.one), ("many", f.many)].map(|(side, m)| {
+                let (mut s, mut p, mut l) = (session_of(size), vec![0; WIDTH * HEIGHT], Lists::new());
+                let call: Box<dyn FnMut()> = Box::new(move || { black_box(read_frame(&mut s, &m, &mut p, &mut l)); });
+                (side, call)
+            });
+            all.push((format!("64 tiles, {kind}, {}", f.name), sides.into()));
+        }
+    }
+    all
+}
+
 // ---- marks: a function of its own for each case and side, which callgrind finds by name
 
 macro_rules! marks {
@@ -239,8 +305,11 @@ fn times(all: &mut [Case], reps: usize) {
 fn main() {
     let what = std::env::args().nth(1).unwrap_or("31".into());
     let (cs, fs) = (components(), frames());
-    if what == "count" {
-        return count(&mut cases(&cs, &fs));
+    match what.as_str() {
+        "count" => return count(&mut cases(&cs, &fs)),
+        "aims" => return count(&mut worst_cases(&fs)),
+        "worst" => return worst_times(&fs, std::env::args().nth(2).map_or(5, |n| n.parse().expect("a number of rounds"))),
+        _ => {}
     }
     compare(&cs, &fs);
     println!("equal: {} components and {} frames, whole, cut and with a byte more", cs.len(), fs.len());

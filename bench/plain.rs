@@ -552,8 +552,11 @@ fn tile<'a>(size: Size, sets: &[u8], data: &'a [u8]) -> Result<(Tile<'a>, &'a [u
     Ok((Tile { x, y, parts }, rest))
 }
 
-/// A tile's words into the picture, where channel and rectangles hold it.
+/// A tile's words into the picture, where channel and rectangles hold it; no rectangles are one over the whole channel.
 fn draw(size: Size, t: &Tile, rects: &[u8], lists: &Lists, picture: &mut [u16]) {
+    let [wl, wh, hl, hh] = [size.width, size.width >> 8, size.height, size.height >> 8].map(|n| n as u8);
+    let whole = [0, 0, 0, 0, wl, wh, hl, hh];
+    let rects = if rects.is_empty() { &whole[..] } else { rects };
     let (left, top) = (TILE * t.x, TILE * t.y);
     let (right, bottom) = ((left + TILE).min(size.width), (top + TILE).min(size.height));
     let mut words = [0u16; TILE];

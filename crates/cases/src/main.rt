@@ -1,5 +1,5 @@
 // Runs document 01's "Cases on both sides" through the calls of `panel`, and prints a line for each: those that are not marked (p), and those that are,
-// since running costs little. A case that comes out otherwise says so, and the gate compares the lines.
+// since running costs little; and the cases that document 02 adds. A case that comes out otherwise says so, and the gate compares the lines.
 use bands::Quant;
 use session::Session;
 
@@ -289,6 +289,7 @@ fn frame_cases(frame: &mut [u8]) {
         b"quantiser 5 in the high half: quant",
         shown_changed(frame, 59, 0x56) == 7,
     );
+    region_cases(frame);
     if frame.len() == 0 {
         return;
     }
@@ -296,6 +297,55 @@ fn frame_cases(frame: &mut [u8]) {
     told(
         b"last byte damaged: field, picture as it was",
         shown_changed(frame, last, 1) == 5,
+    );
+}
+
+// Bytes into a part of the output, where there is room.
+fn put(out: &mut [u8], at: usize, from: &[u8]) {
+    if out.len() < at {
+        return;
+    }
+    if out.len() - at < from.len() {
+        return;
+    }
+    bytes::copy(from, &mut out[at..]);
+}
+
+// The number for the first n bytes of a message.
+fn shown_first(message: &[u8], n: usize, picture: &mut [u16]) -> u8 {
+    if message.len() < n {
+        return 98;
+    }
+    shown(&message[0..n], picture)
+}
+
+// The number for our own frame with no rectangles: its region's block is 8 bytes shorter (blockLen at 16, count at 23, rectangles from 25 on).
+fn shown_bare(frame: &[u8], picture: &mut [u16]) -> u8 {
+    let n = frame.len();
+    if n < 33 {
+        return 98;
+    }
+    let mut bare = [0u8; 4096];
+    put(&mut bare, 0, &frame[0..25]);
+    put(&mut bare, 25, &frame[33..n]);
+    bare[16] = 15;
+    bare[23] = 0;
+    shown_first(&bare, n - 8, picture)
+}
+
+// Document 02, request Three: count 0, and a single rectangle of width 0 (at 29).
+fn region_cases(frame: &mut [u8]) {
+    told(
+        b"one rectangle of width 0: done, picture as it was",
+        shown_changed(frame, 29, 0) == 0,
+    );
+    let mut picture = [0x1234u16; 4096];
+    let mut whole = [0x4321u16; 4096];
+    told(b"no rectangles: done", shown_bare(frame, &mut picture) == 0);
+    told(
+        b"no rectangles: the picture of one over all",
+        shown(frame, &mut whole) == 0
+            && app_recording::lent::hash_words(&picture) == app_recording::lent::hash_words(&whole),
     );
 }
 

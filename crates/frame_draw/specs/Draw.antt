@@ -1,5 +1,5 @@
 -- Drawing a tile into the picture: document 01, "A picture word is changed exactly if it lies in the channel, in some rectangle
--- of the region, and in some listed tile".
+-- of the region, and in some listed tile"; its sentence on no rectangles as document 02's request Three mends it.
 use Prim.Native.Nat.{ℕ, zero, suc, _+_, _*_, _/_}
 use mathlib.Core.List.{List}
 use mathlib.Core.Bool.{Bool, true, false}
@@ -20,14 +20,15 @@ inside x y w h px py =
 unfoldable pub holds : List ℕ → ℕ → ℕ → ℕ → Bool
 holds rects px py k = inside (le16 rects (8 * k)) (le16 rects (8 * k + 2)) (le16 rects (8 * k + 4)) (le16 rects (8 * k + 6)) px py
 
--- "The search stops at the first rectangle that holds the pixel": some of the j rectangles from k on does
-unfoldable pub hit : List ℕ → ℕ → ℕ → ℕ → ℕ → Bool
-hit rects px py zero k = false
-hit rects px py (suc j) k = holds rects px py k ⇒ true ∣ hit rects px py j (k + 1)
+-- some of the j numbers from k on passes a test
+unfoldable pub some : (ℕ → Bool) → ℕ → ℕ → Bool
+some on zero k = false
+some on (suc j) k = on k ⇒ true ∣ some on j (k + 1)
 
--- "in some rectangle of the region", of n; "No rectangles: nothing is drawn"
+-- "in some rectangle of the region", of n; "The search stops at the first rectangle that holds the pixel." And, as request Three mends
+-- it (001, 2.2.2.3.3): "No rectangles: one rectangle over the whole channel", which holds every pixel that can be asked for
 unfoldable pub inRegion : List ℕ → ℕ → ℕ → ℕ → Bool
-inRegion rects n px py = hit rects px py n 0
+inRegion rects n px py = eqb n 0 ⇒ true ∣ some (holds rects px py) n 0
 
 -- what is stored: from a number on, so many stores, each where its test holds
 unfoldable pub stores : (ℕ → Bool) → (ℕ → ℕ) → (ℕ → ℕ) → ℕ → ℕ → List ℕ → List ℕ

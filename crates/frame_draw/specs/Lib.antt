@@ -1,4 +1,6 @@
+pub mod Cases
 pub mod Draw
 pub mod Show
 pub mod Shown
+pub mod Spans
 pub mod laws

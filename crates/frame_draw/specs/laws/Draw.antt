@@ -1,38 +1,30 @@
--- Laws of drawing: a search, a row, the rows of a tile, each one step on.
+-- Laws of drawing: a region, a row, the rows of a tile, each one step on.
 use Prim.Native.Nat.{ℕ, suc, zero, _+_, _*_, _-_, _≤_, _<_}
 use mathlib.Core.Path.{_≡_, refl, ap, sym, _∙_, subst}
 use mathlib.Core.Bool.{Bool, true, false}
 use mathlib.Core.List.{List}
 use native.Mathlib.Omega.{arith}
-use native.Mathlib.Nat.{suc-mul, mul-le-mul-right, sub-zero}
+use native.Mathlib.Nat.{suc-mul, mul-le-mul-right}
 use lib.Dec.{ltb}
 use lib.ListN.{length, set, length-set}
-use borrow.Author.Tests.{lt-ltb, le-ltb}
+use borrow.Author.Tests.{eq-eqb, ne-eqb}
 use Rattle.whole.specs.Row.{_⇒_∣_}
-use Rattle.whole.specs.laws.Row.{case-yes, case-no, passes, fails}
-use Rattle.frame_draw.specs.Draw.{holds, hit, inRegion, stores, rowOn, rowDrawn, rowsDrawn}
+use Rattle.whole.specs.laws.Row.{case-yes, case-no}
+use Rattle.frame_draw.specs.Draw.{holds, some, inRegion, stores, rowDrawn, rowsDrawn}
 
 -- a loop that counts up to n, against a recursion on what is left
 pub left : (n i : ℕ) → i < n → n - i ≡ suc (n - (i + 1))
 left n i h = omega arith
 
-module _ (rects : List ℕ) (px py n k : ℕ) where
-  -- before the first rectangle
-  pub hit-starts : inRegion rects n px py ≡ hit rects px py (n - 0) 0
+module _ (rects : List ℕ) (px py n : ℕ) where
+  -- no rectangles: the whole channel
+  pub region-all : n ≡ 0 → inRegion rects n px py ≡ true
   unfolding inRegion
-  hit-starts = rw sub-zero
+  region-all e = sym (case-yes _ _ _ _ (eq-eqb n 0 e) refl)
 
-  pub hit-yes : k < n → holds rects px py k ≡ true → true ≡ hit rects px py (n - k) k
-  unfolding hit
-  hit-yes l h = rw (left n k l) (case-yes _ _ _ _ h refl)
-
-  pub hit-more : k < n → holds rects px py k ≡ false → hit rects px py (n - k) k ≡ hit rects px py (n - (k + 1)) (k + 1)
-  unfolding hit
-  hit-more l h = rw (left n k l) (sym (case-no _ _ _ _ h refl))
-
-  pub hit-none : n ≤ k → false ≡ hit rects px py (n - k) k
-  unfolding hit
-  hit-none l = let z : n - k ≡ 0 = omega arith in rw z refl
+  pub region-is : 0 < n → inRegion rects n px py ≡ some (holds rects px py) n 0
+  unfolding inRegion
+  region-is l = sym (case-no _ _ _ _ (ne-eqb n 0 (λ e. omega arith)) refl)
 
 module _ (on : ℕ → Bool) (place value : ℕ → ℕ) (n k : ℕ) (pic : List ℕ) where
   pub store-step : k < n → stores on place value (n - k) k pic ≡ stores on place value (n - (k + 1)) (k + 1) (on k ⇒ set pic (place k) (value k) ∣ pic)
@@ -42,15 +34,6 @@ module _ (on : ℕ → Bool) (place value : ℕ → ℕ) (n k : ℕ) (pic : List
   pub store-none : n ≤ k → stores on place value (n - k) k pic ≡ pic
   unfolding stores
   store-none l = let z : n - k ≡ 0 = omega arith in rw z refl
-
-module _ (rects : List ℕ) (n w tx py x : ℕ) where
-  pub row-off : w ≤ 64 * tx + x → rowOn rects n w tx py x ≡ false
-  unfolding rowOn
-  row-off l = sym (fails _ _ _ _ (le-ltb _ _ l) refl)
-
-  pub row-is : 64 * tx + x < w → (b : Bool) → b ≡ inRegion rects n (64 * tx + x) py → rowOn rects n w tx py x ≡ b
-  unfolding rowOn
-  row-is l b e = sym (passes _ _ _ _ (lt-ltb _ _ l) e)
 
 pub stored-length : (b : Bool) (pic q : List ℕ) (i v : ℕ) → q ≡ (b ⇒ set pic i v ∣ pic) → length q ≡ length pic
 unfolding _⇒_∣_
@@ -92,7 +75,8 @@ module _ (rects : List ℕ) (n : ℕ) (val : ℕ → ℕ) (w h tx ty y : ℕ) (p
   pub rows-step :
       y < 64 →
       rowsDrawn rects n val w h tx ty (64 - y) y pic
-      ≡ rowsDrawn rects n val w h tx ty (64 - (y + 1)) (y + 1) (ltb (64 * ty + y) h ⇒ rowDrawn rects n (λ (x : ℕ). val (64 * y + x)) w tx (64 * ty + y) pic ∣ pic)
+      ≡ rowsDrawn rects n val w h tx ty (64 - (y + 1)) (y + 1)
+      (ltb (64 * ty + y) h ⇒ rowDrawn rects n (λ (x : ℕ). val (64 * y + x)) w tx (64 * ty + y) pic ∣ pic)
   unfolding rowsDrawn
   rows-step l = rw (left 64 y l)
 

@@ -1,141 +1,73 @@
-use Rattle.whole.specs.laws.Row.{case-yes, case-no}
-use Rattle.whole.specs.Row.{_⇒_∣_}
-use denote.Ref.{now}
-use lib.ListN.{length, getD, set, length-set}
-use Prim.Native.Nat.{ℕ, _≤_, _-_}
-use native.Mathlib.Nat.{sub-zero}
-use native.Mathlib.Omega.{arith}
+-- `draw::draw_row` meets its contract. Invariant: the first k rectangles are noted.
+use Prim.Native.Nat.{_≤_, _-_, _+_}
+use mathlib.Core.Path.{sym, subst⁻¹, _∙_}
 use mathlib.Core.Logic.{⊎-elim}
-use mathlib.Core.Path.{_≡_, refl, ap, sym, _∙_}
-use mathlib.Core.Bool.{true, false}
-use Rattle.frame_draw.specs.Draw.{hit, inRegion, stores, rowOn, rowPlace, rowDrawn}
-use Rattle.frame_draw.specs.laws.Draw.{hit-starts, hit-yes, hit-more, hit-none, store-step, store-none, row-off, row-is}
+use native.Mathlib.Omega.{arith}
+use denote.Ref.{now}
+use Rattle.frame_draw.specs.laws.Search.{not-none}
+use Rattle.frame_draw.specs.laws.Span.{Noted, first-most, noted-starts, noted-next, noted-all, noted-whole, noted-drawn, row-whole, span-small}
 use Rattle.frame_draw.proofs.row.draw_row.Statement.{statement}
 use Rattle.frame_draw.proofs.row.draw_row.Tie as tie
-use Rattle.frame_draw.proofs.row.draw_row.Reads as reads
-use Rattle.frame_draw.proofs.row.draw_row.Lts as lts
-use Rattle.frame_draw.proofs.row.rect_holds.Reads as rect-holds-reads
 
-abbrev Inv-search : tie.InvT-search
-Inv-search picture₀ w tx py row rects n x px k₀ picture k = (k ≤ n) × (picture ≡ picture₀) × (inRegion rects n px py ≡ hit rects px py (n - k) k)
+abbrev Inv-rectangles : tie.InvT-rectangles
+Inv-rectangles picture w tx py row rects n first part ends₀ k₀ ends k = (k ≤ n) × Noted rects k w tx py ends
 
-abbrev μ-search : tie.MeasureT-search
-μ-search picture₀ w tx py row rects n x px k₀ picture k = n - k
+abbrev μ-rectangles : tie.MeasureT-rectangles
+μ-rectangles picture w tx py row rects n first part ends₀ k₀ ends k = n - k
 
-abbrev Inv-loop : tie.InvT-loop
-Inv-loop picture₀ w tx py row rects n x₀ picture x = (x ≤ 64) × (length picture ≡ length picture₀) × (stores (rowOn rects n w tx py) (rowPlace w tx py) (λ (j : ℕ). getD row j 0) 64 0 picture₀ ≡ stores (rowOn rects n w tx py) (rowPlace w tx py) (λ (j : ℕ). getD row j 0) (64 - x) x picture)
-
-abbrev μ-loop : tie.MeasureT-loop
-μ-loop picture₀ w tx py row rects n x₀ picture x = 64 - x
-
--- what the picture is where the arms meet: the store was made just where the pixel is on
-joined :
-    (c : tie.Joined1 Inv-search μ-search Inv-loop μ-loop) →
-    let a = c .before .before .before .before .before .before .args in
-    let l = c .before .before .loop in
-    c .if1 .picture ≡ (rowOn (now (a .rects)) (a .n) (a .w) (a .tx) (a .py) (l .x) ⇒ set (l .picture) (rowPlace (a .w) (a .tx) (a .py) (l .x)) (getD (now (a .row)) (l .x) 0) ∣ l .picture)
-unfolding rowPlace
-joined c =
-    let a = c .before .before .before .before .before .before .args in
-    let l = c .before .before .loop in
+-- behind the loop, whichever way it was left, all are noted
+left :
+    (c : tie.Left-rectangles Inv-rectangles μ-rectangles) →
+    let a = c .before .before .before .before .before .before .before .args in
+    Noted (now (a .rects)) (a .n) (a .w) (a .tx) (a .py) (c .rectangles-test .ends)
+left c =
+    let l = c .before .rectangles in
+    let p = c .before .before .part-of in
     ⊎-elim
-    (λ v. case-no _ _ _ _ (row-is _ (a .n) (a .w) (a .tx) (a .py) (l .x) (v .0 .taken) false (hit-none _ _ _ (a .n) (v .1 .k) (v .2 .left) ∙ sym (v .1 .inv .2))) (v .3 ∙ v .1 .inv .1))
-    (⊎-elim
-    (λ v. case-yes _ _ _ _ (row-is _ (a .n) (a .w) (a .tx) (a .py) (l .x) (v .0 .taken) true (hit-yes _ _ _ (a .n) (v .1 .k) (v .2 .taken) (sym (v .3 .ensures) ∙ v .4 .taken) ∙ sym (v .1 .inv .2))) (v .6 ∙ rw (v .1 .inv .1)))
-    (λ v. case-no _ _ _ _ (row-off _ (a .n) (a .w) (a .tx) (a .py) (l .x) (v .0 .left)) (v .1)))
-    (c .if1 .came)
+    (λ v. subst⁻¹ (Noted _ _ _ _ _) (v .1) (noted-all _ _ _ _ _ _ _ (l .inv .0) (v .0 .left) (l .inv .1)))
+    (λ v.
+    let next = noted-next _ _ _ _ _ _ _ (p .ensures) (v .1 .ensures) _ _ (l .inv .1) (v .3 .ensures) in
+    let whole = sym (v .5 .ensures .0) ∙ (v .6 .taken ∙ p .ensures) in
+    subst⁻¹ (Noted _ _ _ _ _) (v .7) (noted-whole _ _ _ _ _ (l .k + 1) _ (omega (arith, v .0 .taken)) next whole))
+    (c .rectangles-test .came)
 
-same :
-    (c : tie.Joined1 Inv-search μ-search Inv-loop μ-loop) →
-    length (c .if1 .picture) ≡ length (now (c .before .before .before .before .before .before .args .picture))
-same c =
-    ⊎-elim
-    (λ v. ap length (v .3 ∙ v .1 .inv .1))
-    (⊎-elim (λ v. ap length (v .6) ∙ simp length-set (ap length (v .1 .inv .1))) (λ v. ap length (v .1)))
-    (c .if1 .came) ∙ c .before .before .loop .inv .1
+same-length : tie.Need-same-length Inv-rectangles μ-rectangles
+same-length c = c .before .before .put-part .kept .0
 
-loop-holds : tie.Need-loop-holds Inv-search μ-search Inv-loop μ-loop
-loop-holds c = (omega arith, refl, rw sub-zero)
+returns : tie.Need-returns Inv-rectangles μ-rectangles
+returns c = c .before .before .put-part .ensures ∙ row-whole _ _ _ _ _ _ _ (c .before .before .before .before .if1 .taken)
 
-mul-px : tie.Need-mul-px Inv-search μ-search Inv-loop μ-loop
-mul-px c = omega arith
+rectangles-holds : tie.Need-rectangles-holds Inv-rectangles μ-rectangles
+rectangles-holds c = let first = c .before .before .before .before .before .pre .4 in (first-most _ _ _ _ _ _ first, noted-starts _ _ _ _ _ _ first)
 
-add-px : tie.Need-add-px Inv-search μ-search Inv-loop μ-loop
-add-px c = omega arith
+note-requires : tie.Need-note-requires Inv-rectangles μ-rectangles
+note-requires c κs =
+    let s = c .before .before .before in
+    (s .rectangles .inv .1 .fit .len, span-small _ _ _ _ _ _ _ (s .before .part-of .ensures) (c .before .rect-span .ensures))
 
-search-holds : tie.Need-search-holds Inv-search μ-search Inv-loop μ-loop
-search-holds c = (omega arith, refl, hit-starts _ _ _ _ 0)
+rectangles-again : tie.Need-rectangles-again Inv-rectangles μ-rectangles
+rectangles-again c =
+    let s = c .before .before .before .before .before .before .before in
+    let next = noted-next _ _ _ _ _ _ _ (s .before .part-of .ensures) (c .before .before .before .before .before .rect-span .ensures) in
+    (omega arith, next _ _ (s .rectangles .inv .1) (c .before .before .before .note .ensures))
 
-rect-holds-requires : tie.Need-rect-holds-requires Inv-search μ-search Inv-loop μ-loop
-rect-holds-requires c κs = omega arith
+slice-aggregate-put-spans : tie.Need-slice-aggregate-put-spans Inv-rectangles μ-rectangles
+slice-aggregate-put-spans c = sym (left (c .before .before) .fit .len)
 
-mul-picture : tie.Need-mul-picture Inv-search μ-search Inv-loop μ-loop
-mul-picture c = omega arith
+put-spans-requires : tie.Need-put-spans-requires Inv-rectangles μ-rectangles
+put-spans-requires c κs = (omega arith, omega arith, omega arith, left (c .before .before) .fit)
 
-shared-slice-read-picture : tie.Need-shared-slice-read-picture Inv-search μ-search Inv-loop μ-loop
-shared-slice-read-picture c = omega arith
+same-length-2 : tie.Need-same-length-2 Inv-rectangles μ-rectangles
+same-length-2 c = c .before .before .put-spans .kept .0
 
-mul-picture-2 : tie.Need-mul-picture-2 Inv-search μ-search Inv-loop μ-loop
-mul-picture-2 c = omega arith
-
-add-picture : tie.Need-add-picture Inv-search μ-search Inv-loop μ-loop
-add-picture c = omega arith
-
-mul-picture-3 : tie.Need-mul-picture-3 Inv-search μ-search Inv-loop μ-loop
-mul-picture-3 c = omega arith
-
-slice-write-picture : tie.Need-slice-write-picture Inv-search μ-search Inv-loop μ-loop
-slice-write-picture c = omega (arith, ap length (c .before .before .before .before .search .inv .1))
-
-add-k : tie.Need-add-k Inv-search μ-search Inv-loop μ-loop
-add-k c = omega arith
-
-search-less : tie.Need-search-less Inv-search μ-search Inv-loop μ-loop
-search-less c = omega arith
-
-search-again : tie.Need-search-again Inv-search μ-search Inv-loop μ-loop
-search-again c = (omega arith, c .before .before .before .search .inv .1, c .before .before .before .search .inv .2 ∙ hit-more _ _ _ (c .before .before .before .before .before .before .before .before .before .before .args .n) (c .before .before .before .search .k) (c .before .before .search-test .taken) (sym (c .before .rect-holds .ensures) ∙ c .if2 .left))
-
-add-x : tie.Need-add-x Inv-search μ-search Inv-loop μ-loop
-add-x c = omega arith
-
-loop-less : tie.Need-loop-less Inv-search μ-search Inv-loop μ-loop
-loop-less c = omega arith
-
-loop-again : tie.Need-loop-again Inv-search μ-search Inv-loop μ-loop
-loop-again c = (omega arith, same c, c .before .before .loop .inv .2 ∙ (store-step _ _ _ 64 (c .before .before .loop .x) _ (c .before .loop-test .taken) ∙ ap (stores _ _ _ _ _) (sym (joined c))))
-
-same-length : tie.Need-same-length Inv-search μ-search Inv-loop μ-loop
-same-length c = c .before .loop .inv .1
-
-returns : tie.Need-returns Inv-search μ-search Inv-loop μ-loop
-unfolding rowDrawn
-returns c = sym (c .before .loop .inv .2 ∙ store-none _ _ _ 64 (c .before .loop .x) _ (c .loop-test .left))
+returns-2 : tie.Need-returns-2 Inv-rectangles μ-rectangles
+returns-2 c =
+    let some = not-none _ (c .before .before .before .before .before .before .before .before .if1 .left) in
+    c .before .before .put-spans .ensures ∙ noted-drawn _ _ _ _ _ _ _ _ some (left (c .before .before .before .before .before))
 
 pub draw-row-spec : {M : Type 1} → statement M
 draw-row-spec =
     tie.close
-    (tie.spec
-    Inv-search
-    μ-search
-    Inv-loop
-    μ-loop
-    loop-holds
-    mul-px
-    add-px
-    search-holds
-    rect-holds-requires
-    mul-picture
-    shared-slice-read-picture
-    mul-picture-2
-    add-picture
-    mul-picture-3
-    slice-write-picture
-    add-k
-    search-less
-    search-again
-    add-x
-    loop-less
-    loop-again
-    same-length
-    returns)
+    (tie.spec Inv-rectangles μ-rectangles (λ c κs. omega arith) same-length returns (λ c κs. omega arith) rectangles-holds (λ c. omega arith)
+    (λ c κs. omega arith) (λ c. omega arith) note-requires (λ c. omega arith) (λ c κs. omega arith) (λ c. omega arith) (λ c. omega arith)
+    rectangles-again slice-aggregate-put-spans put-spans-requires same-length-2 returns-2)

@@ -1,17 +1,13 @@
+-- `draw::is_inside` meets its contract: a row of checks.
 use Rattle.whole.specs.laws.Row.{rows}
 use Rattle.frame_draw.specs.Draw.{inside}
 use borrow.Author.Needs.{needs}
 use Rattle.frame_draw.proofs.row.is_inside.Statement.{statement}
 use Rattle.frame_draw.proofs.row.is_inside.Tie as tie
-use Rattle.frame_draw.proofs.row.is_inside.Reads as reads
-use Rattle.frame_draw.proofs.row.is_inside.Lts as lts
 
 returns : tie.Need-returns
 unfolding inside
 returns c = search rows depth 14 fits 20000
-
-add-if2 : tie.Need-add-if2
-add-if2 c = search needs
 
 returns-2 : tie.Need-returns-2
 unfolding inside
@@ -21,12 +17,10 @@ returns-3 : tie.Need-returns-3
 unfolding inside
 returns-3 c = search rows depth 14 fits 20000
 
-add-result : tie.Need-add-result
-add-result c = search needs
-
 returns-4 : tie.Need-returns-4
 unfolding inside
 returns-4 c = search rows depth 14 fits 20000
 
 pub is-inside-spec : {M : Type 1} → statement M
-is-inside-spec = tie.close (tie.spec returns add-if2 returns-2 returns-3 add-result returns-4)
+is-inside-spec = tie.close
+    (tie.spec returns (λ c. search needs) returns-2 returns-3 (λ c. search needs) returns-4)
