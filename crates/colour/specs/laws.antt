@@ -3,3 +3,4 @@ pub mod Colour
 pub mod Near
 pub mod Step
 pub mod Steps
+pub mod Exact

@@ -3,7 +3,7 @@
 ghost use mathlib.Core.Path.{_≡_};
 ghost use lib.IntN.{pos, _+ℤ_, _*ℤ_};
 ghost use Rattle.whole.specs.Near.{Near, Upto};
-ghost use Rattle.colour.specs.Colour.{clampByte, down, lumaOf, cbOf, crOf, rgbOf, pack565, wordOf};
+ghost use Rattle.colour.specs.Colour.{clampByte, cut21, lumaOf, cbOf, crOf, rgbOf, pack565, wordOf};
 ghost use Rattle.colour.specs.laws.Steps.{weighed, mix, joined, Small};
 
 // A pixel's three bytes.
@@ -77,17 +77,17 @@ fn split(v: i32) -> Parts
     }
 }
 
-// One byte of a pixel: (65,536 base + j r - k b) over 2^21, clamped. 65,536 goes into all but the products of the low parts.
+// One byte of a pixel: (65,536 base + j r - k b) over 2^21, clamped; half of 2^21 is 16 of the base. 65,536 goes into all but the products of the low parts.
 fn channel(base: i32, j: i32, r: Parts, k: i32, b: Parts) -> u8
-    requires { ⌜ Near 805310464 base × Upto 32767 j × Small r × Upto 32767 k × Small b ⌝ }
-    ensures { λ v. ⌜ v ≡ clampByte (down (base *ℤ pos 65536 +ℤ mix j (joined r) k (joined b))) ⌝ }
+    requires { ⌜ Near 805310480 base × Upto 32767 j × Small r × Upto 32767 k × Small b ⌝ }
+    ensures { λ v. ⌜ v ≡ clampByte (cut21 (base *ℤ pos 65536 +ℤ mix j (joined r) k (joined b))) ⌝ }
 {
     let high = j * r.high - k * b.high;
     let low = (j * r.low - k * b.low) >> 16;
     clamp((base + (high + low)) >> 5)
 }
 
-// The three bytes of a pixel's samples. A factor of 01's is a whole number of times 65,536, which goes to the base, and one of 15 bits:
+// The three bytes of a pixel's samples, rounded: 2^20 before the floor is 16 x 65,536, so that 4,096 becomes 4,112. A factor of 01's is a whole number of times 65,536, which goes to the base, and one of 15 bits:
 // 91,916 = 65,536 + 26,380, 46,819 = 65,536 - 18,717, 115,992 = 2 x 65,536 - 15,080.
 pub fn rgb_of(y: i32, cb: i32, cr: i32) -> Rgb
     requires { ⌜ Near 268435456 y × Near 268435456 cb × Near 268435456 cr ⌝ }
@@ -95,7 +95,7 @@ pub fn rgb_of(y: i32, cb: i32, cr: i32) -> Rgb
 {
     let b = split(cb);
     let r = split(cr);
-    let s = y + 4096;
+    let s = y + 4112;
     Rgb {
         r: channel(s + cr, 26380, r, 0, b),
         g: channel(s - cr, 18717, r, 22527, b),

@@ -5,7 +5,8 @@ use Prim.Native.Nat.{zero, suc, _*_}
 use native.Mathlib.Nat as N
 use lib.IntN.{ℤ, pos, negsuc, negℤ, sucℤ, predℤ, _+ℤ_, _-ℤ_, _*ℤ_, +ℤ-assoc, +ℤ-comm, +ℤ-idl, zero-*ℤ, sucℤ-+ℤ, predℤ-+ℤ, sucℤ-*ℤ, predℤ-*ℤ, *ℤ-comm, negsuc-*ℤ-pos, negℤ-negℤ, negℤ-+ℤ}
 
-swap : (a b c : ℤ) → a +ℤ b +ℤ c ≡ a +ℤ c +ℤ b
+-- the last two of three change places
+pub swap : (a b c : ℤ) → a +ℤ b +ℤ c ≡ a +ℤ c +ℤ b
 swap a b c = +ℤ-assoc a b c ∙ ap (λ (z : ℤ). a +ℤ z) (+ℤ-comm b c) ∙ sym (+ℤ-assoc a c b)
 
 up : (a q k : ℤ) → (a +ℤ q) *ℤ k ≡ a *ℤ k +ℤ q *ℤ k → (sucℤ a +ℤ q) *ℤ k ≡ sucℤ a *ℤ k +ℤ q *ℤ k

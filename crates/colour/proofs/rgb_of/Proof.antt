@@ -13,19 +13,19 @@ use Rattle.colour.specs.laws.Step.{red-sum, green-sum, blue-sum}
 use Rattle.colour.proofs.rgb_of.Statement.{statement}
 use Rattle.colour.proofs.rgb_of.Tie as tie
 
-abbrev base : (s : tie.Start) → Calc w32 (s .args .y +ℤ pos 4096)
-base s = add (arg w32 (s .pre .0) tt) (lit w32 (pos 4096) tt) tt
+abbrev base : (s : tie.Start) → Calc w32 (s .args .y +ℤ pos 4112)
+base s = add (arg w32 (s .pre .0) tt) (lit w32 (pos 4112) tt) tt
 
-abbrev red : (s : tie.Start) → Calc w32 (s .args .y +ℤ pos 4096 +ℤ s .args .cr)
+abbrev red : (s : tie.Start) → Calc w32 (s .args .y +ℤ pos 4112 +ℤ s .args .cr)
 red s = add (base s) (arg w32 (s .pre .2) tt) tt
 
-abbrev green : (s : tie.Start) → Calc w32 (s .args .y +ℤ pos 4096 -ℤ s .args .cr)
+abbrev green : (s : tie.Start) → Calc w32 (s .args .y +ℤ pos 4112 -ℤ s .args .cr)
 green s = sub (base s) (arg w32 (s .pre .2) tt) tt
 
 abbrev twice : (s : tie.Start) → Calc w32 (pos 2 *ℤ s .args .cb)
 twice s = mul (lit w32 (pos 2) tt) (arg w32 (s .pre .1) tt) tt
 
-abbrev blue : (s : tie.Start) → Calc w32 (s .args .y +ℤ pos 4096 +ℤ pos 2 *ℤ s .args .cb)
+abbrev blue : (s : tie.Start) → Calc w32 (s .args .y +ℤ pos 4112 +ℤ pos 2 *ℤ s .args .cb)
 blue s = add (base s) (twice s) tt
 
 channel-requires : tie.Need-channel-requires
