@@ -5,7 +5,7 @@
 void colour_row(const int32_t *ys, size_t a, const int32_t *cbs, size_t b, const int32_t *crs, size_t c, size_t y, uint16_t *row, size_t n);
 static int64_t clamp(int64_t x) { return x < 0 ? 0 : x > 255 ? 255 : x; }
 static uint16_t plain(int64_t y, int64_t cb, int64_t cr) {
-  int64_t s = 65536 * (y + 4096), r = clamp((s + 91916 * cr) >> 21), g = clamp((s - 22527 * cb - 46819 * cr) >> 21), b = clamp((s + 115992 * cb) >> 21);
+  int64_t s = 65536 * (y + 4096) + (1 << 20), r = clamp((s + 91916 * cr) >> 21), g = clamp((s - 22527 * cb - 46819 * cr) >> 21), b = clamp((s + 115992 * cb) >> 21);
   return (uint16_t)(r / 8 * 2048 + g / 4 * 32 + b / 8);
 }
 static uint64_t seed = 42;

@@ -405,7 +405,7 @@ fn tile_back(list: &mut [i32], sheet: &mut [i32]) {
 
 #[inline]
 fn word(y: i32, cb: i32, cr: i32) -> u16 {
-    let s = 65536 * (i64::from(y) + 4096);
+    let s = 65536 * (i64::from(y) + 4096) + (1 << 20);
     let (cb, cr) = (i64::from(cb), i64::from(cr));
     let r = ((s + 91916 * cr) >> 21).clamp(0, 255) as u16;
     let g = ((s - 22527 * cb - 46819 * cr) >> 21).clamp(0, 255) as u16;

@@ -61,6 +61,9 @@ fn pixels(word: &str, width: usize, length: usize) -> Vec<u8> {
         .collect()
 }
 
+/// The requests of document 02 that change an answer of these files.
+const LANDED: [&str; 2] = ["three", "four"];
+
 /// What a case carries from line to line.
 #[derive(Default)]
 struct Case {
@@ -151,6 +154,9 @@ impl Case {
 
     fn set(&mut self, words: &[&str]) {
         match words {
+            // requests of document 02 that the case needs, and the session's glass: the panel has just these
+            ["opt", requests @ ..] => assert!(requests.iter().all(|r| LANDED.contains(r)), "not landed: {requests:?}"),
+            ["glass", bits] => assert_eq!(*bits, "16", "no other glass yet"),
             ["rec", headers, width, height, mode] => self.session = Session::of_numbers(number(headers), number(width), number(height), number(mode)),
             ["pic", length, seed] => {
                 let (length, seed): (usize, usize) = (number(length), number(seed));
@@ -222,6 +228,11 @@ fn written_frames() {
 #[test]
 fn sessions() {
     assert_eq!(run("walk.vec"), (108, 833));
+}
+
+#[test]
+fn rectangles_and_rounding() {
+    assert_eq!(run("request_3_4.vec"), (32, 32));
 }
 
 #[test]

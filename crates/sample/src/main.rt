@@ -147,7 +147,7 @@ fn colours(name: &[u8], words: &[u16; 4096]) {
 fn picture(ys: &[i32], cbs: &[i32], crs: &[i32]) {
     let mut out = [0u16; 4096];
     words(ys, cbs, crs, &mut out);
-    colours(b"4.2.4.4_cut_words", &out);
+    colours(b"4.2.4.4_round_words", &out);
     colours(b"4.2.4.4_text_words", &out);
 }
 

@@ -110,10 +110,12 @@ module _ (r g b : ℕ) (hr : r < 256) (hg : g < 256) (hb : b < 256) where
       let y = 46819 * reds in
       let first : pos 22527 *ℤ cbOf r g b ≡ pos x -ℤ pos 92270592 = ap (λ (z : ℤ). pos 22527 *ℤ z) cb-is ∙ scaled-diff 22527 blues 4096 in
       let second : pos 46819 *ℤ crOf r g b ≡ pos y -ℤ pos 191770624 = ap (λ (z : ℤ). pos 46819 *ℤ z) cr-is ∙ scaled-diff 46819 reds 4096 in
-      let e : pos a -ℤ (pos x -ℤ pos 92270592) ≡ pos (a + 92270592) -ℤ pos x = less-diff (pos a) x 92270592 ∙ ap (λ (z : ℤ). z -ℤ pos x) (pos-+ℤ-pos a 92270592) in
+      let e : pos a -ℤ (pos x -ℤ pos 92270592) ≡ pos (a + 92270592) -ℤ pos x =
+      less-diff (pos a) x 92270592 ∙ ap (λ (z : ℤ). z -ℤ pos x) (pos-+ℤ-pos a 92270592) in
       let f : pos (a + 92270592) -ℤ pos x -ℤ (pos y -ℤ pos 191770624) ≡ pos (a + 92270592 + 191770624) -ℤ pos x -ℤ pos y =
       less-diff (pos (a + 92270592) -ℤ pos x) y 191770624
-      ∙ ap (λ (z : ℤ). z -ℤ pos y) (swap (pos (a + 92270592)) (negℤ (pos x)) (pos 191770624) ∙ ap (λ (z : ℤ). z -ℤ pos x) (pos-+ℤ-pos (a + 92270592) 191770624)) in
+      ∙ ap (λ (z : ℤ). z -ℤ pos y) (swap (pos (a + 92270592)) (negℤ (pos x)) (pos 191770624)
+      ∙ ap (λ (z : ℤ). z -ℤ pos x) (pos-+ℤ-pos (a + 92270592) 191770624)) in
       ap (λ (z : ℤ). z -ℤ pos 22527 *ℤ cbOf r g b -ℤ pos 46819 *ℤ crOf r g b +ℤ pos 1048576) base-is
       ∙ ap₂ (λ (u v : ℤ). pos a -ℤ u -ℤ v +ℤ pos 1048576) first second
       ∙ ap (λ (z : ℤ). z -ℤ (pos y -ℤ pos 191770624) +ℤ pos 1048576) e ∙ ap (λ (z : ℤ). z +ℤ pos 1048576) (f ∙ less-two (pos (a + 92270592 + 191770624)) x y)
@@ -125,7 +127,8 @@ module _ (r g b : ℕ) (hr : r < 256) (hg : g < 256) (hb : b < 256) where
   exact = record {
     red = level _ (65536 * lumas + 91916 * reds + 1048576) 376487936 r (one-chroma (crOf r g b) 91916 reds cr-is) (omega arith) (omega arith) (omega arith);
     green = level _ (65536 * lumas + 92270592 + 191770624 + 1048576) (22527 * blues + 46819 * reds) g two-chromas (omega arith) (omega arith) (omega arith);
-    blue = level _ (65536 * lumas + 115992 * blues + 1048576) 475103232 b (one-chroma (cbOf r g b) 115992 blues cb-is) (omega arith) (omega arith) (omega arith);
+    blue = level _ (65536 * lumas + 115992 * blues + 1048576) 475103232 b (one-chroma (cbOf r g b) 115992 blues cb-is)
+        (omega arith) (omega arith) (omega arith);
   }
 
 -- "White, black and greys keep their values"
