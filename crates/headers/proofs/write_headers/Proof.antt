@@ -1,16 +1,13 @@
+-- `write_headers` meets its contract: the ways out are those of every writer (wire's `refused` and `done`), and the four blocks are 47 bytes.
 use Rattle.headers.specs.laws.Headers.{writable}
 use mathlib.Core.Path.{refl, sym, _∙_}
 use native.Mathlib.Omega.{arith}
 use Rattle.wire.specs.Le.{bytes16, bytes32}
 use Rattle.headers.specs.Headers.{headersOf, syncOf, versionsOf, channelsOf, contextOf}
-use Rattle.headers.specs.laws.Wrote.{refused, done}
+use Rattle.wire.specs.laws.Wrote.{refused, done}
 use borrow.Author.Needs.{needs}
 use Rattle.headers.proofs.write_headers.Statement.{statement}
 use Rattle.headers.proofs.write_headers.Tie as tie
-use Rattle.headers.proofs.write_headers.Reads as reads
-use Rattle.headers.proofs.write_headers.Lts as lts
-use Rattle.headers.proofs.headers_fault.Reads as headers-fault-reads
-use Rattle.headers.proofs.put_headers.Reads as put-headers-reads
 
 headers-fault-requires : tie.Need-headers-fault-requires
 headers-fault-requires c κs = search needs

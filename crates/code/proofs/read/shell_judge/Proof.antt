@@ -1,3 +1,4 @@
+-- `shell_judge` meets its contract: each return is read off the row of `shellFault`, the mode by what `is_mode` says.
 use mathlib.Core.Path.{refl, sym, _∙_}
 use borrow.Author.Tests.{not-true, not-false}
 use Rattle.whole.specs.laws.Row.{rows, passes, fails}
@@ -5,9 +6,6 @@ use Rattle.code.specs.Read.{shellFault}
 use borrow.Author.Needs.{needs}
 use Rattle.code.proofs.read.shell_judge.Statement.{statement}
 use Rattle.code.proofs.read.shell_judge.Tie as tie
-use Rattle.code.proofs.read.shell_judge.Reads as reads
-use Rattle.code.proofs.read.shell_judge.Lts as lts
-use Rattle.code.proofs.read.is_mode.Reads as is-mode-reads
 
 is-mode-requires : tie.Need-is-mode-requires
 is-mode-requires c κs = search needs
