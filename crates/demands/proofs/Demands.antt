@@ -106,13 +106,17 @@ component-number : (c : ReadComponent) → readingNumber (c .answer) ≡ readFau
 component-number c = CodeNumbers.read-number _ _ _ _ _ (c .promise)
 
 -- a call on what a writer has written
-read-from : (w : WriteComponent) (c : ReadComponent) → c .mode ≡ w .mode → c .bytes ≡ sentBy (w .answer) (w .out′) → ComponentRead (w .mode) (sentBy (w .answer) (w .out′)) (c .list) (c .list′) (c .answer)
+read-from :
+    (w : WriteComponent) (c : ReadComponent) → c .mode ≡ w .mode → c .bytes ≡ sentBy (w .answer) (w .out′) →
+    ComponentRead (w .mode) (sentBy (w .answer) (w .out′)) (c .list) (c .list′) (c .answer)
 read-from w c m b = rw (← m, ← b) (c .promise)
 
 -- ---- our own frames
 
 -- a header call on a message that is taken from its record: the number, and the record after it
-taken-by : (c : ReadHeader) (s t : Session) (m : List ℕ) → c .session ≡ s → c .message ≡ m → headerReading s m ≡ Taken t → (headerNumber (c .answer) ≡ 0) × (sessionAfter c ≡ t)
+taken-by :
+    (c : ReadHeader) (s t : Session) (m : List ℕ) → c .session ≡ s → c .message ≡ m → headerReading s m ≡ Taken t →
+    (headerNumber (c .answer) ≡ 0) × (sessionAfter c ≡ t)
 unfolding headerNumber headerRecord
 taken-by c s t m a b e =
     let k : headerReading (c .session) (c .message) ≡ Taken t = rw (a, b) e in
@@ -123,7 +127,9 @@ module _ (h : WriteHeaders) (one two three four : ReadHeader) (s : WriteFrame) (
   wrote = rw (o .same-width, o .same-height, o .same-mode) (h .promise)
 
   abbrev ReadFor : Session → Type 0
-  ReadFor x = FrameRead x (sentBy (s .answer) (s .out′)) (f .picture) (f .y) (f .cb) (f .cr) (f .scratch) (f .picture′) (f .y′) (f .cb′) (f .cr′) (f .scratch′) (f .answer)
+  ReadFor x =
+      FrameRead x (sentBy (s .answer) (s .out′)) (f .picture) (f .y) (f .cb) (f .cr) (f .scratch)
+      (f .picture′) (f .y′) (f .cb′) (f .cr′) (f .scratch′) (f .answer)
 
   glass : ReadFor (f .session)
   glass = rw (← o .frame) (f .promise)
@@ -207,7 +213,8 @@ demand-3 = record {
   length-told = λ c zs rest a l e. ap readingBits (c .promise .answer) ∙ behind-bits (c .mode) (c .bytes) (c .list) zs a l rest e;
   writer-number = λ c. c .promise .number;
   writer-sent = λ c. sent-by _ _ _ _ _ (c .promise);
-  read-back = λ w c k m b l. writer-reader (w .mode) (w .list) (c .list) (c .list′) (w .out) (w .out′) (w .answer) (c .answer) (w .promise) k l (read-from w c m b);
+  read-back = λ w c k m b l.
+      writer-reader (w .mode) (w .list) (c .list) (c .list′) (w .out) (w .out′) (w .answer) (c .answer) (w .promise) k l (read-from w c m b);
 }
 
 paper : PaperCases

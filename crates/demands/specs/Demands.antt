@@ -155,7 +155,7 @@ pub record Demand2 : Type 0 where
 -- is the code of some list of 4,096 whole numbers from -32,767 to 32,767, filled up with zero bits to a byte; that list is handed back. Before
 -- filling up, no list's code is the start of another's, and the reader reports the code's length in bits, whatever bits follow."
 pub record Demand3 : Type 0 where
-  -- the number is the first fault's: the shell's ("5, 2, 6"), then the code's
+  -- the number is the first fault's: "Component calls first refuse a mode that is neither of the two (5). Component reader: 2, 6, then the code"
   pub component-number : (c : ReadComponent) → readingNumber (c .answer) ≡ readFault (c .mode) (length (c .list)) (c .bytes)
   pub accepted-if : (c : ReadComponent) (zs : List ℤ) → Exactly (c .mode) (c .bytes) (c .list) zs → (c .answer ≡ Read (length (code (c .mode) zs))) × (c .list′ ≡ zs)
   pub accepted-only-if : (c : ReadComponent) → readingNumber (c .answer) ≡ 0 → Exactly (c .mode) (c .bytes) (c .list) (c .list′)

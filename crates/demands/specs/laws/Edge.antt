@@ -27,12 +27,30 @@ use Rattle.demands.specs.Demands.{OneAnswerC}
 abbrev pub as-header : Session → List ℕ → ReadHeader
 as-header s m = record { session = s; message = m; answer = headerReading s m; promise = refl }
 
-pub header-is : (s s′ : Session) (m : List ℕ) (n : ℕ) → ReadHeaderCall s s′ m n → (n ≡ headerNumber (as-header s m .answer)) × (s′ ≡ sessionAfter (as-header s m))
+pub header-is :
+    (s s′ : Session) (m : List ℕ) (n : ℕ) → ReadHeaderCall s s′ m n →
+    (n ≡ headerNumber (as-header s m .answer)) × (s′ ≡ sessionAfter (as-header s m))
 header-is s s′ m n x = (x .number, x .session)
 
-module _ (s s′ : Session) (m pic : List ℕ) (y cb cr tmp : List ℤ) (pic′ : List ℕ) (y′ cb′ cr′ tmp′ : List ℤ) (tiles n : ℕ) (x : ReadFrameCall s s′ m pic y cb cr tmp pic′ y′ cb′ cr′ tmp′ tiles n) where
+module _ (s s′ : Session) (m pic : List ℕ) (y cb cr tmp : List ℤ) (pic′ : List ℕ) (y′ cb′ cr′ tmp′ : List ℤ) (tiles n : ℕ)
+    (x : ReadFrameCall s s′ m pic y cb cr tmp pic′ y′ cb′ cr′ tmp′ tiles n) where
   abbrev pub as-frame : ReadFrame
-  as-frame = record { session = s; message = m; picture = pic; y = y; cb = cb; cr = cr; scratch = tmp; picture′ = pic′; y′ = y′; cb′ = cb′; cr′ = cr′; scratch′ = tmp′; answer = frameAnswer s m pic y cb cr tmp; promise = x .lists }
+  as-frame = record {
+    session = s;
+    message = m;
+    picture = pic;
+    y = y;
+    cb = cb;
+    cr = cr;
+    scratch = tmp;
+    picture′ = pic′;
+    y′ = y′;
+    cb′ = cb′;
+    cr′ = cr′;
+    scratch′ = tmp′;
+    answer = frameAnswer s m pic y cb cr tmp;
+    promise = x .lists;
+  }
 
   pub frame-is : (n ≡ frameReadingNumber (as-frame .answer)) × (tiles ≡ frameReadingTiles (as-frame .answer))
   frame-is = (x .number, x .count)
@@ -52,17 +70,48 @@ module _ (f : ℕ) (bytes out out′ : List ℕ) (size n : ℕ) (x : WriterCall 
   wrote-is = (x .number ∙ sym (answer-number f bytes), x .long ∙ sym (answer-length f bytes))
 
 abbrev pub as-write : (mode : ℕ) (zs : List ℤ) (out out′ : List ℕ) (size n : ℕ) → WriteComponentCall mode zs out out′ size n → WriteComponent
-as-write mode zs out out′ size n x = record { mode = mode; list = zs; out = out; out′ = out′; answer = answerOf (writeFault mode zs (length out)) (bytesOf mode zs); promise = as-wrote _ _ out out′ size n x }
+as-write mode zs out out′ size n x = record {
+  mode = mode;
+  list = zs;
+  out = out;
+  out′ = out′;
+  answer = answerOf (writeFault mode zs (length out)) (bytesOf mode zs);
+  promise = as-wrote _ _ out out′ size n x;
+}
 
 abbrev pub as-headers : (w h mode : ℕ) (out out′ : List ℕ) (size n : ℕ) → WriteHeadersCall w h mode out out′ size n → WriteHeaders
-as-headers w h mode out out′ size n x = record { width = w; height = h; mode = mode; out = out; out′ = out′; answer = answerOf (headersFault w h mode (length out)) (headersOf w h mode); promise = as-wrote _ _ out out′ size n x }
+as-headers w h mode out out′ size n x = record {
+  width = w;
+  height = h;
+  mode = mode;
+  out = out;
+  out′ = out′;
+  answer = answerOf (headersFault w h mode (length out)) (headersOf w h mode);
+  promise = as-wrote _ _ out out′ size n x;
+}
 
-module _ (w h mode : ℕ) (q : List ℕ) (index : ℕ) (p : List ℕ) (list list′ scratch scratch′ : List ℤ) (out out′ : List ℕ) (size n : ℕ) (x : WriteFrameCall w h mode q index p list list′ scratch scratch′ out out′ size n) where
+module _ (w h mode : ℕ) (q : List ℕ) (index : ℕ) (p : List ℕ) (list list′ scratch scratch′ : List ℤ) (out out′ : List ℕ) (size n : ℕ)
+    (x : WriteFrameCall w h mode q index p list list′ scratch scratch′ out out′ size n) where
   abbrev fault : ℕ
   fault = argFault w h mode q (length p) (length list) (length scratch) ⨟ sendFault index w h mode q p (length out)
 
   abbrev pub as-send : WriteFrame
-  as-send = record { width = w; height = h; mode = mode; quant = q; index = index; pixels = p; list = list; scratch = scratch; out = out; list′ = list′; scratch′ = scratch′; out′ = out′; answer = answerOf fault (frameP index w h mode q p); promise = record { wrote = as-wrote _ _ out out′ size n (x .wrote); first = x .first; second = x .second } }
+  as-send = record {
+    width = w;
+    height = h;
+    mode = mode;
+    quant = q;
+    index = index;
+    pixels = p;
+    list = list;
+    scratch = scratch;
+    out = out;
+    list′ = list′;
+    scratch′ = scratch′;
+    out′ = out′;
+    answer = answerOf fault (frameP index w h mode q p);
+    promise = record { wrote = as-wrote _ _ out out′ size n (x .wrote); first = x .first; second = x .second };
+  }
 
 -- ---- one answer
 
@@ -91,7 +140,8 @@ pub one-answer-c : OneAnswerC
 one-answer-c = record {
   read-header = λ s s₁ s₂ m n₁ n₂ x y. (x .number ∙ sym (y .number), x .session ∙ sym (y .session));
   read-frame = frame-call-once;
-  read-component = λ mode s list l₁ l₂ k₁ k₂ n₁ n₂ x y. (x .number ∙ sym (y .number), x .long ∙ sym (y .long), read-once mode s list l₁ l₂ _ _ (x .list) (y .list) .1);
+  read-component = λ mode s list l₁ l₂ k₁ k₂ n₁ n₂ x y.
+      (x .number ∙ sym (y .number), x .long ∙ sym (y .long), read-once mode s list l₁ l₂ _ _ (x .list) (y .list) .1);
   write-component = λ mode zs out o₁ o₂ k₁ k₂ n₁ n₂ x y. write-call-once _ _ out o₁ o₂ k₁ k₂ n₁ n₂ x y;
   write-headers = λ w h mode out o₁ o₂ k₁ k₂ n₁ n₂ x y. write-call-once _ _ out o₁ o₂ k₁ k₂ n₁ n₂ x y;
   write-frame = frame-write-once;

@@ -22,10 +22,12 @@ pub header-once : (c d : ReadHeader) → c .session ≡ d .session → c .messag
 header-once c d s m = c .promise ∙ rw (s, m) (sym (d .promise))
 
 pub frame-read-once :
-    (c d : ReadFrame) → c .session ≡ d .session → c .message ≡ d .message → c .picture ≡ d .picture → c .y ≡ d .y → c .cb ≡ d .cb → c .cr ≡ d .cr → c .scratch ≡ d .scratch →
+    (c d : ReadFrame) → c .session ≡ d .session → c .message ≡ d .message → c .picture ≡ d .picture →
+    c .y ≡ d .y → c .cb ≡ d .cb → c .cr ≡ d .cr → c .scratch ≡ d .scratch →
     (c .answer ≡ d .answer) × (c .picture′ ≡ d .picture′) × (c .y′ ≡ d .y′) × (c .cb′ ≡ d .cb′) × (c .cr′ ≡ d .cr′) × (c .scratch′ ≡ d .scratch′)
 frame-read-once c d s m p y b r t =
-    let e : FrameRead (c .session) (c .message) (c .picture) (c .y) (c .cb) (c .cr) (c .scratch) (d .picture′) (d .y′) (d .cb′) (d .cr′) (d .scratch′) (d .answer) = rw (s, m, p, y, b, r, t) (d .promise) in
+    let e : FrameRead (c .session) (c .message) (c .picture) (c .y) (c .cb) (c .cr) (c .scratch) (d .picture′) (d .y′) (d .cb′) (d .cr′) (d .scratch′) (d .answer) =
+    rw (s, m, p, y, b, r, t) (d .promise) in
     let o = one-frame _ _ _ _ _ _ _ _ _ _ _ _ _ _ _ _ _ _ _ (c .promise) e in
     (o .answer, o .picture, o .y-list, o .cb-list, o .cr-list, o .tmp-list)
 
@@ -53,10 +55,12 @@ headers-once c d w h m o =
     wrote-once _ _ (c .out) (c .out′) (d .out′) (c .answer) (d .answer) (λ z. some-headers (c .width) (c .height) (c .mode)) (c .promise) e
 
 pub frame-written-once :
-    (c d : WriteFrame) → c .width ≡ d .width → c .height ≡ d .height → c .mode ≡ d .mode → c .quant ≡ d .quant → c .index ≡ d .index → c .pixels ≡ d .pixels → c .list ≡ d .list → c .scratch ≡ d .scratch → c .out ≡ d .out →
+    (c d : WriteFrame) → c .width ≡ d .width → c .height ≡ d .height → c .mode ≡ d .mode → c .quant ≡ d .quant → c .index ≡ d .index →
+    c .pixels ≡ d .pixels → c .list ≡ d .list → c .scratch ≡ d .scratch → c .out ≡ d .out →
     (c .answer ≡ d .answer) × (c .list′ ≡ d .list′) × (c .scratch′ ≡ d .scratch′) × (c .out′ ≡ d .out′)
 frame-written-once c d w h m q i p l s o =
-    let e : FrameWritten (c .width) (c .height) (c .mode) (c .quant) (c .index) (c .pixels) (c .list) (d .list′) (c .scratch) (d .scratch′) (c .out) (d .out′) (d .answer) = rw (w, h, m, q, i, p, l, s, o) (d .promise) in
+    let e : FrameWritten (c .width) (c .height) (c .mode) (c .quant) (c .index) (c .pixels) (c .list) (d .list′) (c .scratch) (d .scratch′) (c .out) (d .out′) (d .answer) =
+    rw (w, h, m, q, i, p, l, s, o) (d .promise) in
     frame-once _ _ _ _ _ _ _ _ _ _ _ _ _ _ _ _ _ (c .promise) e
 
 pub one-answer : OneAnswer

@@ -38,7 +38,8 @@ tiles-none : (n : ℕ) (m : List ℕ) → (n ≡ 0 → ⊥) → frameReadingTile
 unfolding frameReading frameReadingTiles _⇒_∣_
 tiles-none n m h = rw (ne-eqb n 0 h)
 
-module _ (s : Session) (m pic : List ℕ) (y cb cr tmp : List ℤ) (pic′ : List ℕ) (y′ cb′ cr′ tmp′ : List ℤ) (r : FrameReading) (done : FrameRead s m pic y cb cr tmp pic′ y′ cb′ cr′ tmp′ r) where
+module _ (s : Session) (m pic : List ℕ) (y cb cr tmp : List ℤ) (pic′ : List ℕ) (y′ cb′ cr′ tmp′ : List ℤ) (r : FrameReading)
+    (done : FrameRead s m pic y cb cr tmp pic′ y′ cb′ cr′ tmp′ r) where
   number : ℕ
   number = frameNumber (early s pic y cb cr tmp) s m
 
@@ -109,7 +110,8 @@ pub record SameFrame (pic pic′ : List ℕ) (y cb cr tmp y′ cb′ cr′ tmp�
   pub tmp-list : tmp ≡ tmp′
 
 pub one-frame :
-    (s : Session) (m pic : List ℕ) (y cb cr tmp : List ℤ) (p₁ : List ℕ) (y₁ b₁ r₁ t₁ : List ℤ) (a₁ : FrameReading) (p₂ : List ℕ) (y₂ b₂ r₂ t₂ : List ℤ) (a₂ : FrameReading) →
+    (s : Session) (m pic : List ℕ) (y cb cr tmp : List ℤ) (p₁ : List ℕ) (y₁ b₁ r₁ t₁ : List ℤ) (a₁ : FrameReading)
+    (p₂ : List ℕ) (y₂ b₂ r₂ t₂ : List ℤ) (a₂ : FrameReading) →
     FrameRead s m pic y cb cr tmp p₁ y₁ b₁ r₁ t₁ a₁ → FrameRead s m pic y cb cr tmp p₂ y₂ b₂ r₂ t₂ a₂ → SameFrame p₁ p₂ y₁ b₁ r₁ t₁ y₂ b₂ r₂ t₂ a₁ a₂
 one-frame s m pic y cb cr tmp p₁ y₁ b₁ r₁ t₁ a₁ p₂ y₂ b₂ r₂ t₂ a₂ d e =
     record {

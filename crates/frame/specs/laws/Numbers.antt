@@ -13,7 +13,8 @@ use Rattle.whole.specs.laws.Among.{numbers, each, among-then, among-all, among-
 use Rattle.code.specs.laws.Numbers.{full-fault-among}
 use Rattle.bands.specs.Bands.{sumsFault, scaleFault}
 use Rattle.tile_back.specs.Component.{componentFault}
-use Rattle.frame_layout.specs.Reader.{headJudge, fixedHead, leastHead, codecJudge, codecFault, beginJudge, beginFault, regionJudge, lastJudge, regionFault, setJudge, halvesFault, quantsFault, bodyJudge, codesFault, tileFault, tilesFault, setFault, endFault, frameFault, sizeAt}
+use Rattle.frame_layout.specs.Reader.{headJudge, fixedHead, leastHead, codecJudge, beginJudge, regionJudge, lastJudge, setJudge, bodyJudge, sizeAt}
+use Rattle.frame_layout.specs.Reader.{codecFault, beginFault, regionFault, halvesFault, quantsFault, codesFault, tileFault, tilesFault, setFault, endFault, frameFault}
 use Rattle.frame_blocks.specs.Judged.{judged}
 use Rattle.session.specs.declared.Session.{Session}
 use Rattle.frame.specs.declared.call.FrameReading.{FrameReading}
@@ -97,7 +98,8 @@ unfolding callFault among
 call-among s p a b c t = search numbers
 
 -- 12 and 2 leave the lists as they were, every other answer leaves zeros
-module _ (s : Session) (m pic : List ℕ) (y cb cr tmp : List ℤ) (pic′ : List ℕ) (y′ cb′ cr′ tmp′ : List ℤ) (r : FrameReading) (done : FrameRead s m pic y cb cr tmp pic′ y′ cb′ cr′ tmp′ r) where
+module _ (s : Session) (m pic : List ℕ) (y cb cr tmp : List ℤ) (pic′ : List ℕ) (y′ cb′ cr′ tmp′ : List ℤ) (r : FrameReading)
+    (done : FrameRead s m pic y cb cr tmp pic′ y′ cb′ cr′ tmp′ r) where
   before : ℕ
   before = early s pic y cb cr tmp
 
@@ -119,7 +121,7 @@ module _ (s : Session) (m pic : List ℕ) (y cb cr tmp : List ℤ) (pic′ : Lis
   pub untouched : Among (12 ∷ 2 ∷ []) (frameReadingNumber r) → Untouched
   unfolding before frameList frameNumber each among
   untouched e =
-      let o : Other (12 ∷ 2 ∷ []) (frameFault judged (s .width) (s .height) (s .mode) m) = among-none _ (message-among (s .width) (s .height) (s .mode) m) refl in
+      let o = among-none (12 ∷ 2 ∷ []) (message-among (s .width) (s .height) (s .mode) m) refl in
       let z = ne-eqb before 0 (first-there before _ o (subst (Among (12 ∷ 2 ∷ [])) number e)) in
       record {
         y-is = done .y-list ∙ sym (fails _ _ _ _ z refl);

@@ -199,7 +199,8 @@ pub our-own-frames :
     length y ≡ 4096 → length cb ≡ 4096 → length cr ≡ 4096 → length tmp ≡ 4096 → h * w ≤ length pic →
     FrameRead (at 4 w h mode) (take (writingLength r) out′) pic y cb cr tmp pic′ y′ cb′ cr′ tmp′ answer →
     AllTaken s₀ w h mode (take (writingLength hr) ho′) × Shown p w h q pic pic′ answer
-our-own-frames s₀ w h mode ho ho′ hr hw e q index p list list′ scratch scratch′ out out′ r ten fw f pic y cb cr tmp pic′ y′ cb′ cr′ tmp′ answer ly lb lr lt room done =
+our-own-frames s₀ w h mode ho ho′ hr hw e q index p list list′ scratch scratch′ out out′ r ten fw f
+    pic y cb cr tmp pic′ y′ cb′ cr′ tmp′ answer ly lb lr lt room done =
     let u = written-is w h mode q index p list list′ scratch scratch′ out out′ r ten fw f in
     let d = subst (λ (x : List ℕ). FrameRead (at 4 w h mode) x pic y cb cr tmp pic′ y′ cb′ cr′ tmp′ answer) (u .bytes) done in
     (our-headers s₀ w h mode ho ho′ hr hw e, shown p w h mode q index (u .sendable) (u .size) pic y cb cr tmp pic′ y′ cb′ cr′ tmp′ answer ly lb lr lt room d)

@@ -55,7 +55,8 @@ module _ (w h mode : ℕ) (q : List ℕ) (index : ℕ) (p : List ℕ) (list list
   pub work-untouched : Among argNumbers (writingNumber r) → (list′ ≡ list) × (scratch′ ≡ scratch)
   unfolding arguments each among
   work-untouched e =
-      let f = first-there arguments _ (among-none argNumbers (send-among index w h mode q p (length out)) refl) (subst (Among argNumbers) (x .wrote .number) e) in
+      let o = among-none argNumbers (send-among index w h mode q p (length out)) refl in
+      let f = first-there arguments _ o (subst (Among argNumbers) (x .wrote .number) e) in
       (x .first ∙ sym (untouched _ arguments list refl f), x .second ∙ sym (untouched _ arguments scratch refl f))
 
   pub work-zeros : Other argNumbers (writingNumber r) → (list′ ≡ replicate 4096 (pos 0)) × (scratch′ ≡ replicate 4096 (pos 0))

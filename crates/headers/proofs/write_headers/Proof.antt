@@ -16,14 +16,19 @@ returns : tie.Need-returns
 returns c = refused _ _ _ _ (c .before .headers-fault .ensures) (c .if1 .taken)
 
 put-headers-requires : tie.Need-put-headers-requires
-put-headers-requires c κs = let k = writable _ _ _ _ (sym (c .before .if1 .left) ∙ c .before .before .headers-fault .ensures) in (omega (arith, k .fits), omega arith)
+put-headers-requires c κs =
+    let k = writable _ _ _ _ (sym (c .before .if1 .left) ∙ c .before .before .headers-fault .ensures) in
+    (omega (arith, k .fits), omega arith)
 
 same-length : tie.Need-same-length
 same-length c = search needs
 
 returns-2 : tie.Need-returns-2
 unfolding bytes16 bytes32 headersOf syncOf versionsOf channelsOf contextOf
-returns-2 c = done _ _ _ _ _ (sym (c .before .before .before .before .if1 .left) ∙ c .before .before .before .before .before .headers-fault .ensures) refl (c .before .before .put-headers .ensures)
+returns-2 c =
+    let p = c .before .before .before .before in
+    let q = p .before in
+    done _ _ _ _ _ (sym (p .if1 .left) ∙ q .headers-fault .ensures) refl (c .before .before .put-headers .ensures)
 
 pub write-headers-spec : {M : Type 1} → statement M
 write-headers-spec =

@@ -1,21 +1,14 @@
 -- Which numbers the header call answers.
 use Prim.Native.Nat.{ℕ}
-use mathlib.Core.Bool.{Bool, true, false}
 use mathlib.Core.List.{List, [], _∷_}
-use Rattle.whole.specs.Row.{_⇒_∣_}
 use Rattle.whole.specs.Among.{among, Among}
 use Rattle.whole.specs.laws.Among.{numbers}
 use Rattle.session.specs.declared.Session.{Session}
-use Rattle.session.specs.Header.{syncJudge, versionsJudge, channelsJudge, contextJudge, syncFault, versionsFault, channelsFault, contextFault, fieldFault, headJudge, headerFault}
+use Rattle.session.specs.Header.{syncJudge, versionsJudge, channelsJudge, contextJudge, headJudge}
+use Rattle.session.specs.Header.{syncFault, versionsFault, channelsFault, contextFault, fieldFault, headerFault}
 
 abbrev pub headerNumbers : List ℕ
 headerNumbers = 0 ∷ 1 ∷ 3 ∷ 12 ∷ 4 ∷ 5 ∷ []
-
--- one case or another
-among-case : {ks : List ℕ} (t : Bool) (a b : ℕ) → Among ks a → Among ks b → Among ks (t ⇒ a ∣ b)
-unfolding _⇒_∣_
-among-case true a b p q = p
-among-case false a b p q = q
 
 head-among : (s : Session) (t size len : ℕ) → Among headerNumbers (headJudge s t size len)
 unfolding headJudge among
@@ -38,8 +31,8 @@ unfolding contextFault contextJudge among
 context-among m = search numbers depth 9
 
 field-among : (m : List ℕ) (t : ℕ) → Among headerNumbers (fieldFault m t)
-unfolding fieldFault
-field-among m t = among-case _ _ _ (sync-among m) (among-case _ _ _ (versions-among m) (among-case _ _ _ (channels-among m) (context-among m)))
+unfolding fieldFault among
+field-among m t = search (numbers, sync-among, versions-among, channels-among, context-among)
 
 pub header-among : (s : Session) (m : List ℕ) → Among headerNumbers (headerFault s m)
 unfolding headerFault among

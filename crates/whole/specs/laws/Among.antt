@@ -1,4 +1,4 @@
--- Which numbers a row of checks can come to: `among-row` and `among-then` put them together, `among-each` says what holds of all of them.
+-- Which numbers a row of checks can come to: `search numbers` puts them together, `among-each` says what holds of all of them.
 use Prim.Native.Nat.{ℕ, zero, suc, _≤_}
 use mathlib.Core.Path.{_≡_, refl, sym, ap, _∙_, subst⁻¹}
 use mathlib.Core.Bool.{Bool, true, false, true≢false, _&&_, _||_, not}
@@ -6,25 +6,30 @@ use mathlib.Core.List.{List, [], _∷_}
 use native.Mathlib.Omega.{arith}
 use lib.Dec.{eqb, leb}
 use borrow.Author.Tests.{eqb-true, leb-true, ne-eqb}
-use Rattle.whole.specs.Row.{_!_⨾_, _⨟_}
+use Rattle.whole.specs.Row.{_!_⨾_, _⇒_∣_, _⨟_}
 use Rattle.whole.specs.Among.{among, Among, Other}
 
 -- a number and numbers that are written out: `said refl`, where `among` unfolds
 pub said : {ks : List ℕ} {n : ℕ} → among ks n ≡ true → Among ks n
 said e = record { is = e }
 
--- a row of checks, and one fault and then another
+-- a row of checks, a case, and one fault and then another
 pub among-row : {ks : List ℕ} (t : Bool) (f rest : ℕ) → Among ks f → Among ks rest → Among ks (t ! f ⨾ rest)
 unfolding _!_⨾_
 among-row true f rest p q = q
 among-row false f rest p q = p
+
+pub among-case : {ks : List ℕ} (t : Bool) (a b : ℕ) → Among ks a → Among ks b → Among ks (t ⇒ a ∣ b)
+unfolding _⇒_∣_
+among-case true a b p q = p
+among-case false a b p q = q
 
 pub among-then : {ks : List ℕ} (a b : ℕ) → Among ks a → Among ks b → Among ks (a ⨟ b)
 unfolding _⨟_
 among-then zero b p q = q
 among-then (suc a) b p q = p
 
-pub ruleset numbers = (among-row, among-then, said, refl)
+pub ruleset numbers = (among-row, among-case, among-then, said, refl)
 
 -- does a test hold of each of them?
 unfoldable pub each : (ℕ → Bool) → List ℕ → Bool

@@ -63,5 +63,6 @@ wrote-answer zero bytes out out′ (Refused k) s w = absurd (omega (arith, w .sa
 wrote-answer (suc f) bytes out out′ (Done k) s w = absurd (omega (arith, w .number))
 wrote-answer (suc f) bytes out out′ (Refused k) s w = ap Refused (w .number)
 
-pub wrote-once : (f : ℕ) (bytes out a b : List ℕ) (r q : Writing) → (f ≡ 0 → 0 < length bytes) → Wrote f bytes out a r → Wrote f bytes out b q → (r ≡ q) × (a ≡ b)
+pub wrote-once :
+    (f : ℕ) (bytes out a b : List ℕ) (r q : Writing) → (f ≡ 0 → 0 < length bytes) → Wrote f bytes out a r → Wrote f bytes out b q → (r ≡ q) × (a ≡ b)
 wrote-once f bytes out a b r q s x y = (wrote-answer f bytes out a r s x ∙ sym (wrote-answer f bytes out b q s y), x .left ∙ sym (y .left))

@@ -20,11 +20,15 @@ returns-2 c = passes _ _ _ _ (sym (c .before .before .is-mode .ensures) ∙ not-
 
 returns-3 : tie.Need-returns-3
 unfolding shellFault
-returns-3 c = passes _ _ _ _ (sym (c .before .before .before .is-mode .ensures) ∙ not-false (c .before .before .before .is-mode .result) (c .before .before .if1 .left)) (search rows)
+returns-3 c =
+    let p = c .before .before .before in
+    passes _ _ _ _ (sym (p .is-mode .ensures) ∙ not-false (p .is-mode .result) (c .before .before .if1 .left)) (search rows)
 
 returns-4 : tie.Need-returns-4
 unfolding shellFault
-returns-4 c = passes _ _ _ _ (sym (c .before .before .before .is-mode .ensures) ∙ not-false (c .before .before .before .is-mode .result) (c .before .before .if1 .left)) (search rows)
+returns-4 c =
+    let p = c .before .before .before in
+    passes _ _ _ _ (sym (p .is-mode .ensures) ∙ not-false (p .is-mode .result) (c .before .before .if1 .left)) (search rows)
 
 pub shell-judge-spec : {M : Type 1} → statement M
 shell-judge-spec = tie.close (tie.spec is-mode-requires returns returns-2 returns-3 returns-4)
