@@ -34,8 +34,8 @@ pub fn header_call(s: Session, message: &[u8]) -> Session
     ensures { λ _. ⌜ Unit ⌝ }
 {
     let h = panel::read_header(s, message);
-    let after = panel::header_record(h, s);
-    crate::lines::say_header(panel::header_number(h), after);
+    let after = session::header_record(h, s);
+    crate::lines::say_header(session::header_number(h), after);
     after
 }
 
@@ -58,9 +58,9 @@ pub fn writer_call(mode: u8, list: &[i32], out: &mut [u8]) -> usize
 {
     app_recording::lent::fill_bytes(out, 0xA5);
     let w = panel::write_component(mode, list, out);
-    let n = code_write::call::writing_length(w);
+    let n = wire::writing_length(w);
     crate::lines::say_hash(
-        code_write::call::writing_number(w),
+        wire::writing_number(w),
         n,
         app_recording::lent::hash_bytes(out),
     );
@@ -73,9 +73,9 @@ pub fn headers_call(width: usize, height: usize, mode: u8, out: &mut [u8]) -> us
 {
     app_recording::lent::fill_bytes(out, 0xA5);
     let w = panel::write_headers(width, height, mode, out);
-    let n = code_write::call::writing_length(w);
+    let n = wire::writing_length(w);
     crate::lines::say_hash(
-        code_write::call::writing_number(w),
+        wire::writing_number(w),
         n,
         app_recording::lent::hash_bytes(out),
     );
@@ -90,9 +90,9 @@ pub struct Heard {
 
 fn read_one(s: Session, message: &[u8]) -> Heard {
     let h = panel::read_header(s, message);
-    let after = panel::header_record(h, s);
+    let after = session::header_record(h, s);
     Heard {
-        number: panel::header_number(h),
+        number: session::header_number(h),
         session: after,
     }
 }
@@ -163,8 +163,8 @@ pub fn frame_call(
     fill_two(cr, scratch);
     let r = panel::read_frame(s, message, picture, y, cb, cr, scratch);
     crate::lines::say_frame(
-        panel::frame_number(r),
-        panel::frame_tiles(r),
+        frame::call::frame_number(r),
+        frame::call::frame_tiles(r),
         work_letter(pair_letter(y, cb), pair_letter(cr, scratch)),
         s,
         app_recording::lent::hash_words(picture),
@@ -204,9 +204,9 @@ pub fn frame_writer_call(
         scratch,
         out,
     );
-    let n = code_write::call::writing_length(w);
+    let n = wire::writing_length(w);
     crate::lines::say_written(
-        code_write::call::writing_number(w),
+        wire::writing_number(w),
         n,
         pair_letter(list, scratch),
         app_recording::lent::hash_bytes(out),

@@ -44,7 +44,7 @@ fn writes(mode: u8, first: i32, code: &[u8]) -> bool {
     list[0] = first;
     let mut out = [0xA5u8; 8];
     let w = panel::write_component(mode, &list, &mut out);
-    let n = code_write::call::writing_length(w);
+    let n = wire::writing_length(w);
     if n > 8 {
         return false;
     }
@@ -56,7 +56,7 @@ fn writes_short(mode: u8, first: i32) -> bool {
     list[0] = first;
     let mut out = [0xA5u8; 3];
     let w = panel::write_component(mode, &list, &mut out);
-    if code_write::call::writing_number(w) != 13 {
+    if wire::writing_number(w) != 13 {
         return false;
     }
     check::same(&out, &[0xA5, 0xA5, 0xA5])
@@ -162,7 +162,7 @@ fn headers() {
     let w = panel::write_headers(64, 64, 4, &mut out);
     told(
         b"headers for 64 x 64, RLGR3, done",
-        code_write::call::writing_length(w) == 47,
+        wire::writing_length(w) == 47,
     );
     told(
         b"headers for 64 x 64, RLGR3, bytes",
@@ -175,7 +175,7 @@ fn headers() {
 // The header writer's number for a width.
 fn width_written(width: usize) -> u8 {
     let mut out = [0xA5u8; 47];
-    code_write::call::writing_number(panel::write_headers(width, 1, 1, &mut out))
+    wire::writing_number(panel::write_headers(width, 1, 1, &mut out))
 }
 
 // The header reader's number for a channels block with this width.
@@ -187,7 +187,7 @@ fn width_read(low: u8, high: u8) -> u8 {
         mode: 0,
     };
     let block: [u8; 12] = [0xC2, 0xCC, 12, 0, 0, 0, 1, 0, low, high, 1, 0];
-    panel::header_number(panel::read_header(s, &block))
+    session::header_number(panel::read_header(s, &block))
 }
 
 fn widths() {
@@ -213,7 +213,7 @@ fn sent(q: Quant, out: &mut [u8]) -> usize {
     let mut list = [7i32; 4096];
     let mut scratch = [7i32; 4096];
     let w = panel::write_frame(64, 64, 4, q, 1, &pixels, &mut list, &mut scratch, out);
-    code_write::call::writing_length(w)
+    wire::writing_length(w)
 }
 
 // The frame writer's number for a first quantiser.
@@ -233,7 +233,7 @@ fn quant_sent(first: u8) -> u8 {
         &mut scratch,
         &mut out,
     );
-    code_write::call::writing_number(w)
+    wire::writing_number(w)
 }
 
 // The frame call on a message: its number.
@@ -249,7 +249,7 @@ fn shown(message: &[u8], picture: &mut [u16]) -> u8 {
     let mut cr = [7i32; 4096];
     let mut scratch = [7i32; 4096];
     let f = panel::read_frame(s, message, picture, &mut y, &mut cb, &mut cr, &mut scratch);
-    panel::frame_number(f)
+    frame::call::frame_number(f)
 }
 
 // The number for our own frame with one byte of it changed, and whether the picture is as it was: 99 where it is not.

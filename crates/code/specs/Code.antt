@@ -5,14 +5,10 @@ use mathlib.Core.Bool.{Bool, true, false}
 use mathlib.Core.List.{List, [], _∷_, _++_}
 use lib.ListN.{length, drop, getD}
 use lib.Dec.{ltb, leb}
+use Rattle.whole.specs.Row.{_⇒_∣_}
 use Rattle.bits.specs.Bits.{odd, numBits, grBits}
 use Rattle.code.specs.declared.element.Item.{Item}
 use Rattle.code.specs.declared.element.Item.the-variants.{Full, Run, Single, Twin}
-
--- the first where the test holds, else the second
-abbrev pub pick {ℓ} : {X : Type ℓ} → Bool → X → X → X
-pick true x y = x
-pick false x y = y
 
 -- ---- the running parameters: "k = floor(kp/8), kr = floor(krp/8); kp and krp stay in 0 to 80 by clamping"
 
@@ -78,10 +74,11 @@ zerosOf (suc x ∷ xs) = 0
 -- "k > 0": a full run where 2^k zeros stand there, or where the zeros reach the end
 -- ("The writer closes a list's last zeros, while k > 0, with full runs until they are covered."), else the remaining zeros and a value
 unfoldable pub itemOf : Bool → ℕ → List ℕ → Item
+unfolding _⇒_∣_
 itemOf two kp l =
-    pick (ltb kp 8)
-    (pick two (Twin (getD l 0 0) (getD l 1 0)) (Single (getD l 0 0)))
-    (pick (leb (min (2 ^ (kp / 8)) (length l)) (zerosOf l)) Full (Run (zerosOf l) (getD l (zerosOf l) 0)))
+    ltb kp 8 ⇒ (two ⇒ Twin (getD l 0 0) (getD l 1 0) ∣ Single (getD l 0 0)) ∣
+    leb (min (2 ^ (kp / 8)) (length l)) (zerosOf l) ⇒ Full ∣
+    Run (zerosOf l) (getD l (zerosOf l) 0)
 
 -- its bits: "each bit 0 is 2^k zeros"
 unfoldable pub itemBits : ℕ → ℕ → Item → List Bool

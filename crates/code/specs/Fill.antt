@@ -1,11 +1,11 @@
 -- Filling a list from a code, element by element: what is stored, and what is left.
-use Prim.Native.Nat.{ℕ, _+_, _-_, _≤_, _<_, min}
+use Prim.Native.Nat.{ℕ, _+_, _≤_, _<_, min}
 use mathlib.Core.Path.{_≡_}
 use mathlib.Core.List.{List, map}
 use lib.IntN.{ℤ}
 use lib.ListN.{length, set}
 use lib.Dec.{ltb}
-use Rattle.code.specs.Code.{pick}
+use Rattle.whole.specs.Row.{_⇒_∣_}
 use Rattle.code.specs.ReadList.{Walked, whole, bad}
 use Rattle.code.specs.declared.element.Element.{Element}
 use Rattle.code.specs.declared.element.Element.the-variants.{Zeros, One, Two, Refused}
@@ -36,4 +36,4 @@ abbrev pub storedOf : List ℤ → ℕ → Element → List ℤ
 storedOf out i (Refused r) = out
 storedOf out i (Zeros z s) = out
 storedOf out i (One z v s) = set out (i + z) (unfoldZ v)
-storedOf out i (Two a b s) = pick (ltb (i + 1) (length out)) (set (set out i (unfoldZ a)) (i + 1) (unfoldZ b)) (set out i (unfoldZ a))
+storedOf out i (Two a b s) = ltb (i + 1) (length out) ⇒ set (set out i (unfoldZ a)) (i + 1) (unfoldZ b) ∣ set out i (unfoldZ a)

@@ -9,7 +9,7 @@ use lib.ListN.{length, getD}
 use Rattle.bits.specs.Bytes.{Written}
 use Rattle.code.specs.Fold.{foldZ}
 use Rattle.code.specs.Code.{codeOf}
-use Rattle.code.specs.Read.{isMode}
+use Rattle.wire.specs.Mode.{isMode}
 
 -- the code of a list of signed numbers, by the mode's number (4 is RLGR3)
 abbrev pub code : ℕ → List ℤ → List Bool

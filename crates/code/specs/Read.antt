@@ -6,7 +6,8 @@ use mathlib.Core.List.{List, [], _∷_, map}
 use lib.Dec.{ltb, leb, eqb}
 use lib.IntN.{ℤ, pos}
 use lib.ListN.{length, drop, replicate}
-use Rattle.whole.specs.Row.{_!_⨾_, _⇒_∣_}
+use Rattle.whole.specs.Row.{_!_⨾_}
+use Rattle.wire.specs.Mode.{isMode}
 use Rattle.bits.specs.Bits.{bitsOf}
 use Rattle.code.specs.Fold.{unfoldZ}
 use Rattle.code.specs.ReadList.{Walked, whole, bad, readList, refusalNumber}
@@ -54,10 +55,6 @@ unfoldable pub codeList : Bool → List ℕ → List ℤ
 codeList two s = endList (bitsOf s) (readList two 4096 (bitsOf s))
 
 -- ---- the call
-
--- "et is 1 (RLGR1) or 4 (RLGR3)."
-unfoldable pub isMode : ℕ → Bool
-isMode mode = eqb mode 1 ⇒ true ∣ eqb mode 4
 
 -- "Component calls first refuse a mode that is neither of the two (5). Component reader: 2, 6, then the code":
 -- of the mode, the list's length and the number of bytes

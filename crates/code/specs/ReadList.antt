@@ -4,10 +4,11 @@ use mathlib.Core.Bool.{Bool, true, false}
 use mathlib.Core.List.{List, [], _∷_, _++_}
 use lib.ListN.{drop, take, replicate}
 use lib.Dec.{ltb, leb}
+use Rattle.whole.specs.Row.{_⇒_∣_}
 use Rattle.bits.specs.Bits.{numOf, grOf}
 use Rattle.bits.specs.declared.Num.{Num}
 use Rattle.bits.specs.declared.Num.the-variants.{Got, Cut}
-use Rattle.code.specs.Code.{pick, up, krAfter, kpOne, kpTwo, size}
+use Rattle.code.specs.Code.{up, krAfter, kpOne, kpTwo, size}
 use Rattle.code.specs.declared.element.State.{State}
 use Rattle.code.specs.declared.element.Refusal.{Refusal}
 use Rattle.code.specs.declared.element.Refusal.the-variants.{Cut as Short, Range, Overrun}
@@ -33,8 +34,9 @@ st a p r = record { at = a; kp = p; krp = r }
 -- 10 "a remainder run with no place left for its value"; "kp - 6"
 abbrev pub judgeRun : ℕ → ℕ → ℕ → ℕ → ℕ → ℕ → ℕ → Element
 judgeRun kp krp left z s g at =
-    pick (ltb 32766 g) (Refused Range)
-    (pick (leb left z) (Refused Overrun) (One z (2 * (g + 1) - s) (st at (kp - 6) (krAfter krp g))))
+    ltb 32766 g ⇒ Refused Range ∣
+    leb left z ⇒ Refused Overrun ∣
+    One z (2 * (g + 1) - s) (st at (kp - 6) (krAfter krp g))
 
 abbrev pub runThird : ℕ → ℕ → ℕ → ℕ → ℕ → Num → Element
 runThird kp krp left z s Cut = Refused Short
@@ -57,20 +59,21 @@ runElem kp krp left B (Got (suc b) at) = runFirst kp krp left B (numOf (kp / 8) 
 -- "k = 0, RLGR1: GR g."
 abbrev pub oneElem : ℕ → ℕ → Num → Element
 oneElem kp krp Cut = Refused Short
-oneElem kp krp (Got g at) = pick (ltb most g) (Refused Range) (One 0 g (st at (kpOne kp g) (krAfter krp g)))
+oneElem kp krp (Got g at) = ltb most g ⇒ Refused Range ∣ One 0 g (st at (kpOne kp g) (krAfter krp g))
 
 -- a pair out of range: "a first half above g is range", or either half too large
 abbrev pub wide : ℕ → ℕ → Bool
-wide g a = pick (ltb g a) true (pick (ltb most a) true (ltb most (g - a)))
+wide g a = ltb g a ⇒ true ∣ ltb most a ⇒ true ∣ ltb most (g - a)
 
 -- 10 "a second value not zero with no place"
 abbrev pub lone : ℕ → ℕ → Bool
-lone left b = pick (ltb left 2) (ltb 0 b) false
+lone left b = ltb left 2 ⇒ ltb 0 b ∣ false
 
 abbrev pub judgeTwo : ℕ → ℕ → ℕ → ℕ → ℕ → ℕ → Element
 judgeTwo kp krp left g a at =
-    pick (wide g a) (Refused Range)
-    (pick (lone left (g - a)) (Refused Overrun) (Two a (g - a) (st at (kpTwo kp a (g - a)) (krAfter krp g))))
+    wide g a ⇒ Refused Range ∣
+    lone left (g - a) ⇒ Refused Overrun ∣
+    Two a (g - a) (st at (kpTwo kp a (g - a)) (krAfter krp g))
 
 abbrev pub twoSecond : ℕ → ℕ → ℕ → ℕ → Num → Element
 twoSecond kp krp left g Cut = Refused Short
@@ -83,11 +86,10 @@ twoElem kp krp left B (Got g at) = twoSecond kp krp left g (numOf (size g) 0 at 
 
 -- the element at the place `at` of B, with `left` places left in the list
 unfoldable pub elemOf : Bool → ℕ → ℕ → ℕ → ℕ → List Bool → Element
-unfolding kpOne kpTwo krAfter size
+unfolding kpOne kpTwo krAfter size _⇒_∣_
 elemOf two kp krp left at B =
-    pick (ltb kp 8)
-    (pick two (twoElem kp krp left B (grOf (krp / 8) at B)) (oneElem kp krp (grOf (krp / 8) at B)))
-    (runElem kp krp left B (numOf 1 0 at (drop at B)))
+    ltb kp 8 ⇒ (two ⇒ twoElem kp krp left B (grOf (krp / 8) at B) ∣ oneElem kp krp (grOf (krp / 8) at B)) ∣
+    runElem kp krp left B (numOf 1 0 at (drop at B))
 
 -- ---- a whole list
 

@@ -3,6 +3,7 @@ pub mod Code
 pub mod Filling
 pub mod Fold
 pub mod List
+pub mod Numbers
 pub mod OneCode
 pub mod Place
 pub mod Read

@@ -9,7 +9,7 @@ ghost use lib.IntN.{pos};
 ghost use Rattle.bits.specs.Bits.{bitsOf};
 ghost use Rattle.code.specs.ReadList.{readList};
 ghost use Rattle.code.specs.Fill.{Fills, Fine, placedOf, storedOf};
-ghost use Rattle.code.specs.Read.{clean, isMode, shellFault, readFault, readingNumber, readingBits, decoded, CodeRead, ComponentRead};
+ghost use Rattle.code.specs.Read.{clean, shellFault, readFault, readingNumber, readingBits, decoded, CodeRead, ComponentRead};
 use crate::element::Element;
 use crate::element::Refusal;
 use crate::element::State;
@@ -127,21 +127,11 @@ fn clean_tail(s: &[u8], at: usize) -> bool
     }
 }
 
-// Whether a mode is one of the two: 1 is RLGR1, 4 is RLGR3.
-fn is_mode(mode: u8) -> bool
-    ensures { λ r. ⌜ r ≡ isMode mode ⌝ }
-{
-    if mode == 1 {
-        return true;
-    }
-    mode == 4
-}
-
 // What is judged before the code: mode (5), list (2), size (6).
 fn shell_judge(mode: u8, n: usize, len: usize) -> u8
     ensures { λ r. ⌜ r ≡ shellFault mode n len ⌝ }
 {
-    if !is_mode(mode) {
+    if !wire::is_mode(mode as usize) {
         return 5;
     }
     if n != 4096 {

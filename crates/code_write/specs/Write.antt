@@ -1,5 +1,5 @@
 -- The component writer: what it answers and what it leaves, for every input. 01, "Numbers the fitter sees" and "Component writer: 2, 9, 6, 13."
-use Prim.Native.Nat.{ℕ, zero, suc}
+use Prim.Native.Nat.{ℕ}
 use mathlib.Core.Path.{_≡_}
 use mathlib.Core.Bool.{Bool, true, false}
 use mathlib.Core.List.{List, [], _∷_}
@@ -7,24 +7,12 @@ use lib.Dec.{leb, eqb}
 use lib.IntN.{ℤ, natAbs}
 use lib.ListN.{length}
 use Rattle.whole.specs.Row.{_!_⨾_, _⨟_}
-use Rattle.wire.specs.Le.{written}
-use Rattle.code.specs.Read.{isMode}
+use Rattle.wire.specs.Mode.{isMode}
+use Rattle.wire.specs.Wrote.{Wrote}
+use Rattle.wire.specs.declared.Writing.{Writing}
 use Rattle.code.specs.OneCode.{code}
 use Rattle.code_write.specs.Pack.{packed}
-use Rattle.code_write.specs.declared.call.Writing.{Writing}
-use Rattle.code_write.specs.declared.call.Writing.the-variants.{Done, Refused}
 use Rattle.code_write.specs.declared.call.Sized.{Sized}
-
--- ---- the answer: 01's number, and its value
-
-unfoldable pub writingNumber : Writing → ℕ
-writingNumber (Done length) = 0
-writingNumber (Refused number) = number
-
--- "when done they say the length in bytes, refused 0"
-unfoldable pub writingLength : Writing → ℕ
-writingLength (Done length) = length
-writingLength (Refused number) = 0
 
 -- ---- the bytes
 
@@ -60,25 +48,9 @@ writeFault mode zs room =
     (componentFault mode zs ⨟
     (leb (length (bytesOf mode zs)) room ! 13 ⨾ 0))
 
--- ---- by the fault's number: what is said, and what is left
-
-unfoldable pub lengthSaid : ℕ → List ℕ → ℕ
-lengthSaid zero bytes = length bytes
-lengthSaid (suc f) bytes = 0
-
--- "Writers leave their output untouched on every refusal", "and bytes past it are untouched"
-unfoldable pub outLeft : ℕ → List ℕ → List ℕ → List ℕ
-outLeft zero bytes out = written bytes out
-outLeft (suc f) bytes out = out
-
 -- ---- what the functions promise
 
--- the writer: the fault's number, and the bytes that are to be written
-pub record Wrote (fault : ℕ) (bytes out out′ : List ℕ) (r : Writing) : Type 0 where
-  pub number : writingNumber r ≡ fault
-  pub said : writingLength r ≡ lengthSaid fault bytes
-  pub left : out′ ≡ outLeft fault bytes out
-
+-- the writer: its output as it was and as it is, and its answer
 abbrev pub ComponentWritten : ℕ → List ℤ → List ℕ → List ℕ → Writing → Type 0
 ComponentWritten mode zs out out′ r = Wrote (writeFault mode zs (length out)) (bytesOf mode zs) out out′ r
 

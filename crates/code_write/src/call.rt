@@ -7,40 +7,14 @@ ghost use lib.Dec.{leb};
 ghost use lib.IntN.{natAbs};
 ghost use lib.ListN.{length};
 ghost use Rattle.wire.specs.Le.{patch};
-ghost use Rattle.code.specs.Read.{isMode};
-ghost use Rattle.code_write.specs.Write.{writingNumber, writingLength, bytesOf, inRange, callFault, componentFault, Measures, ComponentWritten};
+ghost use Rattle.code_write.specs.Write.{bytesOf, inRange, callFault, componentFault, Measures, ComponentWritten};
 use bits::Pen;
-
-// What writing a component came to: its length in bytes, or 01's number.
-pub enum Writing {
-    Done(usize),
-    Refused(u8),
-}
+use wire::Writing;
 
 // What measuring a component found: 01's number, and where that is 0 the size in bytes.
 pub struct Sized {
     pub number: u8,
     pub size: usize,
-}
-
-// 01's number.
-pub fn writing_number(w: Writing) -> u8
-    ensures { λ n. ⌜ n ≡ writingNumber w ⌝ }
-{
-    match w {
-        Writing::Done(length) => 0,
-        Writing::Refused(number) => number,
-    }
-}
-
-// "when done they say the length in bytes, refused 0"
-pub fn writing_length(w: Writing) -> usize
-    ensures { λ n. ⌜ n ≡ writingLength w ⌝ }
-{
-    match w {
-        Writing::Done(length) => length,
-        Writing::Refused(number) => 0,
-    }
 }
 
 // Whether a number is from -32,767 to 32,767.
@@ -109,21 +83,11 @@ pub fn put_component(mode: u8, list: &[i32], out: &mut [u8], at: usize) -> usize
     end
 }
 
-// Whether a mode is one of the two: 1 is RLGR1, 4 is RLGR3.
-fn is_mode(mode: u8) -> bool
-    ensures { λ r. ⌜ r ≡ isMode mode ⌝ }
-{
-    if mode == 1 {
-        return true;
-    }
-    mode == 4
-}
-
 // What is judged first: mode (5), list (2).
 fn call_judge(mode: u8, n: usize) -> u8
     ensures { λ r. ⌜ r ≡ callFault mode n ⌝ }
 {
-    if !is_mode(mode) {
+    if !wire::is_mode(mode as usize) {
         return 5;
     }
     if n != 4096 {

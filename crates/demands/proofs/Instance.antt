@@ -1,6 +1,6 @@
 -- What demand 2 asks of our own calls (`OurCalls`) is met: one grey pixel, ten quantisers of 6, in both modes.
 -- Assumes nothing.
-use Prim.Native.Nat.{ℕ, zero, suc}
+use Prim.Native.Nat.{ℕ}
 use mathlib.Core.Path.{_≡_, refl, sym}
 use mathlib.Core.Bool.{true}
 use mathlib.Core.List.{List, [], _∷_}
@@ -8,37 +8,26 @@ use native.Mathlib.Omega.{arith}
 use lib.IntN.{ℤ, pos}
 use lib.ListN.{length, take, drop, replicate}
 use borrow.Author.Tests.{le-leb}
-use Rattle.wire.specs.Le.{written}
-use Rattle.whole.specs.Row.{_!_⨾_, _⇒_∣_}
+use Rattle.whole.specs.Row.{_!_⨾_}
 use Rattle.whole.specs.laws.Row.{passes, goes-on}
 use Rattle.bands.specs.Bands.{goodTo}
 use Rattle.session.specs.declared.Session.{Session}
-use Rattle.session.specs.Header.{sizeGood, modeGood}
+use Rattle.session.specs.Header.{at, sizeGood, headerReading}
+use Rattle.wire.specs.Le.{written}
+use Rattle.wire.specs.Mode.{isMode}
+use Rattle.wire.specs.laws.Mode.{is-1, is-4}
+use Rattle.wire.specs.Wrote.{writingNumber}
+use Rattle.wire.specs.laws.Wrote.{done}
+use Rattle.wire.specs.declared.Writing.the-variants.{Done}
 use Rattle.headers.specs.Headers.{headersOf, headersFault}
-use Rattle.code_write.specs.declared.call.Writing.the-variants.{Done}
-use Rattle.code_write.specs.Write.{writingNumber, writingLength, lengthSaid, outLeft, Wrote}
-use Rattle.frame.specs.Frame.{callFault, frameNumber, framePicture, frameList}
+use Rattle.frame.specs.Frame.{callFault, frameNumber, framePicture, frameList, frameReading}
 use Rattle.frame_write.specs.Encode.{frameP}
-use Rattle.frame_write.specs.FrameWrite.{pixelsGood, argFault, sendFault, workLeft}
+use Rattle.frame_write.specs.FrameWrite.{pixelsGood, argFault, sendFault}
+use Rattle.frame_write.specs.laws.FrameWrite.{cleared}
 use Rattle.frame_readback.specs.laws.OurTiles.{Sendable}
 use Rattle.frame_readback.specs.laws.Grey.{grey, sixes, sendable-1, sendable-4}
-use Rattle.panel.specs.Panel.{headerReading, frameReading}
-use Rattle.demands.specs.Calls.{ReadHeader, recordAfter, ReadFrame, WriteHeaders, WriteFrame, sentBy}
+use Rattle.demands.specs.Calls.{ReadHeader, sessionAfter, ReadFrame, WriteHeaders, WriteFrame, sentBy}
 use Rattle.demands.specs.Demands.{OurCalls}
-
--- a writer that is done
-wrote-0 : (f : ℕ) (bytes out : List ℕ) → 0 ≡ f → Wrote f bytes out (written bytes out) (Done (length bytes))
-unfolding writingNumber writingLength lengthSaid outLeft
-wrote-0 zero bytes out e = record { number = refl; said = refl; left = refl }
-wrote-0 (suc f) bytes out e = absurd (omega arith)
-
-work-0 : (f : ℕ) (xs : List ℤ) → 0 ≡ f → replicate 4096 (pos 0) ≡ workLeft f xs
-unfolding workLeft
-work-0 zero xs e = refl
-work-0 (suc f) xs e = absurd (omega arith)
-
-abbrev fresh : Session
-fresh = record { headers = 0; width = 0; height = 0; mode = 0 }
 
 abbrev zeros : List ℤ
 zeros = replicate 4096 (pos 0)
@@ -68,7 +57,7 @@ drawn s m =
       promise = record { answer = refl; picture = refl; y-list = refl; cb-list = refl; cr-list = refl; tmp-list = refl };
     }
 
-module _ (mode : ℕ) (good : modeGood mode ≡ true) (sendable : Sendable grey 1 1 mode sixes) where
+module _ (mode : ℕ) (good : isMode mode ≡ true) (sendable : Sendable grey 1 1 mode sixes) where
   headers-0 : 0 ≡ headersFault 1 1 mode 47
   unfolding headersFault sizeGood _!_⨾_
   headers-0 = rw good
@@ -85,7 +74,7 @@ module _ (mode : ℕ) (good : modeGood mode ≡ true) (sendable : Sendable grey 
   sending-0 = goes-on _ _ _ (sym (sendable .none)) (passes _ _ _ _ (le-leb (length bytes) (length bytes) (omega arith)) refl)
 
   abbrev wrote-headers : WriteHeaders
-  wrote-headers = record { width = 1; height = 1; mode = mode; out = replicate 47 0; out′ = written (headersOf 1 1 mode) (replicate 47 0); answer = Done (length (headersOf 1 1 mode)); promise = wrote-0 _ _ _ headers-0 }
+  wrote-headers = record { width = 1; height = 1; mode = mode; out = replicate 47 0; out′ = written (headersOf 1 1 mode) (replicate 47 0); answer = Done (length (headersOf 1 1 mode)); promise = done _ _ _ _ _ headers-0 refl refl }
 
   abbrev wrote-frame : WriteFrame
   wrote-frame = record {
@@ -102,25 +91,25 @@ module _ (mode : ℕ) (good : modeGood mode ≡ true) (sendable : Sendable grey 
     scratch′ = zeros;
     out′ = written bytes bytes;
     answer = Done (length bytes);
-    promise = record { wrote = wrote-0 _ _ _ (goes-on _ _ _ (sym arguments-0) sending-0); first = work-0 _ _ arguments-0; second = work-0 _ _ arguments-0 };
+    promise = record { wrote = done _ _ _ _ _ (goes-on _ _ _ (sym arguments-0) sending-0) refl refl; first = cleared _ _ _ arguments-0 refl; second = cleared _ _ _ arguments-0 refl };
   }
 
   abbrev sent : List ℕ
   sent = sentBy (wrote-headers .answer) (wrote-headers .out′)
 
   abbrev one : ReadHeader
-  one = asked fresh (take 12 sent)
+  one = asked (at 0 0 0 0) (take 12 sent)
 
   abbrev two : ReadHeader
-  two = asked (recordAfter one) (take 10 (drop 12 sent))
+  two = asked (sessionAfter one) (take 10 (drop 12 sent))
 
   abbrev three : ReadHeader
-  three = asked (recordAfter two) (take 12 (drop 22 sent))
+  three = asked (sessionAfter two) (take 12 (drop 22 sent))
 
   abbrev four : ReadHeader
-  four = asked (recordAfter three) (take 13 (drop 34 sent))
+  four = asked (sessionAfter three) (take 13 (drop 34 sent))
 
-  met : OurCalls wrote-headers one two three four wrote-frame (drawn (recordAfter four) (sentBy (wrote-frame .answer) (wrote-frame .out′)))
+  met : OurCalls wrote-headers one two three four wrote-frame (drawn (sessionAfter four) (sentBy (wrote-frame .answer) (wrote-frame .out′)))
   unfolding writingNumber
   met = record {
     headers-done = refl;
@@ -145,14 +134,6 @@ module _ (mode : ℕ) (good : modeGood mode ≡ true) (sendable : Sendable grey 
     room = omega arith;
   }
 
-mode-1 : modeGood 1 ≡ true
-unfolding modeGood _⇒_∣_
-mode-1 = refl
-
-mode-4 : modeGood 4 ≡ true
-unfolding modeGood _⇒_∣_
-mode-4 = refl
-
 -- calls that meet it, for a mode
 pub record Met (mode : ℕ) : Type 0 where
   pub headers : WriteHeaders
@@ -165,11 +146,11 @@ pub record Met (mode : ℕ) : Type 0 where
   pub calls : OurCalls headers one two three four frame glass
   pub in-mode : frame .mode ≡ mode
 
-met-in : (mode : ℕ) → modeGood mode ≡ true → Sendable grey 1 1 mode sixes → Met mode
+met-in : (mode : ℕ) → isMode mode ≡ true → Sendable grey 1 1 mode sixes → Met mode
 met-in mode g s = record { headers = wrote-headers mode g s; one = one mode g s; two = two mode g s; three = three mode g s; four = four mode g s; frame = wrote-frame mode g s; glass = drawn _ _; calls = met mode g s; in-mode = refl }
 
 pub met-1 : Met 1
-met-1 = met-in 1 mode-1 sendable-1
+met-1 = met-in 1 is-1 sendable-1
 
 pub met-4 : Met 4
-met-4 = met-in 4 mode-4 sendable-4
+met-4 = met-in 4 is-4 sendable-4

@@ -5,15 +5,18 @@ use mathlib.Core.Path.{_≡_}
 use mathlib.Core.List.{List}
 use lib.IntN.{ℤ}
 use lib.ListN.{take}
+use Rattle.wire.specs.declared.Writing.{Writing}
+use Rattle.wire.specs.Wrote.{writingLength}
 use Rattle.session.specs.declared.Session.{Session}
+use Rattle.session.specs.declared.HeaderReading.{HeaderReading}
+use Rattle.session.specs.Header.{headerRecord, headerReading}
+use Rattle.headers.specs.Headers.{HeadersWritten}
 use Rattle.code.specs.declared.read.Reading.{Reading}
 use Rattle.code.specs.Read.{ComponentRead}
-use Rattle.code_write.specs.declared.call.Writing.{Writing}
-use Rattle.code_write.specs.Write.{writingLength, ComponentWritten}
+use Rattle.code_write.specs.Write.{ComponentWritten}
+use Rattle.frame.specs.declared.call.FrameReading.{FrameReading}
+use Rattle.frame.specs.Frame.{FrameRead}
 use Rattle.frame_write.specs.FrameWrite.{FrameWritten}
-use Rattle.panel.specs.declared.HeaderReading.{HeaderReading}
-use Rattle.panel.specs.declared.FrameReading.{FrameReading}
-use Rattle.panel.specs.Panel.{headerRecord, headerReading, HeadersWritten, FrameRead}
 
 -- read_header
 pub record ReadHeader : Type 0 where
@@ -23,8 +26,8 @@ pub record ReadHeader : Type 0 where
   pub promise : answer ≡ headerReading session message
 
 -- the record after it
-abbrev pub recordAfter : ReadHeader → Session
-recordAfter c = headerRecord (c .answer) (c .session)
+abbrev pub sessionAfter : ReadHeader → Session
+sessionAfter c = headerRecord (c .answer) (c .session)
 
 -- read_frame
 pub record ReadFrame : Type 0 where

@@ -1,15 +1,18 @@
 -- THE DEMANDS, on one page: over the calls (specs/Calls), and so over the very definitions that their promises cite. Each field is a
 -- sentence of the demands or of document 01; proofs/Demands proves `demands : Demands`. That no bytes can trap a call needs no sentence
 -- here: every function is proved, and none of the six has a `requires`.
-use Prim.Native.Nat.{ℕ, _+_, _*_, _/_, _%_, _≤_, _<_}
+use Prim.Native.Nat.{ℕ, _+_, _*_, _%_, _≤_, _<_}
 use mathlib.Core.Path.{_≡_}
 use mathlib.Core.Bool.{Bool}
-use mathlib.Core.List.{List, _++_}
-use mathlib.Core.Logic.{_⊎_, _≢_}
+use mathlib.Core.List.{List, [], _∷_, _++_}
+use mathlib.Core.Logic.{_≢_}
 use lib.IntN.{ℤ, pos}
 use lib.ListN.{length, getD, take, drop, replicate}
-use Rattle.wire.specs.Le.{written}
 use Rattle.whole.specs.Row.{_⇒_∣_, _⨟_}
+use Rattle.whole.specs.Among.{Among, Other}
+use Rattle.wire.specs.Le.{written}
+use Rattle.wire.specs.declared.Writing.{Writing}
+use Rattle.wire.specs.Wrote.{writingNumber, writingLength}
 use Rattle.bits.specs.Bits.{bitsOf}
 use Rattle.frame_layout.specs.Reader.{frameFault, frameTiles, setPlace, tileCount, rectCount, quantAt}
 use Rattle.frame_blocks.specs.Blocks.{rectsOf}
@@ -18,16 +21,16 @@ use Rattle.frame_draw.specs.Draw.{inRegion}
 use Rattle.frame_draw.specs.Shown.{lastTile, wordIn}
 use Rattle.frame_draw.specs.Show.{tileWord}
 use Rattle.frame_blocks.specs.Judged.{judged}
-use Rattle.session.specs.Header.{headerFault}
+use Rattle.session.specs.declared.Session.{Session}
+use Rattle.session.specs.Header.{headerFault, recordAfter, headerNumber}
 use Rattle.session.specs.Cases as HeaderOnes
-use Rattle.frame.specs.Frame.{callFault, framed, Cleared}
+use Rattle.frame.specs.Frame.{early, framed, Cleared, frameReadingNumber, frameReadingTiles}
 use Rattle.headers.specs.Headers.{headersOf, headersFault}
 use Rattle.code.specs.declared.read.Reading.the-variants.{Done as Read}
-use Rattle.code.specs.Read.{readingNumber, readingBits}
+use Rattle.code.specs.Read.{readingNumber, readingBits, readFault}
 use Rattle.code.specs.OneCode.{code, Listed, Call, Exactly}
 use Rattle.code.specs.Cases as CodeOnes
-use Rattle.code_write.specs.declared.call.Writing.{Writing}
-use Rattle.code_write.specs.Write.{writingNumber, writingLength, bytesOf, writeFault}
+use Rattle.code_write.specs.Write.{bytesOf, writeFault}
 use Rattle.code_write.specs.Cases.{WriteCases}
 use Rattle.tile_back.specs.Cases as TileOnes
 use Rattle.frame_pieces.specs.Parts.{tilesNo}
@@ -35,8 +38,8 @@ use Rattle.frame_pieces.specs.Cases as SendOnes
 use Rattle.frame_write.specs.Encode.{frameP}
 use Rattle.frame_write.specs.FrameWrite.{argFault, sendFault}
 use Rattle.frame_readback.specs.Own.{wordBack, tileNo}
-use Rattle.panel.specs.Panel.{headerNumber, frameReadingNumber, frameReadingTiles}
-use Rattle.demands.specs.Calls.{ReadHeader, recordAfter, ReadFrame, ReadComponent, WriteComponent, WriteHeaders, WriteFrame, sentBy}
+use Rattle.panel.specs.Edge.{ReadHeaderCall, ReadFrameCall, ReadComponentCall, WriteComponentCall, WriteHeadersCall, WriteFrameCall}
+use Rattle.demands.specs.Calls.{ReadHeader, sessionAfter, ReadFrame, ReadComponent, WriteComponent, WriteHeaders, WriteFrame, sentBy}
 
 -- ---- 1. "A frame is drawn whole, or refused by the first fault in document 01's order, with its number. After a refusal the picture and
 -- the session record are exactly what they were, and work memory holds what 01 says."
@@ -44,7 +47,7 @@ use Rattle.demands.specs.Calls.{ReadHeader, recordAfter, ReadFrame, Read
 -- 01's order: "12, then 2, then the blocks in wire order"
 abbrev pub firstFault : ReadFrame → ℕ
 firstFault c =
-    callFault (c .session) (length (c .picture)) (length (c .y)) (length (c .cb)) (length (c .cr)) (length (c .scratch))
+    early (c .session) (c .picture) (c .y) (c .cb) (c .cr) (c .scratch)
     ⨟ frameFault judged (c .session .width) (c .session .height) (c .session .mode) (c .message)
 
 -- the four work lists are those that came in
@@ -60,15 +63,19 @@ pub record Demand1 : Type 0 where
   pub frame-number : (c : ReadFrame) → frameReadingNumber (c .answer) ≡ firstFault c
   -- drawn whole
   pub frame-whole : (c : ReadFrame) → frameReadingNumber (c .answer) ≡ 0 → c .picture′ ≡ framed (c .session .mode) (c .session .width) (c .session .height) (c .message) (c .picture)
-  -- "A refused header or frame changes neither record nor picture." (Over `&mut Session` the frame call leaves the record equal on every answer: specs/Edge.)
-  pub header-refused : (c : ReadHeader) → headerNumber (c .answer) ≢ 0 → recordAfter c ≡ c .session
+  -- what a taken header leaves
+  pub header-taken : (c : ReadHeader) → headerNumber (c .answer) ≡ 0 → sessionAfter c ≡ recordAfter (c .session) (c .message)
+  -- "A refused header or frame changes neither record nor picture."
+  pub header-refused : (c : ReadHeader) → headerNumber (c .answer) ≢ 0 → sessionAfter c ≡ c .session
   pub frame-refused : (c : ReadFrame) → frameReadingNumber (c .answer) ≢ 0 → c .picture′ ≡ c .picture
+  -- "a frame call leaves it equal": s′ is the record behind the reference after the call for C, on every answer
+  pub frame-keeps : (s s′ : Session) (m pic : List ℕ) (y cb cr tmp : List ℤ) (pic′ : List ℕ) (y′ cb′ cr′ tmp′ : List ℤ) (tiles n : ℕ) → ReadFrameCall s s′ m pic y cb cr tmp pic′ y′ cb′ cr′ tmp′ tiles n → s′ ≡ s
   -- "Work lists of a frame call are untouched on 12 and 2; after every other frame answer they hold only zeros."
-  pub lists-untouched : (c : ReadFrame) → (frameReadingNumber (c .answer) ≡ 12) ⊎ (frameReadingNumber (c .answer) ≡ 2) → Untouched c
-  pub lists-zeros : (c : ReadFrame) → frameReadingNumber (c .answer) ≢ 12 → frameReadingNumber (c .answer) ≢ 2 → Cleared (c .y′) (c .cb′) (c .cr′) (c .scratch′)
+  pub lists-untouched : (c : ReadFrame) → Among (12 ∷ 2 ∷ []) (frameReadingNumber (c .answer)) → Untouched c
+  pub lists-zeros : (c : ReadFrame) → Other (12 ∷ 2 ∷ []) (frameReadingNumber (c .answer)) → Cleared (c .y′) (c .cb′) (c .cr′) (c .scratch′)
   -- "The component reader leaves its output list untouched on 5, 2 and 6 and fills it with zeros on 1, 9, 10, 11."
-  pub list-untouched : (c : ReadComponent) → (readingNumber (c .answer) ≡ 5) ⊎ ((readingNumber (c .answer) ≡ 2) ⊎ (readingNumber (c .answer) ≡ 6)) → c .list′ ≡ c .list
-  pub list-zeros : (c : ReadComponent) → (readingNumber (c .answer) ≡ 1) ⊎ ((readingNumber (c .answer) ≡ 9) ⊎ ((readingNumber (c .answer) ≡ 10) ⊎ (readingNumber (c .answer) ≡ 11))) → c .list′ ≡ replicate 4096 (pos 0)
+  pub list-untouched : (c : ReadComponent) → Among (5 ∷ 2 ∷ 6 ∷ []) (readingNumber (c .answer)) → c .list′ ≡ c .list
+  pub list-zeros : (c : ReadComponent) → Among (1 ∷ 9 ∷ 10 ∷ 11 ∷ []) (readingNumber (c .answer)) → c .list′ ≡ replicate 4096 (pos 0)
 
 -- ---- writers: "Writers leave their output untouched on every refusal; when done they say the length in bytes, refused 0, and bytes past it are
 -- untouched."
@@ -96,16 +103,16 @@ pub record OurCalls (h : WriteHeaders) (one two three four : ReadHeader) (s : Wr
   pub versions : two .message ≡ take 10 (drop 12 (sentBy (h .answer) (h .out′)))
   pub channels : three .message ≡ take 12 (drop 22 (sentBy (h .answer) (h .out′)))
   pub context : four .message ≡ take 13 (drop 34 (sentBy (h .answer) (h .out′)))
-  pub then-two : two .session ≡ recordAfter one
-  pub then-three : three .session ≡ recordAfter two
-  pub then-four : four .session ≡ recordAfter three
+  pub then-two : two .session ≡ sessionAfter one
+  pub then-three : three .session ≡ sessionAfter two
+  pub then-four : four .session ≡ sessionAfter three
   pub same-width : s .width ≡ h .width
   pub same-height : s .height ≡ h .height
   pub same-mode : s .mode ≡ h .mode
   pub ten : length (s .quant) ≡ 10
   pub frame-done : writingNumber (s .answer) ≡ 0
   pub frame : f .message ≡ sentBy (s .answer) (s .out′)
-  pub then-frame : f .session ≡ recordAfter four
+  pub then-frame : f .session ≡ sessionAfter four
   pub y-long : length (f .y) ≡ 4096
   pub cb-long : length (f .cb) ≡ 4096
   pub cr-long : length (f .cr) ≡ 4096
@@ -141,13 +148,15 @@ pub record Demand2 : Type 0 where
   pub frame-sent : (c : WriteFrame) → Sent (frameP (c .index) (c .width) (c .height) (c .mode) (c .quant) (c .pixels)) (c .out) (c .out′) (c .answer)
   pub headers-sent : (c : WriteHeaders) → Sent (headersOf (c .width) (c .height) (c .mode)) (c .out) (c .out′) (c .answer)
   -- "The frame writer's work lists are untouched on 5, 7 and 2 and hold only zeros after every other answer."
-  pub work-untouched : (c : WriteFrame) → (writingNumber (c .answer) ≡ 5) ⊎ ((writingNumber (c .answer) ≡ 7) ⊎ (writingNumber (c .answer) ≡ 2)) → (c .list′ ≡ c .list) × (c .scratch′ ≡ c .scratch)
-  pub work-zeros : (c : WriteFrame) → writingNumber (c .answer) ≢ 5 → writingNumber (c .answer) ≢ 7 → writingNumber (c .answer) ≢ 2 → (c .list′ ≡ replicate 4096 (pos 0)) × (c .scratch′ ≡ replicate 4096 (pos 0))
+  pub work-untouched : (c : WriteFrame) → Among (5 ∷ 7 ∷ 2 ∷ []) (writingNumber (c .answer)) → (c .list′ ≡ c .list) × (c .scratch′ ≡ c .scratch)
+  pub work-zeros : (c : WriteFrame) → Other (5 ∷ 7 ∷ 2 ∷ []) (writingNumber (c .answer)) → (c .list′ ≡ replicate 4096 (pos 0)) × (c .scratch′ ≡ replicate 4096 (pos 0))
 
 -- ---- 3. "In each of the two code modes a byte string of at most 65,535 bytes, read into 4,096 places, is accepted as a component exactly if it
 -- is the code of some list of 4,096 whole numbers from -32,767 to 32,767, filled up with zero bits to a byte; that list is handed back. Before
 -- filling up, no list's code is the start of another's, and the reader reports the code's length in bits, whatever bits follow."
 pub record Demand3 : Type 0 where
+  -- the number is the first fault's: "Component calls first refuse a mode that is neither of the two (5). Component reader: 2, 6, then the code"
+  pub component-number : (c : ReadComponent) → readingNumber (c .answer) ≡ readFault (c .mode) (length (c .list)) (c .bytes)
   pub accepted-if : (c : ReadComponent) (zs : List ℤ) → Exactly (c .mode) (c .bytes) (c .list) zs → (c .answer ≡ Read (length (code (c .mode) zs))) × (c .list′ ≡ zs)
   pub accepted-only-if : (c : ReadComponent) → readingNumber (c .answer) ≡ 0 → Exactly (c .mode) (c .bytes) (c .list) (c .list′)
   pub one-code : (mode : ℕ) (xs ys : List ℤ) (rest : List Bool) → Listed xs → Listed ys → code mode xs ++ rest ≡ code mode ys → xs ≡ ys
@@ -156,6 +165,39 @@ pub record Demand3 : Type 0 where
   pub writer-number : (c : WriteComponent) → writingNumber (c .answer) ≡ writeFault (c .mode) (c .list) (length (c .out))
   pub writer-sent : (c : WriteComponent) → Sent (bytesOf (c .mode) (c .list)) (c .out) (c .out′) (c .answer)
   pub read-back : (w : WriteComponent) (c : ReadComponent) → writingNumber (w .answer) ≡ 0 → c .mode ≡ w .mode → c .bytes ≡ sentBy (w .answer) (w .out′) → length (c .list) ≡ 4096 → (c .answer ≡ Read (length (code (w .mode) (w .list)))) × (c .list′ ≡ w .list)
+
+-- ---- "For any input whatever, a public function's promise leaves one possible answer and one possible content of lent memory, refusals too. Show that
+-- two answers meeting it are equal": of two calls that were given the same
+pub record OneAnswer : Type 0 where
+  pub read-header : (c d : ReadHeader) → c .session ≡ d .session → c .message ≡ d .message → c .answer ≡ d .answer
+  pub read-frame : (c d : ReadFrame) → c .session ≡ d .session → c .message ≡ d .message → c .picture ≡ d .picture → c .y ≡ d .y → c .cb ≡ d .cb → c .cr ≡ d .cr → c .scratch ≡ d .scratch →
+      (c .answer ≡ d .answer) × (c .picture′ ≡ d .picture′) × (c .y′ ≡ d .y′) × (c .cb′ ≡ d .cb′) × (c .cr′ ≡ d .cr′) × (c .scratch′ ≡ d .scratch′)
+  pub read-component : (c d : ReadComponent) → c .mode ≡ d .mode → c .bytes ≡ d .bytes → c .list ≡ d .list → (c .answer ≡ d .answer) × (c .list′ ≡ d .list′)
+  pub write-component : (c d : WriteComponent) → c .mode ≡ d .mode → c .list ≡ d .list → c .out ≡ d .out → (c .answer ≡ d .answer) × (c .out′ ≡ d .out′)
+  pub write-headers : (c d : WriteHeaders) → c .width ≡ d .width → c .height ≡ d .height → c .mode ≡ d .mode → c .out ≡ d .out → (c .answer ≡ d .answer) × (c .out′ ≡ d .out′)
+  pub write-frame : (c d : WriteFrame) → c .width ≡ d .width → c .height ≡ d .height → c .mode ≡ d .mode → c .quant ≡ d .quant → c .index ≡ d .index → c .pixels ≡ d .pixels → c .list ≡ d .list → c .scratch ≡ d .scratch → c .out ≡ d .out →
+      (c .answer ≡ d .answer) × (c .list′ ≡ d .list′) × (c .scratch′ ≡ d .scratch′) × (c .out′ ≡ d .out′)
+
+-- the same of the calls for C: the record behind the reference, the number, the value and the lists; what one call and another left is marked 1 and 2
+pub record OneAnswerC : Type 0 where
+  pub read-header : (s s₁ s₂ : Session) (m : List ℕ) (n₁ n₂ : ℕ) → ReadHeaderCall s s₁ m n₁ → ReadHeaderCall s s₂ m n₂ → (n₁ ≡ n₂) × (s₁ ≡ s₂)
+  pub read-frame : (s s₁ s₂ : Session) (m pic : List ℕ) (y cb cr tmp : List ℤ) (p₁ p₂ : List ℕ) (y₁ y₂ b₁ b₂ r₁ r₂ t₁ t₂ : List ℤ) (k₁ k₂ n₁ n₂ : ℕ) →
+      ReadFrameCall s s₁ m pic y cb cr tmp p₁ y₁ b₁ r₁ t₁ k₁ n₁ → ReadFrameCall s s₂ m pic y cb cr tmp p₂ y₂ b₂ r₂ t₂ k₂ n₂ →
+      (n₁ ≡ n₂) × (k₁ ≡ k₂) × (s₁ ≡ s₂) × (p₁ ≡ p₂) × (y₁ ≡ y₂) × (b₁ ≡ b₂) × (r₁ ≡ r₂) × (t₁ ≡ t₂)
+  pub read-component : (mode : ℕ) (s : List ℕ) (list l₁ l₂ : List ℤ) (k₁ k₂ n₁ n₂ : ℕ) → ReadComponentCall mode s list l₁ k₁ n₁ → ReadComponentCall mode s list l₂ k₂ n₂ → (n₁ ≡ n₂) × (k₁ ≡ k₂) × (l₁ ≡ l₂)
+  pub write-component : (mode : ℕ) (zs : List ℤ) (out o₁ o₂ : List ℕ) (k₁ k₂ n₁ n₂ : ℕ) → WriteComponentCall mode zs out o₁ k₁ n₁ → WriteComponentCall mode zs out o₂ k₂ n₂ → (n₁ ≡ n₂) × (k₁ ≡ k₂) × (o₁ ≡ o₂)
+  pub write-headers : (w h mode : ℕ) (out o₁ o₂ : List ℕ) (k₁ k₂ n₁ n₂ : ℕ) → WriteHeadersCall w h mode out o₁ k₁ n₁ → WriteHeadersCall w h mode out o₂ k₂ n₂ → (n₁ ≡ n₂) × (k₁ ≡ k₂) × (o₁ ≡ o₂)
+  pub write-frame : (w h mode : ℕ) (q : List ℕ) (index : ℕ) (p : List ℕ) (list l₁ l₂ scratch t₁ t₂ : List ℤ) (out o₁ o₂ : List ℕ) (k₁ k₂ n₁ n₂ : ℕ) →
+      WriteFrameCall w h mode q index p list l₁ scratch t₁ out o₁ k₁ n₁ → WriteFrameCall w h mode q index p list l₂ scratch t₂ out o₂ k₂ n₂ → (n₁ ≡ n₂) × (k₁ ≡ k₂) × (l₁ ≡ l₂) × (t₁ ≡ t₂) × (o₁ ≡ o₂)
+
+-- ---- "Numbers the fitter sees": none above 13
+pub record SmallNumbers : Type 0 where
+  pub read-header : (c : ReadHeader) → headerNumber (c .answer) ≤ 13
+  pub read-frame : (c : ReadFrame) → frameReadingNumber (c .answer) ≤ 13
+  pub read-component : (c : ReadComponent) → readingNumber (c .answer) ≤ 13
+  pub write-component : (c : WriteComponent) → writingNumber (c .answer) ≤ 13
+  pub write-headers : (c : WriteHeaders) → writingNumber (c .answer) ≤ 13
+  pub write-frame : (c : WriteFrame) → writingNumber (c .answer) ≤ 13
 
 -- ---- "Those marked (p) are proved of the definitions, gathered under a single statement"
 pub record PaperCases : Type 0 where
@@ -166,12 +208,16 @@ pub record PaperCases : Type 0 where
   pub tile : TileOnes.Cases
   -- context properties 2828 and 2228, and the four headers in their order
   pub headers : HeaderOnes.Cases
-  -- tileset properties 5051 and 4451, read and written
+  -- tileset properties: 5051 is RLGR3 and not RLGR1, 4451 the other way, read and written
   pub tileset : PropsCases
+  -- bytes 66 66 77 88 98 as they are written
   pub writer : SendOnes.Cases
 
 pub record Demands : Type 0 where
   pub one : Demand1
   pub two : Demand2
   pub three : Demand3
+  pub once : OneAnswer
+  pub once-for-c : OneAnswerC
+  pub small : SmallNumbers
   pub cases : PaperCases

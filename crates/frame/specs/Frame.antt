@@ -7,7 +7,7 @@ use mathlib.Core.List.{List}
 use lib.IntN.{ℤ, pos}
 use lib.ListN.{length, replicate}
 use lib.Dec.{eqb, leb}
-use Rattle.whole.specs.Row.{_!_⨾_, _⨟_}
+use Rattle.whole.specs.Row.{_!_⨾_, _⇒_∣_, _⨟_}
 use Rattle.frame_layout.specs.Reader.{beginFault, regionFault, frameFault, frameTiles, setPlace, tileCount, rectCount, quantAt}
 use Rattle.frame_blocks.specs.Blocks.{rectsOf, setFront}
 use Rattle.frame_blocks.specs.Judged.{judged}
@@ -15,7 +15,8 @@ use Rattle.frame_draw.specs.Shown.{tilesDrawn}
 use Rattle.frame_draw.specs.Show.{tileWord}
 use Rattle.session.specs.Header.{ready}
 use Rattle.session.specs.declared.Session.{Session}
-use Rattle.frame.specs.declared.call.FrameAnswer.{FrameAnswer}
+use Rattle.frame.specs.declared.call.FrameReading.{FrameReading}
+use Rattle.frame.specs.declared.call.FrameReading.the-variants.{Done, Refused}
 
 -- "a lent work .. list is not 4,096 numbers"
 unfoldable pub full : ℕ → ℕ → ℕ → ℕ → Bool
@@ -29,6 +30,10 @@ callFault s p a b c t =
     leb (s .height * s .width) p ! 2 ⨾
     0
 
+-- the same of a picture and of lists
+abbrev pub early : Session → List ℕ → List ℤ → List ℤ → List ℤ → List ℤ → ℕ
+early s pic y cb cr tmp = callFault s (length pic) (length y) (length cb) (length cr) (length tmp)
+
 -- the message's first fault before the tiles
 unfoldable pub frontFault : ℕ → List ℕ → ℕ
 frontFault et m = beginFault m 0 ⨟ regionFault m 14 ⨟ setFront et m (setPlace m)
@@ -40,10 +45,6 @@ framed et w h m pic = tilesDrawn (rectsOf m 14) (rectCount m 14) (tileWord et (q
 -- "12, then 2, then the blocks in wire order"; f is the number before the message
 unfoldable pub frameNumber : ℕ → Session → List ℕ → ℕ
 frameNumber f s m = f ⨟ frameFault judged (s .width) (s .height) (s .mode) m
-
--- "A done frame reports numTiles, a refused one 0."
-unfoldable pub frameCount : ℕ → List ℕ → ℕ
-frameCount n m = eqb n 0 ! 0 ⨾ tileCount m (setPlace m)
 
 -- "A refused header or frame changes neither record nor picture."
 unfoldable pub framePicture : ℕ → Session → List ℕ → List ℕ → List ℕ
@@ -60,12 +61,25 @@ pub record Cleared (y cb cr tmp : List ℤ) : Type 0 where
   pub cr-is : cr ≡ replicate 4096 (pos 0)
   pub tmp-is : tmp ≡ replicate 4096 (pos 0)
 
+-- ---- the answer: 01's number, and "A done frame reports numTiles, a refused one 0."
+
+unfoldable pub frameReadingNumber : FrameReading → ℕ
+frameReadingNumber (Done tiles) = 0
+frameReadingNumber (Refused number) = number
+
+unfoldable pub frameReadingTiles : FrameReading → ℕ
+frameReadingTiles (Done tiles) = tiles
+frameReadingTiles (Refused number) = 0
+
+-- the answer, of the number and the message
+unfoldable pub frameReading : ℕ → List ℕ → FrameReading
+frameReading n m = eqb n 0 ⇒ Done (tileCount m (setPlace m)) ∣ Refused n
+
 -- the whole promise: the answer and each lent list at exit, each an equation in what came in
-pub record FrameDone (s : Session) (m pic : List ℕ) (y cb cr tmp : List ℤ) (pic′ : List ℕ) (y′ cb′ cr′ tmp′ : List ℤ) (r : FrameAnswer) : Type 0 where
-  pub number : r .number ≡ frameNumber (callFault s (length pic) (length y) (length cb) (length cr) (length tmp)) s m
-  pub tiles : r .tiles ≡ frameCount (frameNumber (callFault s (length pic) (length y) (length cb) (length cr) (length tmp)) s m) m
-  pub picture : pic′ ≡ framePicture (frameNumber (callFault s (length pic) (length y) (length cb) (length cr) (length tmp)) s m) s m pic
-  pub y-list : y′ ≡ frameList (callFault s (length pic) (length y) (length cb) (length cr) (length tmp)) y
-  pub cb-list : cb′ ≡ frameList (callFault s (length pic) (length y) (length cb) (length cr) (length tmp)) cb
-  pub cr-list : cr′ ≡ frameList (callFault s (length pic) (length y) (length cb) (length cr) (length tmp)) cr
-  pub tmp-list : tmp′ ≡ frameList (callFault s (length pic) (length y) (length cb) (length cr) (length tmp)) tmp
+pub record FrameRead (s : Session) (m pic : List ℕ) (y cb cr tmp : List ℤ) (pic′ : List ℕ) (y′ cb′ cr′ tmp′ : List ℤ) (r : FrameReading) : Type 0 where
+  pub answer : r ≡ frameReading (frameNumber (early s pic y cb cr tmp) s m) m
+  pub picture : pic′ ≡ framePicture (frameNumber (early s pic y cb cr tmp) s m) s m pic
+  pub y-list : y′ ≡ frameList (early s pic y cb cr tmp) y
+  pub cb-list : cb′ ≡ frameList (early s pic y cb cr tmp) cb
+  pub cr-list : cr′ ≡ frameList (early s pic y cb cr tmp) cr
+  pub tmp-list : tmp′ ≡ frameList (early s pic y cb cr tmp) tmp

@@ -7,12 +7,32 @@ ghost use lib.ListN.{length};
 ghost use Rattle.frame_layout.specs.Reader.{frameFault, tileCount, setPlace};
 ghost use Rattle.frame_blocks.specs.Judged.{judged};
 ghost use Rattle.frame_draw.specs.Show.{Lists};
-ghost use Rattle.frame.specs.Frame.{full, callFault, frontFault, framed, Cleared, FrameDone};
+ghost use Rattle.frame.specs.Frame.{frameReadingNumber, frameReadingTiles, full, callFault, frontFault, framed, Cleared, FrameRead};
 
-// 01's number, and how many tiles were drawn.
-pub struct FrameAnswer {
-    pub number: u8,
-    pub tiles: usize,
+// What reading a frame came to: how many tiles it has, or 01's number.
+pub enum FrameReading {
+    Done(usize),
+    Refused(u8),
+}
+
+// 01's number.
+pub fn frame_number(f: FrameReading) -> u8
+    ensures { λ n. ⌜ n ≡ frameReadingNumber f ⌝ }
+{
+    match f {
+        FrameReading::Done(tiles) => 0,
+        FrameReading::Refused(number) => number,
+    }
+}
+
+// "A done frame reports numTiles, a refused one 0."
+pub fn frame_tiles(f: FrameReading) -> usize
+    ensures { λ n. ⌜ n ≡ frameReadingTiles f ⌝ }
+{
+    match f {
+        FrameReading::Done(tiles) => tiles,
+        FrameReading::Refused(number) => 0,
+    }
 }
 
 // Has each work list its 4,096 numbers?
@@ -123,31 +143,22 @@ pub fn take_frame(
     cbs: &mut [i32],
     crs: &mut [i32],
     tmp: &mut [i32],
-) -> FrameAnswer
-    ensures { λ r. ⌜ FrameDone s (now (m .entry)) (now (picture .entry)) (now (ys .entry)) (now (cbs .entry)) (now (crs .entry)) (now (tmp .entry)) (now (picture .exit)) (now (ys .exit)) (now (cbs .exit)) (now (crs .exit)) (now (tmp .exit)) r ⌝ }
+) -> FrameReading
+    ensures { λ r. ⌜ FrameRead s (now (m .entry)) (now (picture .entry)) (now (ys .entry)) (now (cbs .entry)) (now (crs .entry)) (now (tmp .entry)) (now (picture .exit)) (now (ys .exit)) (now (cbs .exit)) (now (crs .exit)) (now (tmp .exit)) r ⌝ }
 {
     let w = s.width as usize;
     let h = s.height as usize;
     let mode = s.mode;
     let early = call_judge(s, picture.len(), ys.len(), cbs.len(), crs.len(), tmp.len());
     if early != 0 {
-        return FrameAnswer {
-            number: early,
-            tiles: 0,
-        };
+        return FrameReading::Refused(early);
     }
     let fault = message_fault(mode, w, h, m, tmp);
     if fault != 0 {
         clear_all(ys, cbs, crs, tmp);
-        return FrameAnswer {
-            number: fault,
-            tiles: 0,
-        };
+        return FrameReading::Refused(fault);
     }
     let n = draw_frame(picture, mode, w, h, m, ys, cbs, crs, tmp);
     clear_all(ys, cbs, crs, tmp);
-    FrameAnswer {
-        number: 0,
-        tiles: n,
-    }
+    FrameReading::Done(n)
 }

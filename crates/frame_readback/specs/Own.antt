@@ -9,7 +9,8 @@ use Rattle.wave_back.specs.Tile.{tileBack}
 use Rattle.tile_back.specs.Word.{wordAt}
 use Rattle.frame_pieces.specs.Parts.{colsOf, tilesNo}
 use Rattle.frame_write.specs.Encode.{listOf}
-use Rattle.frame.specs.declared.call.FrameAnswer.{FrameAnswer}
+use Rattle.frame.specs.declared.call.FrameReading.{FrameReading}
+use Rattle.frame.specs.Frame.{frameReadingNumber, frameReadingTiles}
 
 -- the samples that decoding gives for component c of tile k of the given pixels: LL3 summed, scaled, the wavelet's way back
 unfoldable pub samplesBack : List ℕ → ℕ → ℕ → List ℕ → ℕ → ℕ → List ℤ
@@ -24,9 +25,9 @@ unfoldable pub tileNo : ℕ → ℕ → ℕ → ℕ
 tileNo w px py = py / 64 * colsOf w + px / 64
 
 -- what is shown: as many tiles as the picture has, at every place of the channel the decoded word, and nothing else changed
-pub record Shown (p : List ℕ) (w h : ℕ) (q pic pic′ : List ℕ) (r : FrameAnswer) : Type 0 where
-  pub number : r .number ≡ 0
-  pub tiles : r .tiles ≡ tilesNo w h
+pub record Shown (p : List ℕ) (w h : ℕ) (q pic pic′ : List ℕ) (r : FrameReading) : Type 0 where
+  pub number : frameReadingNumber r ≡ 0
+  pub tiles : frameReadingTiles r ≡ tilesNo w h
   pub word : (px py : ℕ) → px < w → py < h → getD pic′ (py * w + px) 0 ≡ wordBack p w h q (tileNo w px py) (64 * (py % 64) + px % 64)
   pub past : (i : ℕ) → h * w ≤ i → getD pic′ i 0 ≡ getD pic i 0
   pub long : length pic′ ≡ length pic

@@ -7,10 +7,11 @@ use lib.Dec.{leb, eqb}
 use lib.IntN.{ℤ, pos}
 use lib.ListN.{length, replicate}
 use Rattle.whole.specs.Row.{_!_⨾_, _⨟_}
-use Rattle.session.specs.Header.{sizeGood, modeGood}
+use Rattle.wire.specs.Mode.{isMode}
+use Rattle.wire.specs.Wrote.{Wrote}
+use Rattle.wire.specs.declared.Writing.{Writing}
+use Rattle.session.specs.Header.{sizeGood}
 use Rattle.bands.specs.Bands.{isGood}
-use Rattle.code_write.specs.Write.{Wrote}
-use Rattle.code_write.specs.declared.call.Writing.{Writing}
 use Rattle.frame_pieces.specs.Parts.{tilesNo}
 use Rattle.frame_write.specs.Encode.{refusals, frameP}
 
@@ -22,7 +23,7 @@ pixelsGood w h pixels = eqb pixels (3 * (w * h))
 unfoldable pub argFault : ℕ → ℕ → ℕ → List ℕ → ℕ → ℕ → ℕ → ℕ
 argFault w h mode q pixels list scratch =
     sizeGood w h ! 5 ⨾
-    modeGood mode ! 5 ⨾
+    isMode mode ! 5 ⨾
     isGood q ! 7 ⨾
     pixelsGood w h pixels ! 2 ⨾
     eqb list 4096 ! 2 ⨾

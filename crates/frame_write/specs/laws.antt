@@ -1,3 +1,4 @@
 pub mod Encode
 pub mod FrameWrite
+pub mod Numbers
 pub mod Put

@@ -1,11 +1,11 @@
 // The frame writer of document 01 (last paragraph of "Colour", "Numbers the fitter sees", and what is left of output and work lists):
 // "Frame writer's refusals in order: size or mode 5, quantiser 7, pixel or work list length 2, then per component in order 9 .. then 6, then 13."
 use bands::Quant;
-use code_write::call::Writing;
+use wire::Writing;
 ghost use mathlib.Core.Path.{_≡_};
 ghost use Prim.Native.Nat.{_+_, _*_, _≤_, _<_};
 ghost use lib.ListN.{length};
-ghost use Rattle.code_write.specs.Write.{Wrote};
+ghost use Rattle.wire.specs.Wrote.{Wrote};
 ghost use Rattle.frame_write.specs.Encode.{frameP, Picture};
 ghost use Rattle.frame_write.specs.FrameWrite.{pixelsGood, argFault, sendFault, FrameWritten};
 
@@ -32,7 +32,7 @@ fn arg_judge(
     if !session::is_size(w, h) {
         return 5;
     }
-    if !session::is_mode(mode as usize) {
+    if !wire::is_mode(mode as usize) {
         return 5;
     }
     if !bands::is_good(q) {

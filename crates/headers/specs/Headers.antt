@@ -2,9 +2,13 @@
 use Prim.Native.Nat.{ℕ, _+_, _*_}
 use mathlib.Core.List.{List, _∷_, _++_}
 use lib.Dec.{leb}
+use lib.ListN.{length}
 use Rattle.wire.specs.Le.{bytes16, bytes32}
 use Rattle.whole.specs.Row.{_!_⨾_}
-use Rattle.session.specs.Header.{sizeGood, modeGood}
+use Rattle.wire.specs.Mode.{isMode}
+use Rattle.wire.specs.Wrote.{Wrote}
+use Rattle.wire.specs.declared.Writing.{Writing}
+use Rattle.session.specs.Header.{sizeGood}
 
 -- sync: "magic CACCACCA, version 0100"
 unfoldable pub syncOf : List ℕ
@@ -34,6 +38,10 @@ headersOf w h et = syncOf ++ (versionsOf ++ (channelsOf w h ++ contextOf et))
 unfoldable pub headersFault : ℕ → ℕ → ℕ → ℕ → ℕ
 headersFault w h et room =
     sizeGood w h ! 5 ⨾
-    modeGood et ! 5 ⨾
+    isMode et ! 5 ⨾
     leb 47 room ! 13 ⨾
     0
+
+-- the writer's promise: its output as it was and as it is, and its answer
+abbrev pub HeadersWritten : ℕ → ℕ → ℕ → List ℕ → List ℕ → Writing → Type 0
+HeadersWritten width height mode out out′ r = Wrote (headersFault width height mode (length out)) (headersOf width height mode) out out′ r

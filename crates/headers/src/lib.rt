@@ -1,18 +1,12 @@
 // The header writer of document 01: "Header writer: size or mode 5, then 13 (47 bytes)", with the four blocks of "Blocks";
-// specs/ReadBack says that the header calls take what it writes, from any record.
+// specs/laws/ReadBack says that the header calls take what it writes, from any record.
 ghost use mathlib.Core.Path.{_≡_};
 ghost use Prim.Native.Nat.{_+_, _≤_, _<_};
 ghost use lib.ListN.{length};
 ghost use mathlib.Core.List.{_++_};
 ghost use Rattle.wire.specs.Le.{bytes16, bytes32, patch, written};
-ghost use Rattle.headers.specs.laws.Wrote.{Wrote};
-ghost use Rattle.headers.specs.Headers.{syncOf, versionsOf, channelsOf, propertiesOf, contextOf, headersOf, headersFault};
-
-// 01's number, and the length in bytes (refused 0).
-pub struct Written {
-    pub number: u8,
-    pub size: usize,
-}
+ghost use Rattle.headers.specs.Headers.{syncOf, versionsOf, channelsOf, propertiesOf, contextOf, headersOf, headersFault, HeadersWritten};
+use wire::Writing;
 
 fn put_head(out: &mut [u8], at: usize, kind: usize, size: usize)
     requires { ⌜ at + 6 ≤ length (now out) ⌝ }
@@ -80,7 +74,7 @@ fn headers_fault(w: usize, h: usize, et: usize, room: usize) -> u8
     ensures { λ r. ⌜ r ≡ headersFault w h et room ⌝ }
 {
     if session::is_size(w, h) {
-        if session::is_mode(et) {
+        if wire::is_mode(et) {
             if room < 47 {
                 return 13;
             }
@@ -92,16 +86,13 @@ fn headers_fault(w: usize, h: usize, et: usize, room: usize) -> u8
 }
 
 // The four header blocks, in table order.
-pub fn write_headers(width: usize, height: usize, mode: u8, out: &mut [u8]) -> Written
-    ensures { λ r. ⌜ Wrote (headersFault width height mode (length (now (out .entry)))) (headersOf width height mode) (now (out .entry)) (now (out .exit)) (r .number) (r .size) ⌝ }
+pub fn write_headers(width: usize, height: usize, mode: u8, out: &mut [u8]) -> Writing
+    ensures { λ r. ⌜ HeadersWritten width height mode (now (out .entry)) (now (out .exit)) r ⌝ }
 {
     let n = headers_fault(width, height, mode as usize, out.len());
     if n != 0 {
-        return Written { number: n, size: 0 };
+        return Writing::Refused(n);
     }
     put_headers(out, width, height, mode as usize);
-    Written {
-        number: 0,
-        size: 47,
-    }
+    Writing::Done(47)
 }

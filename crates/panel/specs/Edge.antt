@@ -6,15 +6,16 @@ use mathlib.Core.List.{List}
 use lib.IntN.{ℤ}
 use lib.ListN.{length}
 use Rattle.whole.specs.Row.{_⨟_}
+use Rattle.wire.specs.Wrote.{lengthSaid, outLeft}
 use Rattle.session.specs.declared.Session.{Session}
+use Rattle.session.specs.Header.{headerNumber, headerRecord, headerReading}
 use Rattle.code.specs.Read.{readingNumber, readingBits, reading, ComponentRead}
-use Rattle.code_write.specs.Write.{bytesOf, writeFault, lengthSaid, outLeft}
+use Rattle.code_write.specs.Write.{bytesOf, writeFault}
 use Rattle.headers.specs.Headers.{headersOf, headersFault}
 use Rattle.frame_write.specs.Encode.{frameP}
 use Rattle.frame_write.specs.FrameWrite.{argFault, sendFault, workLeft}
-use Rattle.frame.specs.Frame.{callFault, frameNumber}
-use Rattle.panel.specs.declared.FrameReading.{FrameReading}
-use Rattle.panel.specs.Panel.{headerNumber, headerRecord, headerReading, frameReadingNumber, frameReadingTiles, frameReading, FrameRead}
+use Rattle.frame.specs.declared.call.FrameReading.{FrameReading}
+use Rattle.frame.specs.Frame.{early, frameNumber, frameReadingNumber, frameReadingTiles, frameReading, FrameRead}
 
 -- ---- the readers: the answer is the one that the call's own definition gives, and the number and the value are that answer's
 
@@ -25,7 +26,7 @@ pub record ReadHeaderCall (s s′ : Session) (m : List ℕ) (n : ℕ) : Type 0 w
 
 -- the answer to a frame, of what came in
 abbrev pub frameAnswer : Session → List ℕ → List ℕ → List ℤ → List ℤ → List ℤ → List ℤ → FrameReading
-frameAnswer s m pic y cb cr tmp = frameReading (frameNumber (callFault s (length pic) (length y) (length cb) (length cr) (length tmp)) s m) m
+frameAnswer s m pic y cb cr tmp = frameReading (frameNumber (early s pic y cb cr tmp) s m) m
 
 -- "A done frame reports numTiles, a refused one 0"; "a frame call leaves it equal", the record; picture and work lists as the panel's call leaves them
 pub record ReadFrameCall (s s′ : Session) (m pic : List ℕ) (y cb cr tmp : List ℤ) (pic′ : List ℕ) (y′ cb′ cr′ tmp′ : List ℤ) (tiles n : ℕ) : Type 0 where

@@ -1,8 +1,7 @@
-// The six calls for C (issue 7, 2 and 4). A pointer is a reference, a list is a pointer and its length; the answer is 01's number, and 01's value is stored
+// The six calls for C. A pointer is a reference, a list is a pointer and its length; the answer is 01's number, and 01's value is stored
 // behind the last reference on every answer. Each is one call of the panel's own and promises what that one does (specs/Edge). Nothing here has a `requires`.
 ghost use Rattle.panel.specs.Edge.{ReadHeaderCall, ReadFrameCall, ReadComponentCall, WriteComponentCall, WriteHeadersCall, WriteFrameCall};
 use bands::Quant;
-use session::HeaderAnswer;
 use session::Session;
 
 // Reads one component's code into a list of 4,096 numbers; `bits` is the code's length in bits on 0 and 11, else 0.
@@ -31,8 +30,8 @@ pub extern "C" fn xurbalenz_write_component(
     ensures { λ n. ⌜ WriteComponentCall mode (now (list .entry)) (now (out .entry)) (now (out .exit)) (now (size .exit)) n ⌝ }
 {
     let w = crate::write_component(mode, list, out);
-    *size = code_write::call::writing_length(w);
-    code_write::call::writing_number(w)
+    *size = wire::writing_length(w);
+    wire::writing_number(w)
 }
 
 // Writes the four header blocks; `size` is their length in bytes, refused 0.
@@ -47,8 +46,8 @@ pub extern "C" fn xurbalenz_write_headers(
     ensures { λ n. ⌜ WriteHeadersCall width height mode (now (out .entry)) (now (out .exit)) (now (size .exit)) n ⌝ }
 {
     let w = crate::write_headers(width, height, mode, out);
-    *size = code_write::call::writing_length(w);
-    code_write::call::writing_number(w)
+    *size = wire::writing_length(w);
+    wire::writing_number(w)
 }
 
 // Writes one frame over the whole channel, with the ten quantisers behind `quant`; `size` is its length in bytes, refused 0.
@@ -69,18 +68,24 @@ pub extern "C" fn xurbalenz_write_frame(
 {
     let q = Quant { v: *quant };
     let w = crate::write_frame(width, height, mode, q, index, pixels, list, scratch, out);
-    *size = code_write::call::writing_length(w);
-    code_write::call::writing_number(w)
+    *size = wire::writing_length(w);
+    wire::writing_number(w)
 }
 
-// The header call with the record by value: 01's number, and the record to be stored.
-fn header_call(s: Session, message: &[u8]) -> HeaderAnswer
+// What the header call has to hand over: 01's number, and the record to be stored.
+struct Handed {
+    number: u8,
+    session: Session,
+}
+
+// The header call with the record by value.
+fn header_call(s: Session, message: &[u8]) -> Handed
     ensures { λ a. ⌜ ReadHeaderCall s (a .session) (now (message .entry)) (a .number) ⌝ }
 {
     let h = crate::read_header(s, message);
-    let number = crate::header_number(h);
-    let after = crate::header_record(h, s);
-    HeaderAnswer {
+    let number = session::header_number(h);
+    let after = session::header_record(h, s);
+    Handed {
         number: number,
         session: after,
     }
@@ -110,8 +115,8 @@ fn frame_call(
     ensures { λ n. ⌜ ReadFrameCall s s (now (message .entry)) (now (picture .entry)) (now (y .entry)) (now (cb .entry)) (now (cr .entry)) (now (scratch .entry)) (now (picture .exit)) (now (y .exit)) (now (cb .exit)) (now (cr .exit)) (now (scratch .exit)) (now (tiles .exit)) n ⌝ }
 {
     let f = crate::read_frame(s, message, picture, y, cb, cr, scratch);
-    *tiles = crate::frame_tiles(f);
-    crate::frame_number(f)
+    *tiles = frame::call::frame_tiles(f);
+    frame::call::frame_number(f)
 }
 
 // Reads one frame, which is the whole message, and draws it; `tiles` is numTiles, refused 0. The record is left as it is.

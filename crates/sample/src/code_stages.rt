@@ -176,7 +176,7 @@ fn against_written(name: &[u8], printed: &[u8], list: &[i32], code: &mut [u8]) -
     );
     crate::stages::say_with(b" of ", at);
     say_last(is_last(printed, c, list));
-    code_write::call::writing_length(w)
+    wire::writing_length(w)
 }
 
 // A code that answers 11, cut to the bits that the reader reports, against the list that 001 prints.

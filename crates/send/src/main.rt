@@ -68,15 +68,15 @@ fn make_frame(o: Options, width: usize, height: usize, pixels: &[u8], out: &mut 
         &mut out[47..e],
     );
     Made {
-        number: code_write::call::writing_number(w),
-        size: code_write::call::writing_length(w),
+        number: wire::writing_number(w),
+        size: wire::writing_length(w),
     }
 }
 
 // Headers and frame, one behind the other; the size is the frame's.
 fn make(o: Options, width: usize, height: usize, pixels: &[u8], out: &mut [u8]) -> Made {
     let w = panel::write_headers(width, height, o.mode, out);
-    let number = code_write::call::writing_number(w);
+    let number = wire::writing_number(w);
     if number != 0 {
         return Made {
             number: number,

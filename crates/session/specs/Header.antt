@@ -5,11 +5,17 @@ use mathlib.Core.Bool.{Bool, true, false}
 use lib.ListN.{length, getD}
 use lib.Dec.{ltb, leb, eqb}
 use Rattle.wire.specs.Le.{le16, le32}
+use Rattle.wire.specs.Mode.{isMode}
 use Rattle.whole.specs.Row.{_!_⨾_, _⇒_∣_, _⨟_}
 use Rattle.session.specs.declared.Session.{Session}
-use Rattle.session.specs.declared.HeaderAnswer.{HeaderAnswer}
+use Rattle.session.specs.declared.HeaderReading.{HeaderReading}
+use Rattle.session.specs.declared.HeaderReading.the-variants.{Taken, Refused}
 
 -- ---- the record: "how many headers are in, width, height, mode (et), all 0 when fresh"
+
+-- a record in 01's words: headers, width, height, mode
+abbrev pub at : ℕ → ℕ → ℕ → ℕ → Session
+at headers w h mode = record { headers = headers; width = w; height = h; mode = mode }
 
 -- "width 1 to 4,096, height 1 to 2,048"
 unfoldable pub sizeGood : ℕ → ℕ → Bool
@@ -19,10 +25,6 @@ sizeGood w h =
     leb 1 h ! false ⨾
     leb h 2048
 
--- "et is 1 (RLGR1) or 4 (RLGR3)"
-unfoldable pub modeGood : ℕ → Bool
-modeGood et = eqb et 1 ⇒ true ∣ eqb et 4
-
 -- could calls have made this record?  "A record that no calls could have made answers 12 wherever one is judged, but takes a good sync"
 unfoldable pub made : ℕ → ℕ → ℕ → ℕ → Bool
 made headers w h mode =
@@ -30,7 +32,7 @@ made headers w h mode =
     sizeGood w h ! false ⨾
     eqb headers 3 ⇒ eqb mode 0 ∣
     eqb headers 4 ! false ⨾
-    modeGood mode
+    isMode mode
 
 -- all four headers are in: "a frame before all four headers" is 12, and so is a record that no calls could have made
 unfoldable pub ready : Session → Bool
@@ -84,7 +86,7 @@ unfoldable pub propertiesGood : ℕ → Bool
 propertiesGood p =
     eqb (p / 8 % 4) 1 ! false ⨾
     eqb (p / 32 % 16) 1 ! false ⨾
-    modeGood (etOf p) ! false ⨾
+    isMode (etOf p) ! false ⨾
     eqb (p / 8192 % 4) 1
 
 -- "codecId 1 and channelId: 0xFF in the context", "ctxId 0, tileSize 2 bytes = 64, properties 2"
@@ -139,13 +141,21 @@ headerFault s m =
 -- the record after a good block; a sync "starts the session over (record 1, 0, 0, 0)"
 unfoldable pub recordAfter : Session → List ℕ → Session
 recordAfter s m =
-    eqb (le16 m 0) 0xCCC0 ⇒ (record { headers = 1; width = 0; height = 0; mode = 0 }) ∣
-    eqb (le16 m 0) 0xCCC1 ⇒ (record { headers = 2; width = s .width; height = s .height; mode = s .mode }) ∣
-    eqb (le16 m 0) 0xCCC2 ⇒ (record { headers = 3; width = le16 m 8; height = le16 m 10; mode = 0 }) ∣
-    (record { headers = 4; width = s .width; height = s .height; mode = etOf (le16 m 11) })
+    eqb (le16 m 0) 0xCCC0 ⇒ at 1 0 0 0 ∣
+    eqb (le16 m 0) 0xCCC1 ⇒ at 2 (s .width) (s .height) (s .mode) ∣
+    eqb (le16 m 0) 0xCCC2 ⇒ at 3 (le16 m 8) (le16 m 10) 0 ∣
+    at 4 (s .width) (s .height) (etOf (le16 m 11))
 
--- what the call answers; "A refused header or frame changes neither record nor picture"
-unfoldable pub headerOf : Session → List ℕ → HeaderAnswer
-headerOf s m =
-    eqb (headerFault s m) 0 ⇒ (record { number = 0; session = recordAfter s m }) ∣
-    (record { number = headerFault s m; session = s })
+-- ---- the answer: 01's number, and the record after the call: "A refused header or frame changes neither record nor picture."
+
+unfoldable pub headerNumber : HeaderReading → ℕ
+headerNumber (Taken s) = 0
+headerNumber (Refused number) = number
+
+unfoldable pub headerRecord : HeaderReading → Session → Session
+headerRecord (Taken s) before = s
+headerRecord (Refused number) before = before
+
+-- what the call answers, of the record and the message
+unfoldable pub headerReading : Session → List ℕ → HeaderReading
+headerReading s m = eqb (headerFault s m) 0 ⇒ Taken (recordAfter s m) ∣ Refused (headerFault s m)

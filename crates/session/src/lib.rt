@@ -3,7 +3,7 @@
 ghost use mathlib.Core.Path.{_≡_};
 ghost use Prim.Native.Nat.{_+_, _≤_, _<_};
 ghost use lib.ListN.{length};
-ghost use Rattle.session.specs.Header.{sizeGood, modeGood, made, ready, due, sizeOf, syncJudge, versionsJudge, channelsJudge, propertiesGood, contextJudge, etOf, syncFault, versionsFault, channelsFault, contextFault, fieldFault, headJudge, headerFault, recordAfter, headerOf};
+ghost use Rattle.session.specs.Header.{sizeGood, made, ready, due, sizeOf, syncJudge, versionsJudge, channelsJudge, propertiesGood, contextJudge, etOf, syncFault, versionsFault, channelsFault, contextFault, fieldFault, headJudge, headerFault, recordAfter, headerNumber, headerRecord, headerReading};
 ghost use Rattle.session.specs.laws.Header.{Good};
 
 // How many headers are in, width, height, mode (et); all 0 when fresh. Laid out as C does, for the edge.
@@ -15,10 +15,30 @@ pub struct Session {
     pub mode: u8,
 }
 
-// 01's number, and the record after the call.
-pub struct HeaderAnswer {
-    pub number: u8,
-    pub session: Session,
+// What reading a header came to: the record after it, or 01's number.
+pub enum HeaderReading {
+    Taken(Session),
+    Refused(u8),
+}
+
+// 01's number.
+pub fn header_number(h: HeaderReading) -> u8
+    ensures { λ n. ⌜ n ≡ headerNumber h ⌝ }
+{
+    match h {
+        HeaderReading::Taken(s) => 0,
+        HeaderReading::Refused(number) => number,
+    }
+}
+
+// The record after the call; a refused header leaves the one from before.
+pub fn header_record(h: HeaderReading, before: Session) -> Session
+    ensures { λ r. ⌜ r ≡ headerRecord h before ⌝ }
+{
+    match h {
+        HeaderReading::Taken(s) => s,
+        HeaderReading::Refused(number) => before,
+    }
 }
 
 // Is the size one that 01 allows?
@@ -35,16 +55,6 @@ pub fn is_size(w: usize, h: usize) -> bool
         return false;
     }
     h <= 2048
-}
-
-// Is the mode RLGR1 or RLGR3?
-pub fn is_mode(et: usize) -> bool
-    ensures { λ r. ⌜ r ≡ modeGood et ⌝ }
-{
-    if et != 1 {
-        return et == 4;
-    }
-    true
 }
 
 fn is_made(headers: usize, w: usize, h: usize, mode: usize) -> bool
@@ -66,7 +76,7 @@ fn is_made(headers: usize, w: usize, h: usize, mode: usize) -> bool
         if headers != 4 {
             return false;
         }
-        return is_mode(mode);
+        return wire::is_mode(mode);
     }
     false
 }
@@ -172,7 +182,7 @@ fn properties_good(p: usize) -> bool
     if p / 32 % 16 != 1 {
         return false;
     }
-    if is_mode(et_of(p)) {
+    if wire::is_mode(et_of(p)) {
         return p / 8192 % 4 == 1;
     }
     false
@@ -327,19 +337,14 @@ fn record_after(s: Session, m: &[u8]) -> Session
     }
 }
 
-// The header call: 01's number, and the record; a refused header leaves the record as it was.
-pub fn take_header(s: Session, m: &[u8]) -> HeaderAnswer
-    ensures { λ r. ⌜ r ≡ headerOf s (now (m .entry)) ⌝ }
+// The header call: the record after a header without a fault, or the first fault's number.
+pub fn take_header(s: Session, m: &[u8]) -> HeaderReading
+    ensures { λ r. ⌜ r ≡ headerReading s (now (m .entry)) ⌝ }
 {
     let n = header_fault(s, m);
     if n != 0 {
-        return HeaderAnswer {
-            number: n,
-            session: s,
-        };
+        return HeaderReading::Refused(n);
     }
-    HeaderAnswer {
-        number: 0,
-        session: record_after(s, m),
-    }
+    let after = record_after(s, m);
+    HeaderReading::Taken(after)
 }

@@ -63,8 +63,8 @@ fn header(d: Desk, input: &[u8], end: usize) -> Desk
     let s = d.s;
     let count = std::num::wrapping_add_u64(d.headers, 1);
     let h = panel::read_header(s, app_stream::message(input, d.at, end));
-    app_text::lines::say_header(count, panel::header_number(h));
-    after_header(d, panel::header_record(h, s), end)
+    app_text::lines::say_header(count, session::header_number(h));
+    after_header(d, session::header_record(h, s), end)
 }
 
 fn after_frame(d: Desk, end: usize) -> Desk
@@ -92,7 +92,11 @@ fn frame(d: Desk, input: &[u8], end: usize, picture: &mut [u16]) -> Desk
     let mut cr = [0i32; 4096];
     let mut scratch = [0i32; 4096];
     let f = panel::read_frame(d.s, m, picture, &mut y, &mut cb, &mut cr, &mut scratch);
-    app_text::lines::say_frame(count, panel::frame_number(f), panel::frame_tiles(f));
+    app_text::lines::say_frame(
+        count,
+        frame::call::frame_number(f),
+        frame::call::frame_tiles(f),
+    );
     after_frame(d, end)
 }
 

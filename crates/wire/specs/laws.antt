@@ -1,1 +1,3 @@
 pub mod Le
+pub mod Mode
+pub mod Wrote

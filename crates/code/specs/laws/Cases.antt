@@ -1,5 +1,5 @@
 -- 01's (p) cases of the component code, in one statement, proved of the definitions by computation.
-use Prim.Native.Nat.{ℕ, zero, suc, _+_, _≤_}
+use Prim.Native.Nat.{ℕ, zero, suc, _≤_}
 use mathlib.Core.Path.{_≡_, refl, sym, ap, _∙_}
 use mathlib.Core.Bool.{true, false}
 use mathlib.Core.List.{List, [], _∷_, _++_}
@@ -7,12 +7,14 @@ use native.Mathlib.Omega.{arith}
 use lib.IntN.{ℤ, pos, negsuc, natAbs}
 use lib.ListN.{length, getD, replicate, length-replicate}
 use Rattle.whole.specs.Row.{_!_⨾_, _⇒_∣_}
+use Rattle.wire.specs.Mode.{isMode}
+use Rattle.wire.specs.laws.Mode.{is-1, is-4}
 use Rattle.bits.specs.Bits.{bitsOf, numBits, numOf}
 use Rattle.bits.specs.Bytes.{Written}
 use Rattle.code.specs.Fold.{foldZ, unfoldZ, unfoldBy}
 use Rattle.code.specs.Code.{codeOf, codeF, itemOf, itemBits, itemUsed, itemKp, itemKrp, zerosOf, runBits, pairBits, krAfter, kpOne, kpTwo}
 use Rattle.code.specs.ReadList.{readList, refusalNumber}
-use Rattle.code.specs.Read.{readingNumber, clean, endReading, codeReading, isMode, shellFault, afterShell, reading, readFault, readBits}
+use Rattle.code.specs.Read.{readingNumber, clean, endReading, codeReading, shellFault, afterShell, reading, readFault, readBits}
 use Rattle.code.specs.OneCode.{code, Listed, Call, Exactly}
 use Rattle.code.specs.laws.OneCode.{exactly-answers, behind-number, behind-bits}
 use Rattle.code.specs.Cases.{first, Coded, Cases}
@@ -112,27 +114,19 @@ module _ (mode : ℕ) (m : isMode mode ≡ true) (z : code mode (first (pos 0)) 
   tail-bits : readBits mode 4096 (0x00 ∷ 0x00 ∷ 0x00 ∷ 0x00 ∷ []) ≡ 21
   tail-bits = ap (λ (n : ℕ). readBits mode n (0x00 ∷ 0x00 ∷ 0x00 ∷ 0x00 ∷ [])) (sym full) ∙ behind-bits mode (0x00 ∷ 0x00 ∷ 0x00 ∷ 0x00 ∷ []) (first (pos 0)) (first (pos 0)) call (listed (pos 0) (omega arith)) (replicate 11 false) four ∙ long
 
-one-is : isMode 1 ≡ true
-unfolding isMode _⇒_∣_
-one-is = refl
-
-four-is : isMode 4 ≡ true
-unfolding isMode _⇒_∣_
-four-is = refl
-
 folds : (unfoldZ 0 ≡ pos 0) × (unfoldZ 1 ≡ negsuc 0) × (unfoldZ 2 ≡ pos 1) × (unfoldZ 3 ≡ negsuc 1)
 unfolding unfoldZ unfoldBy
 folds = (refl, refl, refl, refl)
 
 pub cases : Cases
 cases = record {
-  zeros = (coded 1 _ (pos 0) one-is (omega arith) (omega arith) (three 1 one-is zeros-1), coded 4 _ (pos 0) four-is (omega arith) (omega arith) (three 4 four-is zeros-4));
-  zeros-bits = (long 1 one-is zeros-1, long 4 four-is zeros-4);
+  zeros = (coded 1 _ (pos 0) is-1 (omega arith) (omega arith) (three 1 is-1 zeros-1), coded 4 _ (pos 0) is-4 (omega arith) (omega arith) (three 4 is-4 zeros-4));
+  zeros-bits = (long 1 is-1 zeros-1, long 4 is-4 zeros-4);
   two-cut = (cut-1, cut-4);
-  four-tail = (tail 1 one-is zeros-1, tail 4 four-is zeros-4);
-  four-bits = (tail-bits 1 one-is zeros-1, tail-bits 4 four-is zeros-4);
+  four-tail = (tail 1 is-1 zeros-1, tail 4 is-4 zeros-4);
+  four-bits = (tail-bits 1 is-1 zeros-1, tail-bits 4 is-4 zeros-4);
   empty-cut = (empty-1, empty-4);
-  plus = (coded 1 _ (pos 1) one-is (omega arith) (omega arith) plus-1, coded 4 _ (pos 1) four-is (omega arith) (omega arith) plus-4);
-  minus = (coded 1 _ (negsuc 0) one-is (omega arith) (omega arith) minus-1, coded 4 _ (negsuc 0) four-is (omega arith) (omega arith) minus-4);
+  plus = (coded 1 _ (pos 1) is-1 (omega arith) (omega arith) plus-1, coded 4 _ (pos 1) is-4 (omega arith) (omega arith) plus-4);
+  minus = (coded 1 _ (negsuc 0) is-1 (omega arith) (omega arith) minus-1, coded 4 _ (negsuc 0) is-4 (omega arith) (omega arith) minus-4);
   folded = folds;
 }

@@ -10,7 +10,8 @@ use lib.IntN.{ℤ, pos}
 use lib.Dec.{ltb}
 use lib.ListN.{length, take, drop, set, replicate, length-append, length-replicate, length-set}
 use lib.Seq.{getD-at, take-add, drop-drop, take-suc-set, drop-set-lt, take-all}
-use Rattle.code.specs.Code.{pick, InRange}
+use Rattle.whole.specs.Row.{_⇒_∣_}
+use Rattle.code.specs.Code.{InRange}
 use Rattle.code.specs.ReadList.{st, elemOf, whole, bad, step, walk, readList}
 use Rattle.code.specs.laws.Taken.{Told, Took, elem-told}
 use Rattle.code.specs.declared.element.State.{State}
@@ -104,13 +105,14 @@ placed-one n out i z v c h =
     let g = grew-zeros n out i z c (omega arith) in
     grew-more n out i out (i + z) (set out (i + z) (unfoldZ v)) (i + z + 1) (replicate z 0) (v ∷ []) g (grew-value n out (i + z) v (g .clear) h)
 
-placed-two : (n : ℕ) (out : List ℤ) (i a b : ℕ) → Clear n out i → i < n → Grew n out i (pick (ltb (i + 1) n) (set (set out i (unfoldZ a)) (i + 1) (unfoldZ b)) (set out i (unfoldZ a))) (min n (i + 2)) (take (n - i) (a ∷ b ∷ []))
+placed-two : (n : ℕ) (out : List ℤ) (i a b : ℕ) → Clear n out i → i < n → Grew n out i (ltb (i + 1) n ⇒ set (set out i (unfoldZ a)) (i + 1) (unfoldZ b) ∣ set out i (unfoldZ a)) (min n (i + 2)) (take (n - i) (a ∷ b ∷ []))
+unfolding _⇒_∣_
 placed-two n out i a b c h = go (ltb (i + 1) n) refl
   where
     g : Grew n out i (set out i (unfoldZ a)) (i + 1) (a ∷ [])
     g = grew-value n out i a c h
 
-    go : (t : Bool) → ltb (i + 1) n ≡ t → Grew n out i (pick t (set (set out i (unfoldZ a)) (i + 1) (unfoldZ b)) (set out i (unfoldZ a))) (min n (i + 2)) (take (n - i) (a ∷ b ∷ []))
+    go : (t : Bool) → ltb (i + 1) n ≡ t → Grew n out i (t ⇒ set (set out i (unfoldZ a)) (i + 1) (unfoldZ b) ∣ set out i (unfoldZ a)) (min n (i + 2)) (take (n - i) (a ∷ b ∷ []))
     go true e =
         let l : i + 1 < n = ltb-true (i + 1) n e in
         let j : i + 1 + 1 ≡ min n (i + 2) = omega arith in
@@ -199,7 +201,7 @@ module _ (two : Bool) (n : ℕ) (B : List Bool) where
             rw (at-j p, at-s p) (advance (set out (i + z) (unfoldZ v)) s′ (i + z + 1) g (replicate z 0 ++ (v ∷ [])) ef t (placed-one n out i z v (w .clear) m) (rw l at k))
         go (Two a b s′) t p g ef k =
             let l : n - i - 2 ≡ n - min n (i + 2) = omega arith in
-            rw (at-j p, at-s p, w .clear .len) (advance (pick (ltb (i + 1) n) (set (set out i (unfoldZ a)) (i + 1) (unfoldZ b)) (set out i (unfoldZ a))) s′ (min n (i + 2)) g (take (n - i) (a ∷ b ∷ [])) ef t (placed-two n out i a b (w .clear) h) (rw l at k))
+            rw (at-j p, at-s p, w .clear .len) (advance (ltb (i + 1) n ⇒ set (set out i (unfoldZ a)) (i + 1) (unfoldZ b) ∣ set out i (unfoldZ a)) s′ (min n (i + 2)) g (take (n - i) (a ∷ b ∷ [])) ef t (placed-two n out i a b (w .clear) h) (rw l at k))
 
     pub filling-bad : (e : Element) → e ≡ elemOf two (c .kp) (c .krp) (n - i) (c .at) B → (r : Refusal) → No r ≡ placedOf n i e → readList two n B ≡ bad r
     filling-bad e q r p =

@@ -1,5 +1,5 @@
 -- One code for one list: 01's demands on the component reader, for both modes and every input. `code mode zs` is the code of the list zs.
-use Prim.Native.Nat.{ℕ, zero, suc, _+_, _≤_, _<_}
+use Prim.Native.Nat.{ℕ, zero, suc, _≤_, _<_}
 use mathlib.Core.Path.{_≡_, refl, sym, ap, subst, _∙_}
 use mathlib.Core.Bool.{Bool, true, false}
 use mathlib.Core.List.{List, [], _∷_, _++_, map, append-nil}
@@ -15,12 +15,13 @@ use Rattle.whole.specs.laws.Row.{held, passes}
 use Rattle.bits.specs.Bits.{bitsOf}
 use Rattle.bits.specs.Bytes.{Written}
 use Rattle.bits.specs.laws.Bytes.{Bytes, written-once}
+use Rattle.wire.specs.Mode.{isMode}
 use Rattle.code.specs.Fold.{foldZ, unfoldZ}
 use Rattle.code.specs.laws.Fold.{map-unfold, map-fold, range-fold, fold-range}
 use Rattle.code.specs.Code.{codeOf, InRange}
 use Rattle.code.specs.ReadList.{whole, readList}
 use Rattle.code.specs.laws.List.{read-back, prefix-free, Taken}
-use Rattle.code.specs.Read.{readingNumber, readingBits, noOnes, clean, endReading, endList, codeReading, codeList, isMode, shellFault, reading, readFault, readBits, decoded, readInto, ComponentRead}
+use Rattle.code.specs.Read.{readingNumber, readingBits, noOnes, clean, endReading, endList, codeReading, codeList, shellFault, reading, readFault, readBits, decoded, readInto, ComponentRead}
 use Rattle.code.specs.laws.Read.{accepted, accepted-list, accepted-taken, passed, read-number, into-decoded, shell-goes}
 use Rattle.code.specs.declared.read.Reading.{Reading}
 use Rattle.code.specs.declared.read.Reading.the-variants.{Done, Tail}

@@ -16,6 +16,7 @@ use Rattle.bits.specs.Bits.{bitsOf, numOf, val}
 use Rattle.bits.specs.laws.Bit.{length-bitsOf, got-v}
 use Rattle.bits.specs.declared.Num.{Num}
 use Rattle.bits.specs.declared.Num.the-variants.{Got, Cut}
+use Rattle.wire.specs.Mode.{isMode}
 use Rattle.code.specs.Fold.{unfoldZ, unfoldBy}
 use Rattle.code.specs.laws.Fold.{fold-unfold, fold-near}
 use Rattle.code.specs.Code.{codeOf, InRange}
@@ -24,7 +25,7 @@ use Rattle.code.specs.laws.List.{taken, Taken}
 use Rattle.code.specs.declared.element.Refusal.{Refusal}
 use Rattle.code.specs.declared.element.Refusal.the-variants.{Cut as Short, Range, Overrun}
 use Rattle.code.specs.Fill.{Fills}
-use Rattle.code.specs.Read.{readingNumber, readingBits, noOnes, clean, endReading, endList, codeReading, codeList, isMode, shellFault, afterShell, reading, readFault, readBits, decoded, readInto, CodeRead, ComponentRead}
+use Rattle.code.specs.Read.{readingNumber, readingBits, noOnes, clean, endReading, endList, codeReading, codeList, shellFault, afterShell, reading, readFault, readBits, decoded, readInto, CodeRead, ComponentRead}
 use Rattle.code.specs.declared.read.Filled.{Filled}
 use Rattle.code.specs.declared.read.Filled.the-variants.{Whole, Bad}
 use Rattle.code.specs.declared.read.Reading.{Reading}

@@ -10,6 +10,7 @@ use borrow.Author.Tests.{lt-ltb, le-ltb, le-leb, lt-leb}
 use Rattle.bits.specs.Bits.{numOf, grOf}
 use Rattle.bits.specs.declared.Num.{Num}
 use Rattle.bits.specs.declared.Num.the-variants.{Got, Cut}
+use Rattle.whole.specs.Row.{_⇒_∣_}
 use Rattle.code.specs.Code.{krNext, krAfter, kpOne, kpTwo, up, size, sizeF}
 use Rattle.code.specs.ReadList.{st, oneElem, twoElem, judgeTwo, runElem, runFirst, judgeRun, elemOf}
 use Rattle.code.specs.laws.There.{lone-not}
@@ -86,9 +87,11 @@ pub one-cut : (kp krp : ℕ) (n : Num) → n ≡ Cut → oneElem kp krp n ≡ Re
 one-cut kp krp n e = rw e
 
 pub one-wide : (kp krp : ℕ) (n : Num) (g next : ℕ) → n ≡ Got g next → 65534 < g → oneElem kp krp n ≡ Refused Range
+unfolding _⇒_∣_
 one-wide kp krp n g next e h = rw (e, lt-ltb 65534 g h)
 
 pub one-ok : (kp krp : ℕ) (n : Num) (g next q r : ℕ) → n ≡ Got g next → g ≤ 65534 → q ≡ kpOne kp g → r ≡ krAfter krp g → oneElem kp krp n ≡ One 0 g (st next q r)
+unfolding _⇒_∣_
 one-ok kp krp n g next q r e h p s = rw (e, le-ltb 65534 g h, p, s)
 
 pub two-cut : (kp krp left : ℕ) (B : List Bool) (n : Num) → n ≡ Cut → twoElem kp krp left B n ≡ Refused Short
@@ -101,18 +104,23 @@ pub two-got : (kp krp left : ℕ) (B : List Bool) (n : Num) (g mid k a next : �
 two-got kp krp left B n g mid k a next e ek f = rw (e, ← ek, f)
 
 pub judge-above : (kp krp left g a next : ℕ) → g < a → judgeTwo kp krp left g a next ≡ Refused Range
+unfolding _⇒_∣_
 judge-above kp krp left g a next h = rw (lt-ltb g a h)
 
 pub judge-first : (kp krp left g a next : ℕ) → a ≤ g → 65534 < a → judgeTwo kp krp left g a next ≡ Refused Range
+unfolding _⇒_∣_
 judge-first kp krp left g a next h w = rw (le-ltb g a h, lt-ltb 65534 a w)
 
 pub judge-second : (kp krp left g a next : ℕ) → a ≤ g → a ≤ 65534 → 65534 < g - a → judgeTwo kp krp left g a next ≡ Refused Range
+unfolding _⇒_∣_
 judge-second kp krp left g a next h v w = rw (le-ltb g a h, le-ltb 65534 a v, lt-ltb 65534 (g - a) w)
 
 pub judge-lone : (kp krp left g a next : ℕ) → a ≤ g → a ≤ 65534 → g - a ≤ 65534 → left < 2 → 0 < g - a → judgeTwo kp krp left g a next ≡ Refused Overrun
+unfolding _⇒_∣_
 judge-lone kp krp left g a next h v w l p = rw (le-ltb g a h, le-ltb 65534 a v, le-ltb 65534 (g - a) w, lt-ltb left 2 l, lt-ltb 0 (g - a) p)
 
 pub judge-pair : (kp krp left g a next q r : ℕ) → a ≤ g → a ≤ 65534 → g - a ≤ 65534 → (left < 2 → g - a ≡ 0) → q ≡ kpTwo kp a (g - a) → r ≡ krAfter krp g → judgeTwo kp krp left g a next ≡ Two a (g - a) (st next q r)
+unfolding _⇒_∣_
 judge-pair kp krp left g a next q r h v w l p s = rw (le-ltb g a h, le-ltb 65534 a v, le-ltb 65534 (g - a) w, lone-not left (g - a) l, p, s)
 
 -- ---- how many bits a number has
@@ -167,12 +175,15 @@ module _ (kp krp left : ℕ) (B : List Bool) where
   run3-got n z mid s late g next e f h = rw (e, f, h)
 
 pub run-wide : (kp krp left z s g next : ℕ) → 32766 < g → judgeRun kp krp left z s g next ≡ Refused Range
+unfolding _⇒_∣_
 run-wide kp krp left z s g next h = rw (lt-ltb 32766 g h)
 
 pub run-over : (kp krp left z s g next : ℕ) → g ≤ 32766 → left ≤ z → judgeRun kp krp left z s g next ≡ Refused Overrun
+unfolding _⇒_∣_
 run-over kp krp left z s g next h l = rw (le-ltb 32766 g h, le-leb left z l)
 
 pub run-one : (kp krp left z s g next q r : ℕ) → g ≤ 32766 → z < left → q ≡ kp - 6 → r ≡ krAfter krp g → judgeRun kp krp left z s g next ≡ One z (2 * (g + 1) - s) (st next q r)
+unfolding _⇒_∣_
 run-one kp krp left z s g next q r h l p t = rw (le-ltb 32766 g h, lt-leb left z l, p, t)
 
 -- an element by its mode

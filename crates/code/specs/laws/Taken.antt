@@ -16,7 +16,8 @@ use Rattle.bits.specs.laws.Here.{num-there, gr-there}
 use Rattle.bits.specs.declared.Num.{Num}
 use Rattle.bits.specs.declared.Num.the-variants.{Got, Cut}
 use Rattle.code.specs.laws.Code.{codeF-full, codeF-rest, codeF-single, codeF-twin}
-use Rattle.code.specs.Code.{pick, up, krAfter, size, kpOne, kpTwo, zerosOf, runBits, pairBits, codeF, InRange}
+use Rattle.whole.specs.Row.{_⇒_∣_}
+use Rattle.code.specs.Code.{up, krAfter, size, kpOne, kpTwo, zerosOf, runBits, pairBits, codeF, InRange}
 use Rattle.code.specs.ReadList.{st, judgeRun, runThird, runSecond, runFirst, runElem, oneElem, judgeTwo, twoSecond, twoElem, elemOf, whole, step, walk}
 use Rattle.code.specs.laws.There.{drop-min}
 use Rattle.code.specs.laws.Steps.{kr-le, kp-one-le, kp-two-le}
@@ -142,13 +143,13 @@ module _ (two : Bool) (kp krp left at : ℕ) (B : List Bool) (pl : 0 < left) whe
 
   -- the run's value, step by step
   told-judge : 8 ≤ kp → (z s g next : ℕ) → z < 2 ^ (kp / 8) → s < 2 → next ≡ at + 1 + kp / 8 + 1 + length (grBits (krp / 8) g) → drop at B ≡ true ∷ (numBits (kp / 8) z ++ (odd s ∷ (grBits (krp / 8) g ++ drop next B))) → Told two kp krp left at B (judgeRun kp krp left z s g next)
-  unfolding runBits
+  unfolding runBits _⇒_∣_
   told-judge h z s g next hz hs en e = go (ltb 32766 g) refl (leb left z) refl
     where
       v : ℕ
       v = 2 * (g + 1) - s
 
-      go : (b : Bool) → ltb 32766 g ≡ b → (c : Bool) → leb left z ≡ c → Told two kp krp left at B (pick b (Refused Range) (pick c (Refused Overrun) (One z v (st next (kp - 6) (krAfter krp g)))))
+      go : (b : Bool) → ltb 32766 g ≡ b → (c : Bool) → leb left z ≡ c → Told two kp krp left at B (b ⇒ Refused Range ∣ c ⇒ Refused Overrun ∣ One z v (st next (kp - 6) (krAfter krp g)))
       go true e₁ c e₂ = tt
       go false e₁ true e₂ = tt
       go false e₁ false e₂ =
@@ -182,10 +183,11 @@ module _ (two : Bool) (kp krp left at : ℕ) (B : List Bool) (pl : 0 < left) whe
 
 module _ (kp krp left at : ℕ) (B : List Bool) (pl : 0 < left) (h : kp < 8) where
   told-one : (r : Num) → grOf (krp / 8) at B ≡ r → Told false kp krp left at B (oneElem kp krp r)
+  unfolding _⇒_∣_
   told-one Cut er = tt
   told-one (Got g next) er = go (ltb 65534 g) refl
     where
-      go : (b : Bool) → ltb 65534 g ≡ b → Told false kp krp left at B (pick b (Refused Range) (One 0 g (st next (kpOne kp g) (krAfter krp g))))
+      go : (b : Bool) → ltb 65534 g ≡ b → Told false kp krp left at B (b ⇒ Refused Range ∣ One 0 g (st next (kpOne kp g) (krAfter krp g)))
       go true e = tt
       go false e =
           let r = gr-there (krp / 8) at B g next er in
@@ -206,9 +208,10 @@ module _ (kp krp left at : ℕ) (B : List Bool) (pl : 0 < left) (h : kp < 8) whe
   }
 
   told-twice : (g a mid next : ℕ) → mid ≡ at + length (grBits (krp / 8) g) → drop at B ≡ grBits (krp / 8) g ++ drop mid B → next ≡ mid + size g → drop mid B ≡ numBits (size g) a ++ drop next B → Told true kp krp left at B (judgeTwo kp krp left g a next)
+  unfolding _⇒_∣_
   told-twice g a mid next em e en e′ = go (ltb g a) refl (ltb 65534 a) refl (ltb 65534 (g - a)) refl (ltb left 2) refl (ltb 0 (g - a)) refl
     where
-      go : (b₁ : Bool) → ltb g a ≡ b₁ → (b₂ : Bool) → ltb 65534 a ≡ b₂ → (b₃ : Bool) → ltb 65534 (g - a) ≡ b₃ → (b₄ : Bool) → ltb left 2 ≡ b₄ → (b₅ : Bool) → ltb 0 (g - a) ≡ b₅ → Told true kp krp left at B (pick (pick b₁ true (pick b₂ true b₃)) (Refused Range) (pick (pick b₄ b₅ false) (Refused Overrun) (Two a (g - a) (st next (kpTwo kp a (g - a)) (krAfter krp g)))))
+      go : (b₁ : Bool) → ltb g a ≡ b₁ → (b₂ : Bool) → ltb 65534 a ≡ b₂ → (b₃ : Bool) → ltb 65534 (g - a) ≡ b₃ → (b₄ : Bool) → ltb left 2 ≡ b₄ → (b₅ : Bool) → ltb 0 (g - a) ≡ b₅ → Told true kp krp left at B ((b₁ ⇒ true ∣ b₂ ⇒ true ∣ b₃) ⇒ Refused Range ∣ (b₄ ⇒ b₅ ∣ false) ⇒ Refused Overrun ∣ Two a (g - a) (st next (kpTwo kp a (g - a)) (krAfter krp g)))
       go true e₁ b₂ e₂ b₃ e₃ b₄ e₄ b₅ e₅ = tt
       go false e₁ true e₂ b₃ e₃ b₄ e₄ b₅ e₅ = tt
       go false e₁ false e₂ true e₃ b₄ e₄ b₅ e₅ = tt
@@ -235,7 +238,7 @@ pub elem-told : (two : Bool) (kp krp left at : ℕ) (B : List Bool) → 0 < left
 unfolding elemOf
 elem-told two kp krp left at B pl = go (ltb kp 8) refl two
   where
-    go : (b : Bool) → ltb kp 8 ≡ b → (two : Bool) → Told two kp krp left at B (pick b (pick two (twoElem kp krp left B (grOf (krp / 8) at B)) (oneElem kp krp (grOf (krp / 8) at B))) (runElem kp krp left B (numOf 1 0 at (drop at B))))
+    go : (b : Bool) → ltb kp 8 ≡ b → (two : Bool) → Told two kp krp left at B (b ⇒ (two ⇒ twoElem kp krp left B (grOf (krp / 8) at B) ∣ oneElem kp krp (grOf (krp / 8) at B)) ∣ runElem kp krp left B (numOf 1 0 at (drop at B)))
     go true e true = told-two kp krp left at B pl (ltb-true kp 8 e) (grOf (krp / 8) at B) refl
     go true e false = told-one kp krp left at B pl (ltb-true kp 8 e) (grOf (krp / 8) at B) refl
     go false e two = told-high two kp krp left at B pl (ltb-false kp 8 e) (numOf 1 0 at (drop at B)) refl

@@ -15,7 +15,8 @@ use Rattle.bits.specs.laws.Bit.{val-odd, length-numBits}
 use Rattle.bits.specs.laws.Here.{past, num-here, gr-here}
 use Rattle.bits.specs.declared.Num.the-variants.{Got}
 use Rattle.code.specs.laws.Code.{codeF-full, codeF-rest, codeF-single, codeF-twin}
-use Rattle.code.specs.Code.{pick, up, krAfter, size, sizeF, kpOne, kpTwo, zerosOf, runBits, pairBits, codeF, InRange}
+use Rattle.whole.specs.Row.{_⇒_∣_}
+use Rattle.code.specs.Code.{up, krAfter, size, sizeF, kpOne, kpTwo, zerosOf, runBits, pairBits, codeF, InRange}
 use Rattle.code.specs.ReadList.{st, elemOf, lone, whole, walk}
 use Rattle.code.specs.declared.element.Element.the-variants.{Zeros, One, Two}
 
@@ -39,9 +40,10 @@ unfolding size
 size-fits g = sizeF-fits g g (omega arith)
 
 pub lone-not : (left b : ℕ) → (left < 2 → b ≡ 0) → lone left b ≡ false
+unfolding _⇒_∣_
 lone-not left b h = go (ltb left 2) refl
   where
-    go : (t : Bool) → ltb left 2 ≡ t → pick t (ltb 0 b) false ≡ false
+    go : (t : Bool) → ltb left 2 ≡ t → (t ⇒ ltb 0 b ∣ false) ≡ false
     go true e = le-ltb 0 b (omega (arith, h (ltb-true left 2 e)))
     go false e = refl
 

@@ -10,7 +10,8 @@ use lib.ListN.{length, drop, getD, length-append, length-drop, drop-of-length-le
 use lib.Seq.{drop-drop}
 use lib.Dec.{ltb, leb}
 use lib.Pow.{pow-pos, pow-mono}
-use Rattle.code.specs.Code.{InRange, pick, zerosOf, codeF, codeOf, itemOf, itemBits, itemUsed, itemKp, itemKrp}
+use Rattle.whole.specs.Row.{_⇒_∣_}
+use Rattle.code.specs.Code.{InRange, zerosOf, codeF, codeOf, itemOf, itemBits, itemUsed, itemKp, itemKrp}
 use Rattle.code.specs.laws.There.{range-drop, zeros-next}
 use Rattle.code.specs.laws.Steps.{kr-le, kp-one-le, kp-two-le}
 use Rattle.code.specs.laws.Code.{code-item}
@@ -24,7 +25,7 @@ unfolding itemOf
 item-good two kp l h r = go (ltb kp 8) two (leb (min (2 ^ (kp / 8)) (length l)) (zerosOf l)) refl
   where
     it : Bool → Bool → Bool → Item
-    it b two c = pick b (pick two (Twin (getD l 0 0) (getD l 1 0)) (Single (getD l 0 0))) (pick c Full (Run (zerosOf l) (getD l (zerosOf l) 0)))
+    it b two c = b ⇒ (two ⇒ Twin (getD l 0 0) (getD l 1 0) ∣ Single (getD l 0 0)) ∣ c ⇒ Full ∣ Run (zerosOf l) (getD l (zerosOf l) 0)
 
     go : (b two c : Bool) → leb (min (2 ^ (kp / 8)) (length l)) (zerosOf l) ≡ c → SmallItem (it b two c) × FewZeros (it b two c)
     go true true c e = ((r 0, r 1), tt)

@@ -9,9 +9,11 @@ use borrow.Author.Tests.{le-leb, leb-true}
 use lib.Dec.{leb, eqb}
 use lib.IntN.{ℤ}
 use lib.ListN.{length, take, drop, length-append, length-map}
-use lib.Seq.{take-at}
 use Rattle.whole.specs.laws.Row.{held, passes, goes-on, both}
-use Rattle.wire.specs.Le.{written}
+use Rattle.wire.specs.Mode.{isMode}
+use Rattle.wire.specs.Wrote.{writingNumber, writingLength}
+use Rattle.wire.specs.laws.Wrote.{wrote-bytes, wrote-once}
+use Rattle.wire.specs.declared.Writing.{Writing}
 use Rattle.bits.specs.laws.Bytes.{Bytes}
 use Rattle.code.specs.Code.{codeOf, codeF, itemOf, itemBits, itemUsed, itemKp, itemKrp}
 use Rattle.code.specs.laws.Code.{code-item}
@@ -19,15 +21,13 @@ use Rattle.code.specs.Fold.{foldZ}
 use Rattle.code.specs.declared.element.Item.{Item}
 use Rattle.code.specs.declared.element.Item.the-variants.{Full, Run, Single, Twin}
 use Rattle.code_write.specs.laws.Item.{size-full, size-single, size-twin, size-run}
-use Rattle.code.specs.Read.{isMode, reading, readFault, readInto, ComponentRead}
+use Rattle.code.specs.Read.{reading, readFault, readInto, ComponentRead}
 use Rattle.code.specs.OneCode.{code, Listed, Exactly}
 use Rattle.code.specs.laws.OneCode.{exactly-answers, answers-exactly}
 use Rattle.code.specs.declared.read.Reading.{Reading}
 use Rattle.code.specs.declared.read.Reading.the-variants.{Done as Read}
-use Rattle.code_write.specs.Write.{writingNumber, writingLength, bytesOf, writeFault, lengthSaid, outLeft, Wrote, ComponentWritten}
+use Rattle.code_write.specs.Write.{bytesOf, writeFault, ComponentWritten}
 use Rattle.code_write.specs.laws.Write.{bytes-written, bytes-length, bytes-only, range-is, is-range, fine, is-fine, called, is-called}
-use Rattle.code_write.specs.declared.call.Writing.{Writing}
-use Rattle.code_write.specs.declared.call.Writing.the-variants.{Done, Refused}
 
 -- ---- (a) the writer is done exactly on its conditions
 
@@ -67,22 +67,13 @@ written-read mode zs before room w l = exactly-answers mode (bytesOf mode zs) be
 pub read-written : (mode : ℕ) (s : List ℕ) (before : List ℤ) → Bytes s → readFault mode (length before) s ≡ 0 → s ≡ bytesOf mode (readInto mode s before)
 read-written mode s before h e = bytes-only mode (readInto mode s before) s h (answers-exactly mode s before (readInto mode s before) e refl .bytes)
 
-done-bytes : (f : ℕ) (bytes out out′ : List ℕ) (r : Writing) → Wrote f bytes out out′ r → writingNumber r ≡ 0 → take (writingLength r) out′ ≡ bytes
-unfolding lengthSaid outLeft written
-done-bytes zero bytes out out′ r w e = rw (w .left) (take-at bytes _ (writingLength r) (sym (w .said)))
-done-bytes (suc f) bytes out out′ r w e = absurd (omega (arith, w .number))
-
--- of any writer that keeps its promise and says 0: its output, up to the length that it said, is those bytes
-pub wrote-bytes : (mode : ℕ) (zs : List ℤ) (out out′ : List ℕ) (r : Writing) → ComponentWritten mode zs out out′ r → writingNumber r ≡ 0 → take (writingLength r) out′ ≡ bytesOf mode zs
-wrote-bytes mode zs out out′ r w e = done-bytes (writeFault mode zs (length out)) (bytesOf mode zs) out out′ r w e
-
--- and any reader that keeps its own hands the list back
+-- any writer that keeps its promise and says 0 has written those bytes (`wrote-bytes`), and any reader that keeps its own hands the list back
 pub writer-reader :
     (mode : ℕ) (zs before after : List ℤ) (out out′ : List ℕ) (r : Writing) (q : Reading) →
     ComponentWritten mode zs out out′ r → writingNumber r ≡ 0 → length before ≡ 4096 → ComponentRead mode (take (writingLength r) out′) before after q →
     (q ≡ Read (length (code mode zs))) × (after ≡ zs)
 writer-reader mode zs before after out out′ r q w e l p =
-    let b = wrote-bytes mode zs out out′ r w e in
+    let b = wrote-bytes _ (bytesOf mode zs) out out′ r w e in
     let t = written-read mode zs before (length out) (done-writes mode zs (length out) (sym (w .number) ∙ e)) l in
     (p .answer ∙ ap (reading mode (length before)) b ∙ t .0, p .list ∙ ap (λ (s : List ℕ). readInto mode s before) b ∙ t .1)
 
@@ -107,20 +98,8 @@ some-bytes mode zs l =
     let n = length-map zs foldZ in
     omega (arith, bytes-length mode zs, some-code (length (map foldZ zs)) (eqb mode 4) 8 8 (map foldZ zs) (omega arith) (omega arith))
 
--- the answer itself, by the fault's number
-abbrev pub answerOf : ℕ → List ℕ → Writing
-answerOf zero bytes = Done (length bytes)
-answerOf (suc f) bytes = Refused (suc f)
-
-wrote-answer : (f : ℕ) (bytes out out′ : List ℕ) (r : Writing) → (f ≡ 0 → 0 < length bytes) → Wrote f bytes out out′ r → r ≡ answerOf f bytes
-unfolding writingNumber writingLength lengthSaid
-wrote-answer zero bytes out out′ (Done k) s w = ap Done (w .said)
-wrote-answer zero bytes out out′ (Refused k) s w = absurd (omega (arith, w .said, s refl))
-wrote-answer (suc f) bytes out out′ (Done k) s w = absurd (omega (arith, w .number))
-wrote-answer (suc f) bytes out out′ (Refused k) s w = ap Refused (w .number)
-
-pub write-answer : (mode : ℕ) (zs : List ℤ) (out out′ : List ℕ) (r : Writing) → ComponentWritten mode zs out out′ r → r ≡ answerOf (writeFault mode zs (length out)) (bytesOf mode zs)
-write-answer mode zs out out′ r w = wrote-answer _ _ out out′ r (λ e. some-bytes mode zs (done-writes mode zs (length out) e .list .len)) w
+some-written : (mode : ℕ) (zs : List ℤ) (room : ℕ) → writeFault mode zs room ≡ 0 → 0 < length (bytesOf mode zs)
+some-written mode zs room e = some-bytes mode zs (done-writes mode zs room e .list .len)
 
 pub write-once : (mode : ℕ) (zs : List ℤ) (out a b : List ℕ) (r q : Writing) → ComponentWritten mode zs out a r → ComponentWritten mode zs out b q → (r ≡ q) × (a ≡ b)
-write-once mode zs out a b r q x y = (write-answer mode zs out a r x ∙ sym (write-answer mode zs out b q y), x .left ∙ sym (y .left))
+write-once mode zs out a b r q x y = wrote-once _ _ out a b r q (some-written mode zs (length out)) x y

@@ -15,10 +15,16 @@ use lib.Seq.{drop-cons, drop-drop, length-take-le}
 use mir.Syntax.{w32}
 use mir.Val.{SFits, ofZ, toZ}
 use mir.Facts.{toZ-ofZ}
+use Rattle.whole.specs.Among.{among, Among}
+use Rattle.whole.specs.laws.Among.{numbers}
 use Rattle.whole.specs.laws.Test.{test-l}
 use Rattle.whole.specs.laws.Row.{held, passes, fails, stops, goes-on}
-use Rattle.wire.specs.Le.{patch, written}
+use Rattle.wire.specs.Le.{patch}
 use Rattle.wire.specs.laws.Le.{patch-front}
+use Rattle.wire.specs.Mode.{isMode}
+use Rattle.wire.specs.Wrote.{Wrote}
+use Rattle.wire.specs.laws.Wrote.{refused, done}
+use Rattle.wire.specs.declared.Writing.the-variants.{Done, Refused}
 use Rattle.bits.specs.Bits.{bitsOf, numBits}
 use Rattle.bits.specs.Bytes.{Written}
 use Rattle.bits.specs.laws.Bytes.{Bytes, written-once}
@@ -29,11 +35,9 @@ use Rattle.code.specs.Code.{InRange}
 use Rattle.code.specs.laws.There.{drop-min}
 use Rattle.code.specs.Fold.{foldZ}
 use Rattle.code.specs.laws.Fold.{range-fold}
-use Rattle.code.specs.Read.{isMode}
 use Rattle.code.specs.OneCode.{code}
 use Rattle.code_write.specs.laws.Pack.{packed-length, packed-bytes, packed-written, packed-once}
-use Rattle.code_write.specs.Write.{writingNumber, writingLength, bytesOf, inRange, componentFault, callFault, writeFault, lengthSaid, outLeft, Wrote, Measures}
-use Rattle.code_write.specs.declared.call.Writing.the-variants.{Done, Refused}
+use Rattle.code_write.specs.Write.{bytesOf, inRange, componentFault, callFault, writeFault, Measures}
 use Rattle.code_write.specs.declared.call.Sized.{Sized}
 
 -- ---- the bytes of a component: the only ones that hold its code, filled up
@@ -213,17 +217,13 @@ pub is-called : (mode n : ℕ) → Called mode n → 0 ≡ callFault mode n
 unfolding callFault
 is-called mode n c = passes _ _ _ _ (c .allowed) (passes _ _ _ _ (eq-eqb n 4096 (c .long)) refl)
 
+-- ---- which numbers the call answers
+
+pub write-among : (mode : ℕ) (zs : List ℤ) (room : ℕ) → Among (0 ∷ 5 ∷ 2 ∷ 9 ∷ 6 ∷ 13 ∷ []) (writeFault mode zs room)
+unfolding writeFault callFault componentFault among
+write-among mode zs room = search numbers depth 9
+
 -- ---- one law for each answer of the call
-
-refused : (f x : ℕ) (bytes out : List ℕ) → x ≡ f → (x ≡ 0 → ⊥) → Wrote f bytes out out (Refused x)
-unfolding writingNumber writingLength lengthSaid outLeft
-refused zero x bytes out e h = absurd (h e)
-refused (suc f) x bytes out e h = record { number = e; said = refl; left = refl }
-
-done : (f k : ℕ) (bytes out out′ : List ℕ) → 0 ≡ f → k ≡ length bytes → out′ ≡ written bytes out → Wrote f bytes out out′ (Done k)
-unfolding writingNumber writingLength lengthSaid outLeft
-done zero k bytes out out′ e l w = record { number = refl; said = l; left = w }
-done (suc f) k bytes out out′ e l w = absurd (omega arith)
 
 module _ (mode : ℕ) (zs : List ℤ) (out : List ℕ) where
   pub write-call : (x : ℕ) → x ≡ callFault mode (length zs) → (x ≡ 0 → ⊥) → Wrote (writeFault mode zs (length out)) (bytesOf mode zs) out out (Refused x)

@@ -1,53 +1,74 @@
--- "For any input whatever, a public function's promise leaves one possible answer and one possible content of lent memory": one statement for each call.
-use Prim.Native.Nat.{ℕ, zero, suc, _<_}
-use mathlib.Core.Path.{_≡_, refl, sym, ap, _∙_}
-use mathlib.Core.List.{List}
+-- "For any input whatever, a public function's promise leaves one possible answer and one possible content of lent memory": the proof of `OneAnswer`, a law
+-- for each call. What was given to the second call is put for what was given to the first; then both promises say the same.
+use Prim.Native.Nat.{ℕ, _<_}
+use mathlib.Core.Path.{_≡_, refl, sym, _∙_}
 use native.Mathlib.Omega.{arith}
-use lib.IntN.{ℤ}
 use lib.ListN.{length}
 use Rattle.wire.specs.Le.{bytes16, bytes32}
-use Rattle.session.specs.declared.Session.{Session}
-use Rattle.headers.specs.Headers.{syncOf, versionsOf, channelsOf, contextOf, headersOf}
-use Rattle.code_write.specs.declared.call.Writing.{Writing}
-use Rattle.code_write.specs.declared.call.Writing.the-variants.{Done, Refused}
-use Rattle.code_write.specs.Write.{writingNumber, writingLength, lengthSaid, Wrote}
-use Rattle.code_write.specs.laws.Once.{answerOf}
-use Rattle.panel.specs.declared.HeaderReading.{HeaderReading}
-use Rattle.panel.specs.declared.FrameReading.{FrameReading}
-use Rattle.panel.specs.Panel.{headerReading, HeadersWritten, FrameRead}
+use Rattle.wire.specs.laws.Wrote.{wrote-once}
+use Rattle.headers.specs.Headers.{syncOf, versionsOf, channelsOf, contextOf, headersOf, HeadersWritten}
+use Rattle.code.specs.Read.{ComponentRead}
+use Rattle.code.specs.laws.OneCode.{read-once}
+use Rattle.code_write.specs.Write.{ComponentWritten}
+use Rattle.code_write.specs.laws.Once.{write-once}
+use Rattle.frame.specs.Frame.{FrameRead}
+use Rattle.frame.specs.laws.Glass.{one-frame}
+use Rattle.frame_write.specs.FrameWrite.{FrameWritten}
+use Rattle.frame_write.specs.laws.FrameWrite.{frame-once}
+use Rattle.demands.specs.Calls.{ReadHeader, ReadFrame, ReadComponent, WriteComponent, WriteHeaders, WriteFrame}
+use Rattle.demands.specs.Demands.{OneAnswer}
 
--- read_header; read_component, write_component and write_frame have theirs in their own crates: read-once, write-once, frame-once
-pub header-once : (s : Session) (m : List ℕ) (r q : HeaderReading) → r ≡ headerReading s m → q ≡ headerReading s m → r ≡ q
-header-once s m r q a b = a ∙ sym b
+pub header-once : (c d : ReadHeader) → c .session ≡ d .session → c .message ≡ d .message → c .answer ≡ d .answer
+header-once c d s m = c .promise ∙ rw (s, m) (sym (d .promise))
 
--- write_headers
+pub frame-read-once :
+    (c d : ReadFrame) → c .session ≡ d .session → c .message ≡ d .message → c .picture ≡ d .picture →
+    c .y ≡ d .y → c .cb ≡ d .cb → c .cr ≡ d .cr → c .scratch ≡ d .scratch →
+    (c .answer ≡ d .answer) × (c .picture′ ≡ d .picture′) × (c .y′ ≡ d .y′) × (c .cb′ ≡ d .cb′) × (c .cr′ ≡ d .cr′) × (c .scratch′ ≡ d .scratch′)
+frame-read-once c d s m p y b r t =
+    let e : FrameRead (c .session) (c .message) (c .picture) (c .y) (c .cb) (c .cr) (c .scratch) (d .picture′) (d .y′) (d .cb′) (d .cr′) (d .scratch′) (d .answer) =
+    rw (s, m, p, y, b, r, t) (d .promise) in
+    let o = one-frame _ _ _ _ _ _ _ _ _ _ _ _ _ _ _ _ _ _ _ (c .promise) e in
+    (o .answer, o .picture, o .y-list, o .cb-list, o .cr-list, o .tmp-list)
+
+pub component-once : (c d : ReadComponent) → c .mode ≡ d .mode → c .bytes ≡ d .bytes → c .list ≡ d .list → (c .answer ≡ d .answer) × (c .list′ ≡ d .list′)
+component-once c d m b l =
+    let e : ComponentRead (c .mode) (c .bytes) (c .list) (d .list′) (d .answer) = rw (m, b, l) (d .promise) in
+    read-once _ _ _ _ _ _ _ (c .promise) e
+
+pub written-once : (c d : WriteComponent) → c .mode ≡ d .mode → c .list ≡ d .list → c .out ≡ d .out → (c .answer ≡ d .answer) × (c .out′ ≡ d .out′)
+written-once c d m l o =
+    let e : ComponentWritten (c .mode) (c .list) (c .out) (d .out′) (d .answer) = rw (m, l, o) (d .promise) in
+    write-once (c .mode) (c .list) (c .out) (c .out′) (d .out′) (c .answer) (d .answer) (c .promise) e
+
 headers-long : (w h et : ℕ) → length (headersOf w h et) ≡ 47
 unfolding headersOf syncOf versionsOf channelsOf contextOf bytes16 bytes32
 headers-long w h et = refl
 
-answer-is : (f : ℕ) (bytes out out′ : List ℕ) (r : Writing) → 0 < length bytes → Wrote f bytes out out′ r → r ≡ answerOf f bytes
-unfolding writingNumber writingLength lengthSaid
-answer-is zero bytes out out′ (Done k) s w = ap Done (w .said)
-answer-is zero bytes out out′ (Refused k) s w = absurd (omega (arith, w .said))
-answer-is (suc f) bytes out out′ (Done k) s w = absurd (omega (arith, w .number))
-answer-is (suc f) bytes out out′ (Refused k) s w = ap Refused (w .number)
+some-headers : (w h et : ℕ) → 0 < length (headersOf w h et)
+some-headers w h et = omega (arith, headers-long w h et)
 
-pub headers-once : (w h et : ℕ) (out a b : List ℕ) (r q : Writing) → HeadersWritten w h et out a r → HeadersWritten w h et out b q → (r ≡ q) × (a ≡ b)
-headers-once w h et out a b r q x y =
-    let k : 0 < length (headersOf w h et) = omega (arith, headers-long w h et) in
-    (answer-is _ _ out a r k x ∙ sym (answer-is _ _ out b q k y), x .left ∙ sym (y .left))
+pub headers-once :
+    (c d : WriteHeaders) → c .width ≡ d .width → c .height ≡ d .height → c .mode ≡ d .mode → c .out ≡ d .out → (c .answer ≡ d .answer) × (c .out′ ≡ d .out′)
+headers-once c d w h m o =
+    let e : HeadersWritten (c .width) (c .height) (c .mode) (c .out) (d .out′) (d .answer) = rw (w, h, m, o) (d .promise) in
+    wrote-once _ _ (c .out) (c .out′) (d .out′) (c .answer) (d .answer) (λ z. some-headers (c .width) (c .height) (c .mode)) (c .promise) e
 
--- read_frame
-pub record SameFrame (a b : FrameReading) (pic pic′ : List ℕ) (y y′ cb cb′ cr cr′ tmp tmp′ : List ℤ) : Type 0 where
-  pub answer : a ≡ b
-  pub picture : pic ≡ pic′
-  pub y-list : y ≡ y′
-  pub cb-list : cb ≡ cb′
-  pub cr-list : cr ≡ cr′
-  pub tmp-list : tmp ≡ tmp′
+pub frame-written-once :
+    (c d : WriteFrame) → c .width ≡ d .width → c .height ≡ d .height → c .mode ≡ d .mode → c .quant ≡ d .quant → c .index ≡ d .index →
+    c .pixels ≡ d .pixels → c .list ≡ d .list → c .scratch ≡ d .scratch → c .out ≡ d .out →
+    (c .answer ≡ d .answer) × (c .list′ ≡ d .list′) × (c .scratch′ ≡ d .scratch′) × (c .out′ ≡ d .out′)
+frame-written-once c d w h m q i p l s o =
+    let e : FrameWritten (c .width) (c .height) (c .mode) (c .quant) (c .index) (c .pixels) (c .list) (d .list′) (c .scratch) (d .scratch′) (c .out) (d .out′) (d .answer) =
+    rw (w, h, m, q, i, p, l, s, o) (d .promise) in
+    frame-once _ _ _ _ _ _ _ _ _ _ _ _ _ _ _ _ _ (c .promise) e
 
-pub frame-read-once :
-    (s : Session) (m pic : List ℕ) (y cb cr tmp : List ℤ) (p p′ : List ℕ) (a a′ b b′ c c′ t t′ : List ℤ) (r q : FrameReading) →
-    FrameRead s m pic y cb cr tmp p a b c t r → FrameRead s m pic y cb cr tmp p′ a′ b′ c′ t′ q → SameFrame r q p p′ a a′ b b′ c c′ t t′
-frame-read-once s m pic y cb cr tmp p p′ a a′ b b′ c c′ t t′ r q x z =
-    record { answer = x .answer ∙ sym (z .answer); picture = x .picture ∙ sym (z .picture); y-list = x .y-list ∙ sym (z .y-list); cb-list = x .cb-list ∙ sym (z .cb-list); cr-list = x .cr-list ∙ sym (z .cr-list); tmp-list = x .tmp-list ∙ sym (z .tmp-list) }
+pub one-answer : OneAnswer
+one-answer = record {
+  read-header = header-once;
+  read-frame = frame-read-once;
+  read-component = component-once;
+  write-component = written-once;
+  write-headers = headers-once;
+  write-frame = frame-written-once;
+}

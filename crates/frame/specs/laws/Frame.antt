@@ -10,7 +10,7 @@ use lib.ListN.{length}
 use lib.Dec.{eqb, leb}
 use borrow.Author.Tests.{eqb-true, leb-true, eq-eqb, ne-eqb}
 use Rattle.whole.specs.Row.{_⨟_}
-use Rattle.whole.specs.laws.Row.{held, both, stops, goes-on, passes, fails}
+use Rattle.whole.specs.laws.Row.{held, both, stops, goes-on, passes, fails, case-yes, case-no, ne-is}
 use Rattle.frame_layout.specs.Reader.{beginFault, regionFault, endFault, frameFault, tilesFault, sizeAt, setPlace, endPlace, quantCount, quantAt, rectCount, tileCount, dataOf, tilesIn, frameTiles}
 use Rattle.frame_blocks.specs.Blocks.{setFront, rectsOf, RegionGood}
 use Rattle.frame_blocks.specs.laws.Blocks.{begin-good, region-good}
@@ -20,7 +20,8 @@ use Rattle.frame_draw.specs.Shown.{tilesDrawn}
 use Rattle.frame_draw.specs.Show.{Lists, tileWord}
 use Rattle.session.specs.Header.{ready}
 use Rattle.session.specs.declared.Session.{Session}
-use Rattle.frame.specs.Frame.{full, callFault, frontFault, framed, frameNumber, frameCount, framePicture, frameList, Cleared, FrameDone}
+use Rattle.frame.specs.Frame.{full, callFault, early, frontFault, framed, frameNumber, framePicture, frameList, Cleared, frameReading, FrameRead}
+use Rattle.frame.specs.declared.call.FrameReading.the-variants.{Done, Refused}
 
 not-0 : (k : ℕ) → 0 ≡ suc k → ⊥
 not-0 k e = omega arith
@@ -100,23 +101,30 @@ message-good w h et m e =
 
 -- ---- the three ways out
 
-module _ (s : Session) (m pic : List ℕ) (y cb cr tmp : List ℤ) (f : ℕ) (e : f ≡ callFault s (length pic) (length y) (length cb) (length cr) (length tmp)) where
+answer-refused : (n k : ℕ) (m : List ℕ) → k ≡ n → (k ≡ 0 → ⊥) → Refused k ≡ frameReading n m
+unfolding frameReading
+answer-refused n k m e h = case-no _ _ _ _ (ne-is e refl h) (ap Refused e)
+
+answer-done : (n k : ℕ) (m : List ℕ) → n ≡ 0 → k ≡ tileCount m (setPlace m) → Done k ≡ frameReading n m
+unfolding frameReading
+answer-done n k m e h = case-yes _ _ _ _ (eq-eqb n 0 e) (ap Done h)
+
+module _ (s : Session) (m pic : List ℕ) (y cb cr tmp : List ℤ) (f : ℕ) (e : f ≡ early s pic y cb cr tmp) where
   before : ℕ
-  before = callFault s (length pic) (length y) (length cb) (length cr) (length tmp)
+  before = early s pic y cb cr tmp
 
   number : ℕ
   number = frameNumber before s m
 
   -- 12 or 2: nothing was touched
-  pub frame-early : (f ≡ 0 → ⊥) → FrameDone s m pic y cb cr tmp pic y cb cr tmp (record { number = f; tiles = 0 })
-  unfolding before number frameNumber frameCount framePicture frameList
+  pub frame-early : (f ≡ 0 → ⊥) → FrameRead s m pic y cb cr tmp pic y cb cr tmp (Refused f)
+  unfolding before number frameNumber framePicture frameList
   frame-early k =
       let n : f ≡ number = stops _ _ _ (λ z. k (e ∙ z)) e in
       let z : eqb number 0 ≡ false = ne-eqb number 0 (λ x. k (n ∙ x)) in
       let z′ : eqb before 0 ≡ false = ne-eqb before 0 (λ x. k (e ∙ x)) in
       record {
-        number = n;
-        tiles = fails _ _ _ _ z refl;
+        answer = answer-refused _ _ m n k;
         picture = fails _ _ _ _ z refl;
         y-list = fails _ _ _ _ z′ refl;
         cb-list = fails _ _ _ _ z′ refl;
@@ -134,34 +142,29 @@ module _ (s : Session) (m pic : List ℕ) (y cb cr tmp : List ℤ) (f : ℕ) (e 
     passed = eq-eqb before 0 (sym e ∙ k)
 
     -- a fault of the message: the picture is as it was, the lists are cleared
-    pub frame-refused : (g ≡ 0 → ⊥) → FrameDone s m pic y cb cr tmp pic y′ cb′ cr′ tmp′ (record { number = g; tiles = 0 })
-    unfolding before number frameCount framePicture frameList
-    frame-refused l =
-        let z : eqb number 0 ≡ false = ne-eqb number 0 (λ x. l (is-number ∙ x)) in
-        record {
-          number = is-number;
-          tiles = fails _ _ _ _ z refl;
-          picture = fails _ _ _ _ z refl;
-          y-list = passes _ _ _ _ passed (c .y-is);
-          cb-list = passes _ _ _ _ passed (c .cb-is);
-          cr-list = passes _ _ _ _ passed (c .cr-is);
-          tmp-list = passes _ _ _ _ passed (c .tmp-is);
-        }
+    pub frame-refused : (g ≡ 0 → ⊥) → FrameRead s m pic y cb cr tmp pic y′ cb′ cr′ tmp′ (Refused g)
+    unfolding before number framePicture frameList
+    frame-refused l = record {
+      answer = answer-refused _ _ m is-number l;
+      picture = fails _ _ _ _ (ne-eqb number 0 (λ x. l (is-number ∙ x))) refl;
+      y-list = passes _ _ _ _ passed (c .y-is);
+      cb-list = passes _ _ _ _ passed (c .cb-is);
+      cr-list = passes _ _ _ _ passed (c .cr-is);
+      tmp-list = passes _ _ _ _ passed (c .tmp-is);
+    }
 
     -- done: the frame is drawn, the lists are cleared
-    pub frame-done : g ≡ 0 → (pic′ : List ℕ) (n : ℕ) → pic′ ≡ framed (s .mode) (s .width) (s .height) m pic → n ≡ tileCount m (setPlace m) → FrameDone s m pic y cb cr tmp pic′ y′ cb′ cr′ tmp′ (record { number = 0; tiles = n })
-    unfolding before number frameCount framePicture frameList
-    frame-done l pic′ n p t =
-        let z : eqb number 0 ≡ true = eq-eqb number 0 (sym is-number ∙ l) in
-        record {
-          number = sym l ∙ is-number;
-          tiles = passes _ _ _ _ z t;
-          picture = passes _ _ _ _ z p;
-          y-list = passes _ _ _ _ passed (c .y-is);
-          cb-list = passes _ _ _ _ passed (c .cb-is);
-          cr-list = passes _ _ _ _ passed (c .cr-is);
-          tmp-list = passes _ _ _ _ passed (c .tmp-is);
-        }
+    pub frame-done : g ≡ 0 → (pic′ : List ℕ) (n : ℕ) → pic′ ≡ framed (s .mode) (s .width) (s .height) m pic → n ≡ tileCount m (setPlace m) →
+        FrameRead s m pic y cb cr tmp pic′ y′ cb′ cr′ tmp′ (Done n)
+    unfolding before number framePicture frameList
+    frame-done l pic′ n p t = record {
+      answer = answer-done _ _ m (sym is-number ∙ l) t;
+      picture = passes _ _ _ _ (eq-eqb number 0 (sym is-number ∙ l)) p;
+      y-list = passes _ _ _ _ passed (c .y-is);
+      cb-list = passes _ _ _ _ passed (c .cb-is);
+      cr-list = passes _ _ _ _ passed (c .cr-is);
+      tmp-list = passes _ _ _ _ passed (c .tmp-is);
+    }
 
 -- width x height is no more than a word can say
 pub area-fits : (h w : ℕ) → h < 65536 → w < 65536 → h * w < 18446744073709551616

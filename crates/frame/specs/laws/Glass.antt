@@ -3,10 +3,12 @@
 -- reports numTiles, a refused one 0"; and that one answer alone meets the promise.
 use Prim.Native.Nat.{ℕ, _+_, _*_, _≤_, _<_}
 use mathlib.Core.Path.{_≡_, refl, sym, ap, _∙_}
+use mathlib.Core.Bool.{Bool, true, false}
 use mathlib.Core.List.{List}
 use lib.IntN.{ℤ}
 use lib.ListN.{length, getD}
-use borrow.Author.Tests.{eq-eqb, ne-eqb}
+use lib.Dec.{eqb}
+use borrow.Author.Tests.{eqb-true, eq-eqb, ne-eqb}
 use Rattle.whole.specs.Row.{_⇒_∣_}
 use Rattle.whole.specs.laws.Row.{passes, fails, both}
 use Rattle.frame_layout.specs.Reader.{frameTiles, setPlace, tileCount, rectCount, quantAt, frameFault}
@@ -17,44 +19,64 @@ use Rattle.frame_draw.specs.Shown.{lastTile, wordIn}
 use Rattle.frame_draw.specs.laws.Shown.{tiles-pixel, tiles-past, tiles-length}
 use Rattle.frame_draw.specs.Show.{tileWord}
 use Rattle.session.specs.declared.Session.{Session}
-use Rattle.frame.specs.declared.call.FrameAnswer.{FrameAnswer}
-use Rattle.frame.specs.Frame.{callFault, framed, frameNumber, frameCount, framePicture, FrameDone}
+use Rattle.frame.specs.declared.call.FrameReading.{FrameReading}
+use Rattle.frame.specs.Frame.{early, framed, frameNumber, framePicture, frameReadingNumber, frameReadingTiles, frameReading, FrameRead}
 use Rattle.frame.specs.laws.Frame.{CallGood, call-good}
 
-module _ (s : Session) (m pic : List ℕ) (y cb cr tmp : List ℤ) (pic′ : List ℕ) (y′ cb′ cr′ tmp′ : List ℤ) (r : FrameAnswer) (done : FrameDone s m pic y cb cr tmp pic′ y′ cb′ cr′ tmp′ r) where
-  before : ℕ
-  before = callFault s (length pic) (length y) (length cb) (length cr) (length tmp)
+-- ---- the answer by its number
+
+by-number : (n : ℕ) (m : List ℕ) (b : Bool) → eqb n 0 ≡ b → frameReadingNumber (frameReading n m) ≡ n
+unfolding frameReading frameReadingNumber _⇒_∣_
+by-number n m true e = rw e (sym (eqb-true n 0 e))
+by-number n m false e = rw e
+
+tiles-done : (n : ℕ) (m : List ℕ) → n ≡ 0 → frameReadingTiles (frameReading n m) ≡ tileCount m (setPlace m)
+unfolding frameReading frameReadingTiles _⇒_∣_
+tiles-done n m e = rw (eq-eqb n 0 e)
+
+tiles-none : (n : ℕ) (m : List ℕ) → (n ≡ 0 → ⊥) → frameReadingTiles (frameReading n m) ≡ 0
+unfolding frameReading frameReadingTiles _⇒_∣_
+tiles-none n m h = rw (ne-eqb n 0 h)
+
+module _ (s : Session) (m pic : List ℕ) (y cb cr tmp : List ℤ) (pic′ : List ℕ) (y′ cb′ cr′ tmp′ : List ℤ) (r : FrameReading)
+    (done : FrameRead s m pic y cb cr tmp pic′ y′ cb′ cr′ tmp′ r) where
+  number : ℕ
+  number = frameNumber (early s pic y cb cr tmp) s m
+
+  -- the number is that of 12, then 2, then the message's first fault
+  pub number-is : frameReadingNumber r ≡ frameNumber (early s pic y cb cr tmp) s m
+  unfolding number
+  number-is = ap frameReadingNumber (done .answer) ∙ by-number number m _ refl
 
   -- a refused frame changes no word of the picture and reports no tile
-  pub refused : (r .number ≡ 0 → ⊥) → (pic′ ≡ pic) × (r .tiles ≡ 0)
-  unfolding before framePicture frameCount
+  pub refused : (frameReadingNumber r ≡ 0 → ⊥) → (pic′ ≡ pic) × (frameReadingTiles r ≡ 0)
+  unfolding number framePicture
   refused h =
-      let z = ne-eqb (frameNumber before s m) 0 (λ x. h (done .number ∙ x)) in
-      (done .picture ∙ sym (fails _ _ _ _ z refl), done .tiles ∙ sym (fails _ _ _ _ z refl))
+      let l : number ≡ 0 → ⊥ = λ x. h (number-is ∙ x) in
+      (done .picture ∙ sym (fails _ _ _ _ (ne-eqb number 0 l) refl), ap frameReadingTiles (done .answer) ∙ tiles-none number m l)
 
   -- what holds where the answer is 0
   pub record Accepted : Type 0 where
     pub call : CallGood s (length pic) y cb cr tmp
     pub message : 0 ≡ frameFault judged (s .width) (s .height) (s .mode) m
     pub drawn : pic′ ≡ framed (s .mode) (s .width) (s .height) m pic
-    pub counted : r .tiles ≡ tileCount m (setPlace m)
+    pub counted : frameReadingTiles r ≡ tileCount m (setPlace m)
 
-  pub accepted : r .number ≡ 0 → Accepted
-  unfolding before framePicture frameCount frameNumber
+  pub accepted : frameReadingNumber r ≡ 0 → Accepted
+  unfolding number framePicture frameNumber
   accepted k =
-      let n : 0 ≡ frameNumber before s m = sym k ∙ done .number in
-      let a = both before (frameFault judged (s .width) (s .height) (s .mode) m) n in
-      let z = eq-eqb (frameNumber before s m) 0 (sym n) in
+      let n : number ≡ 0 = sym number-is ∙ k in
+      let a = both (early s pic y cb cr tmp) (frameFault judged (s .width) (s .height) (s .mode) m) (sym n) in
       record {
         call = call-good s (length pic) y cb cr tmp (a .0);
         message = a .1;
-        drawn = done .picture ∙ sym (passes _ _ _ _ z refl);
-        counted = done .tiles ∙ sym (passes _ _ _ _ z refl);
+        drawn = done .picture ∙ sym (passes _ _ _ _ (eq-eqb number 0 n) refl);
+        counted = ap frameReadingTiles (done .answer) ∙ tiles-done number m n;
       }
 
   -- every word of the channel after a done frame
   pub shown-pixel :
-      r .number ≡ 0 → (px py : ℕ) → px < s .width → py < s .height →
+      frameReadingNumber r ≡ 0 → (px py : ℕ) → px < s .width → py < s .height →
       getD pic′ (py * s .width + px) 0
       ≡ (inRegion (rectsOf m 14) (rectCount m 14) px py
       ⇒ wordIn (tileWord (s .mode) (quantAt m (setPlace m))) px py (lastTile (frameTiles m) px py) (getD pic (py * s .width + px) 0)
@@ -66,22 +88,21 @@ module _ (s : Session) (m pic : List ℕ) (y cb cr tmp : List ℤ) (pic′ : Lis
       ∙ tiles-pixel (rectsOf m 14) (rectCount m 14) (tileWord (s .mode) (quantAt m (setPlace m))) (s .width) (s .height) (frameTiles m) pic px py in-w in-h (a .call .room)
 
   -- every word past it
-  pub shown-past : r .number ≡ 0 → (i : ℕ) → s .height * s .width ≤ i → getD pic′ i 0 ≡ getD pic i 0
+  pub shown-past : frameReadingNumber r ≡ 0 → (i : ℕ) → s .height * s .width ≤ i → getD pic′ i 0 ≡ getD pic i 0
   unfolding framed
   shown-past k i l =
       ap (λ (p : List ℕ). getD p i 0) (accepted k .drawn)
       ∙ tiles-past (rectsOf m 14) (rectCount m 14) (tileWord (s .mode) (quantAt m (setPlace m))) (s .width) (s .height) (frameTiles m) pic i l
 
-  pub shown-length : r .number ≡ 0 → length pic′ ≡ length pic
+  pub shown-length : frameReadingNumber r ≡ 0 → length pic′ ≡ length pic
   unfolding framed
   shown-length k =
       ap length (accepted k .drawn)
       ∙ tiles-length (rectsOf m 14) (rectCount m 14) (tileWord (s .mode) (quantAt m (setPlace m))) (s .width) (s .height) (frameTiles m) pic
 
 -- one answer and one content of the lent memory
-pub record Same (pic pic′ : List ℕ) (y cb cr tmp y′ cb′ cr′ tmp′ : List ℤ) (a b : FrameAnswer) : Type 0 where
-  pub number : a .number ≡ b .number
-  pub tiles : a .tiles ≡ b .tiles
+pub record SameFrame (pic pic′ : List ℕ) (y cb cr tmp y′ cb′ cr′ tmp′ : List ℤ) (a b : FrameReading) : Type 0 where
+  pub answer : a ≡ b
   pub picture : pic ≡ pic′
   pub y-list : y ≡ y′
   pub cb-list : cb ≡ cb′
@@ -89,12 +110,12 @@ pub record Same (pic pic′ : List ℕ) (y cb cr tmp y′ cb′ cr′ tmp′ : L
   pub tmp-list : tmp ≡ tmp′
 
 pub one-frame :
-    (s : Session) (m pic : List ℕ) (y cb cr tmp : List ℤ) (p₁ : List ℕ) (y₁ b₁ r₁ t₁ : List ℤ) (a₁ : FrameAnswer) (p₂ : List ℕ) (y₂ b₂ r₂ t₂ : List ℤ) (a₂ : FrameAnswer) →
-    FrameDone s m pic y cb cr tmp p₁ y₁ b₁ r₁ t₁ a₁ → FrameDone s m pic y cb cr tmp p₂ y₂ b₂ r₂ t₂ a₂ → Same p₁ p₂ y₁ b₁ r₁ t₁ y₂ b₂ r₂ t₂ a₁ a₂
+    (s : Session) (m pic : List ℕ) (y cb cr tmp : List ℤ) (p₁ : List ℕ) (y₁ b₁ r₁ t₁ : List ℤ) (a₁ : FrameReading)
+    (p₂ : List ℕ) (y₂ b₂ r₂ t₂ : List ℤ) (a₂ : FrameReading) →
+    FrameRead s m pic y cb cr tmp p₁ y₁ b₁ r₁ t₁ a₁ → FrameRead s m pic y cb cr tmp p₂ y₂ b₂ r₂ t₂ a₂ → SameFrame p₁ p₂ y₁ b₁ r₁ t₁ y₂ b₂ r₂ t₂ a₁ a₂
 one-frame s m pic y cb cr tmp p₁ y₁ b₁ r₁ t₁ a₁ p₂ y₂ b₂ r₂ t₂ a₂ d e =
     record {
-      number = d .number ∙ sym (e .number);
-      tiles = d .tiles ∙ sym (e .tiles);
+      answer = d .answer ∙ sym (e .answer);
       picture = d .picture ∙ sym (e .picture);
       y-list = d .y-list ∙ sym (e .y-list);
       cb-list = d .cb-list ∙ sym (e .cb-list);

@@ -17,8 +17,8 @@ use Rattle.frame_blocks.specs.Tiles.{indexOf, codeOf}
 use Rattle.frame_blocks.specs.laws.Tiles.{sound-part, tile-sound}
 use Rattle.frame_blocks.specs.Judged.{judged, inSet}
 use Rattle.session.specs.declared.Session.{Session}
-use Rattle.frame.specs.declared.call.FrameAnswer.{FrameAnswer}
-use Rattle.frame.specs.Frame.{FrameDone}
+use Rattle.frame.specs.declared.call.FrameReading.{FrameReading}
+use Rattle.frame.specs.Frame.{frameReadingNumber, FrameRead}
 use Rattle.frame.specs.laws.Frame.{message-good}
 use Rattle.frame.specs.laws.Glass.{accepted}
 
@@ -40,8 +40,8 @@ componentNumber s m t k = judged (s .mode) (quantAt m (setPlace m) (indexOf t k)
 
 -- THE STATEMENT: a frame call that answers 0 has drawn tiles none of whose components can be refused
 pub drawn-sound :
-    (s : Session) (m pic : List ℕ) (y cb cr tmp : List ℤ) (pic′ : List ℕ) (y′ cb′ cr′ tmp′ : List ℤ) (r : FrameAnswer) →
-    FrameDone s m pic y cb cr tmp pic′ y′ cb′ cr′ tmp′ r → r .number ≡ 0 →
+    (s : Session) (m pic : List ℕ) (y cb cr tmp : List ℤ) (pic′ : List ℕ) (y′ cb′ cr′ tmp′ : List ℤ) (r : FrameReading) →
+    FrameRead s m pic y cb cr tmp pic′ y′ cb′ cr′ tmp′ r → frameReadingNumber r ≡ 0 →
     (t : Tile) → List·Memᴰ t (frameTiles m) → (k : ℕ) → k < 3 → componentNumber s m t k ≡ 0
 unfolding frameTiles inSet
 drawn-sound s m pic y cb cr tmp pic′ y′ cb′ cr′ tmp′ r done z t l k b =

@@ -10,7 +10,7 @@ use Rattle.frame_blocks.specs.Cases.{PropsCases}
 
 pub props-cases : PropsCases
 unfolding propsGood propsOf _!_⨾_
-props-cases = record { three = refl; one = refl; three-written = refl; one-written = refl }
+props-cases = record { three = refl; three-not-one = refl; one = refl; one-not-three = refl; three-written = refl; one-written = refl }
 
 -- a quantiser of 5 in either half, and one of 16, is a fault whatever stands beside it
 pub low-five : (b : ℕ) → b % 16 ≡ 5 → 7 ≡ halvesFault b

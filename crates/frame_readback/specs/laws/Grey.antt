@@ -20,7 +20,7 @@ use Rattle.bands.specs.laws.Part.{seam-near}
 use Rattle.bands.specs.Rounding.{roundAt, diffAt, differences, roundedBy}
 use Rattle.colour.specs.Colour.{lumaZ, cbZ, crZ}
 use Rattle.wave_forth.specs.laws.Forth.{forth-near}
-use Rattle.code.specs.Read.{isMode}
+use Rattle.wire.specs.laws.Mode.{is-1, is-4}
 use Rattle.code_write.specs.Write.{bytesOf}
 use Rattle.code.specs.Cases.{first}
 use Rattle.code_write.specs.Cases.{Sent}
@@ -144,9 +144,7 @@ module _ (mode : ℕ) (s : Sent mode (0x00 ∷ 0x00 ∷ 0x00 ∷ []) (first (pos
 
 -- what the read-back asks, met in both modes
 pub sendable-1 : Sendable grey 1 1 1 sixes
-unfolding isMode _⇒_∣_
-sendable-1 = record { picture = picture; ten = refl; allowed = refl; none = none-0 1 (write-cases .zeros .0) (tilesNo 1 1) 0 }
+sendable-1 = record { picture = picture; ten = refl; allowed = is-1; none = none-0 1 (write-cases .zeros .0) (tilesNo 1 1) 0 }
 
 pub sendable-4 : Sendable grey 1 1 4 sixes
-unfolding isMode _⇒_∣_
-sendable-4 = record { picture = picture; ten = refl; allowed = refl; none = none-0 4 (write-cases .zeros .1) (tilesNo 1 1) 0 }
+sendable-4 = record { picture = picture; ten = refl; allowed = is-4; none = none-0 4 (write-cases .zeros .1) (tilesNo 1 1) 0 }

@@ -1,19 +1,21 @@
 -- Our own frames read back, over the calls: 01's demand 2, the other way. The calls appear as their promises, over any values that meet
 -- them; no code is mentioned.
 -- Assumes nothing.
-use Prim.Native.Nat.{ℕ, zero, suc, _+_, _*_, _-_, _/_, _%_, _≤_, _<_}
+use Prim.Native.Nat.{ℕ, _+_, _*_, _/_, _%_, _≤_, _<_}
 use mathlib.Core.Path.{_≡_, refl, ap, ap₂, sym, _∙_, subst}
 use mathlib.Core.Bool.{true, false}
 use mathlib.Core.List.{List, _++_}
-use mathlib.Core.Logic.{_⊎_, ⊎-elim}
+use mathlib.Core.Logic.{⊎-elim}
 use native.Mathlib.Omega.{arith}
 use native.Mathlib.Nat.{div-add-mod', mul-comm}
 use lib.IntN.{ℤ}
-use lib.ListN.{length, take, drop}
+use lib.ListN.{length, take}
 use lib.Dec.{eqb}
-use lib.Seq.{take-append-seam}
 use borrow.Author.Tests.{eqb-true, eq-eqb, ne-eqb, le-leb}
-use Rattle.wire.specs.Le.{written}
+use Rattle.wire.specs.Mode.{isMode}
+use Rattle.wire.specs.Wrote.{writingNumber, writingLength}
+use Rattle.wire.specs.laws.Wrote.{wrote-bytes}
+use Rattle.wire.specs.declared.Writing.{Writing}
 use Rattle.whole.specs.Row.{_⇒_∣_}
 use Rattle.whole.specs.laws.Row.{passes, fails, both, held, goes-on, case-is, case-no}
 use Rattle.frame_layout.specs.Bytes.{Tile, quantBytes, tilesOf, frameOf, endOf}
@@ -23,14 +25,10 @@ use Rattle.frame_layout.specs.laws.ReadBack.{front, sent-small, Taken}
 use Rattle.frame_blocks.specs.Blocks.{rectsOf}
 use Rattle.bands.specs.Bands.{quantOf, summed, scaledBy}
 use Rattle.session.specs.declared.Session.{Session}
-use Rattle.session.specs.declared.HeaderAnswer.{HeaderAnswer}
-use Rattle.headers.specs.laws.Wrote as HW
-use Rattle.headers.specs.Headers.{headersOf, headersFault}
-use Rattle.headers.specs.laws.ReadBack.{FourCalls, AllTaken, our-headers}
-use Rattle.session.specs.Header.{sizeGood, modeGood, made, ready}
-use Rattle.code.specs.Read.{isMode}
-use Rattle.code_write.specs.declared.call.Writing.{Writing}
-use Rattle.code_write.specs.Write.{bytesOf, writingNumber, writingLength, lengthSaid, outLeft, Wrote}
+use Rattle.session.specs.Header.{at, sizeGood, made, ready}
+use Rattle.headers.specs.Headers.{HeadersWritten}
+use Rattle.headers.specs.laws.ReadBack.{AllTaken, our-headers}
+use Rattle.code_write.specs.Write.{bytesOf}
 use Rattle.tile_back.specs.Component.{componentFault, samplesOf}
 use Rattle.wave_back.specs.Tile.{tileBack}
 use Rattle.frame_blocks.specs.Tiles.{codeOf, indexOf}
@@ -40,9 +38,9 @@ use Rattle.frame_draw.specs.laws.Pixels.{split}
 use Rattle.frame_draw.specs.Draw.{inRegion}
 use Rattle.frame_draw.specs.Shown.{inTile, Found, found, lastTile, wordIn}
 use Rattle.frame_draw.specs.Show.{planeOf, tileWord}
-use Rattle.frame.specs.declared.call.FrameAnswer.{FrameAnswer}
-use Rattle.frame.specs.Frame.{full, callFault, frameNumber, FrameDone}
-use Rattle.frame.specs.laws.Glass.{accepted, shown-pixel, shown-past, shown-length}
+use Rattle.frame.specs.declared.call.FrameReading.{FrameReading}
+use Rattle.frame.specs.Frame.{full, callFault, early, frameNumber, frameReadingNumber, FrameRead}
+use Rattle.frame.specs.laws.Glass.{number-is, accepted, shown-pixel, shown-past, shown-length}
 use Rattle.frame_pieces.specs.Parts.{tileWith, colsOf, tilesNo}
 use Rattle.frame_write.specs.Encode.{partOf, tileP, frameP, refusals}
 use Rattle.frame_write.specs.FrameWrite.{argFault, sendFault, FrameWritten}
@@ -53,16 +51,11 @@ use Rattle.frame_readback.specs.laws.Own.{last-found, tile-place, whole-
 
 -- ---- what the writer's 0 gives
 
-wrote-frame : (f : ℕ) (frame out out′ : List ℕ) (r : Writing) → Wrote f frame out out′ r → writingNumber r ≡ 0 → take (writingLength r) out′ ≡ frame
-unfolding lengthSaid outLeft written
-wrote-frame zero frame out out′ r w e = rw (w .said, w .left) (take-append-seam frame (drop (length frame) out))
-wrote-frame (suc f) frame out out′ r w e = absurd (omega (arith, w .number, e))
-
 mode-of : (w h mode : ℕ) (q : List ℕ) (pixels list scratch : ℕ) → 0 ≡ argFault w h mode q pixels list scratch → (sizeGood w h ≡ true) × (isMode mode ≡ true)
-unfolding argFault modeGood isMode
+unfolding argFault
 mode-of w h mode q pixels list scratch e =
     let a = held (sizeGood w h) 5 _ 0 (λ z. omega arith) e in
-    let b = held (modeGood mode) 5 _ 0 (λ z. omega arith) (a .1) in
+    let b = held (isMode mode) 5 _ 0 (λ z. omega arith) (a .1) in
     (a .0, b .0)
 
 pub record Written (w h mode : ℕ) (q : List ℕ) (index : ℕ) (p out′ : List ℕ) (r : Writing) : Type 0 where
@@ -82,7 +75,7 @@ written-is w h mode q index p list list′ scratch scratch′ out out′ r ten f
     record {
       size = m .0;
       sendable = record { picture = g .picture; ten = ten; allowed = m .1; none = b .0 };
-      bytes = wrote-frame _ (frameP index w h mode q p) out out′ r (f .wrote) e;
+      bytes = wrote-bytes _ (frameP index w h mode q p) out out′ r (f .wrote) e;
     }
 
 -- ---- the tile of a pixel
@@ -167,54 +160,47 @@ module _ (p : List ℕ) (w h mode : ℕ) (q : List ℕ) (index : ℕ) (s : Senda
       ∙ word-back (tileNo w px py) (64 * (py % 64) + px % 64) (tile-among p w h mode q px py a b)
 
   -- the frame call on it, with the record that our headers give, lists of 4,096 and a picture long enough
-  abbrev pub record-of : Session
-  record-of = record { headers = 4; width = w; height = h; mode = mode }
-
-  module _ (good : sizeGood w h ≡ true) (pic : List ℕ) (y cb cr tmp : List ℤ) (pic′ : List ℕ) (y′ cb′ cr′ tmp′ : List ℤ) (r : FrameAnswer)
+  module _ (good : sizeGood w h ≡ true) (pic : List ℕ) (y cb cr tmp : List ℤ) (pic′ : List ℕ) (y′ cb′ cr′ tmp′ : List ℤ) (r : FrameReading)
       (ly : length y ≡ 4096) (lb : length cb ≡ 4096) (lr : length cr ≡ 4096) (lt : length tmp ≡ 4096) (room : h * w ≤ length pic)
-      (done : FrameDone record-of m pic y cb cr tmp pic′ y′ cb′ cr′ tmp′ r) where
-    ready-is : true ≡ ready record-of
-    unfolding ready made isMode modeGood
+      (done : FrameRead (at 4 w h mode) m pic y cb cr tmp pic′ y′ cb′ cr′ tmp′ r) where
+    ready-is : true ≡ ready (at 4 w h mode)
+    unfolding ready made
     ready-is = passes _ _ _ _ refl (case-no _ _ _ _ refl (passes _ _ _ _ good (case-no _ _ _ _ refl (passes _ _ _ _ refl (sym (s .allowed))))))
 
-    call-fine : 0 ≡ callFault record-of (length pic) (length y) (length cb) (length cr) (length tmp)
+    call-fine : 0 ≡ early (at 4 w h mode) pic y cb cr tmp
     unfolding callFault full
     call-fine =
         passes _ _ _ _ (sym ready-is) (passes _ _ _ _
         (sym (passes _ _ _ _ (eq-eqb (length y) 4096 ly) (passes _ _ _ _ (eq-eqb (length cb) 4096 lb) (passes _ _ _ _ (eq-eqb (length cr) 4096 lr) (sym (eq-eqb (length tmp) 4096 lt))))))
         (passes _ _ _ _ (le-leb (h * w) (length pic) room) refl))
 
-    number-0 : r .number ≡ 0
+    number-0 : frameReadingNumber r ≡ 0
     unfolding frameNumber
-    number-0 = done .number ∙ sym (goes-on _ _ _ (sym call-fine) (taken .fault))
+    number-0 = number-is (at 4 w h mode) m pic y cb cr tmp pic′ y′ cb′ cr′ tmp′ r done ∙ sym (goes-on _ _ _ (sym call-fine) (taken .fault))
 
     pub shown : Shown p w h q pic pic′ r
     shown = record {
       number = number-0;
-      tiles = accepted record-of m pic y cb cr tmp pic′ y′ cb′ cr′ tmp′ r done number-0 .counted ∙ taken .count;
-      word = λ px py a b. shown-pixel record-of m pic y cb cr tmp pic′ y′ cb′ cr′ tmp′ r done number-0 px py a b ∙ shown-word px py _ a b;
-      past = shown-past record-of m pic y cb cr tmp pic′ y′ cb′ cr′ tmp′ r done number-0;
-      long = shown-length record-of m pic y cb cr tmp pic′ y′ cb′ cr′ tmp′ r done number-0;
+      tiles = accepted (at 4 w h mode) m pic y cb cr tmp pic′ y′ cb′ cr′ tmp′ r done number-0 .counted ∙ taken .count;
+      word = λ px py a b. shown-pixel (at 4 w h mode) m pic y cb cr tmp pic′ y′ cb′ cr′ tmp′ r done number-0 px py a b ∙ shown-word px py _ a b;
+      past = shown-past (at 4 w h mode) m pic y cb cr tmp pic′ y′ cb′ cr′ tmp′ r done number-0;
+      long = shown-length (at 4 w h mode) m pic y cb cr tmp pic′ y′ cb′ cr′ tmp′ r done number-0;
     }
 
 -- THE STATEMENT OVER THE CALLS. Whenever our two writers are done, for the same size and mode: four header calls on our headers, from any
--- record at all, answer 0; and the frame call on our frame, with the record that they leave, work lists of 4,096 and a picture long enough,
--- answers 0, reports the number of tiles and shows at every place of the channel the word that decoding gives for the rounded
+-- record at all, answer 0 and end in (4, w, h, mode); and the frame call on our frame, with that record, work lists of 4,096 and a picture long
+-- enough, answers 0, reports the number of tiles and shows at every place of the channel the word that decoding gives for the rounded
 -- coefficients of the given pixels; nothing else changes.
 pub our-own-frames :
-    (s₀ : Session) (w h mode n k : ℕ) (ho ho′ : List ℕ) (a b c d : HeaderAnswer) →
-    HW.Wrote (headersFault w h mode (length ho)) (headersOf w h mode) ho ho′ n k → n ≡ 0 → FourCalls s₀ (take k ho′) a b c d →
+    (s₀ : Session) (w h mode : ℕ) (ho ho′ : List ℕ) (hr : Writing) → HeadersWritten w h mode ho ho′ hr → writingNumber hr ≡ 0 →
     (q : List ℕ) (index : ℕ) (p : List ℕ) (list list′ scratch scratch′ : List ℤ) (out out′ : List ℕ) (r : Writing) → length q ≡ 10 →
     FrameWritten w h mode q index p list list′ scratch scratch′ out out′ r → writingNumber r ≡ 0 →
-    (pic : List ℕ) (y cb cr tmp : List ℤ) (pic′ : List ℕ) (y′ cb′ cr′ tmp′ : List ℤ) (answer : FrameAnswer) →
+    (pic : List ℕ) (y cb cr tmp : List ℤ) (pic′ : List ℕ) (y′ cb′ cr′ tmp′ : List ℤ) (answer : FrameReading) →
     length y ≡ 4096 → length cb ≡ 4096 → length cr ≡ 4096 → length tmp ≡ 4096 → h * w ≤ length pic →
-    FrameDone (d .session) (take (writingLength r) out′) pic y cb cr tmp pic′ y′ cb′ cr′ tmp′ answer →
-    AllTaken w h mode a b c d × Shown p w h q pic pic′ answer
-our-own-frames s₀ w h mode n k ho ho′ a b c d hw e four q index p list list′ scratch scratch′ out out′ r ten fw f pic y cb cr tmp pic′ y′ cb′ cr′ tmp′ answer ly lb lr lt room done =
-    let t = our-headers s₀ w h mode n k ho ho′ a b c d hw e four in
+    FrameRead (at 4 w h mode) (take (writingLength r) out′) pic y cb cr tmp pic′ y′ cb′ cr′ tmp′ answer →
+    AllTaken s₀ w h mode (take (writingLength hr) ho′) × Shown p w h q pic pic′ answer
+our-own-frames s₀ w h mode ho ho′ hr hw e q index p list list′ scratch scratch′ out out′ r ten fw f
+    pic y cb cr tmp pic′ y′ cb′ cr′ tmp′ answer ly lb lr lt room done =
     let u = written-is w h mode q index p list list′ scratch scratch′ out out′ r ten fw f in
-    let m₀ = frameP index w h mode q p in
-    let z : d .session ≡ record-of p w h mode q index (u .sendable) = ap (λ (x : HeaderAnswer). x .session) (t .four) in
-    let d₁ = subst (λ (x : List ℕ). FrameDone (d .session) x pic y cb cr tmp pic′ y′ cb′ cr′ tmp′ answer) (u .bytes) done in
-    let d₂ = subst (λ (x : Session). FrameDone x m₀ pic y cb cr tmp pic′ y′ cb′ cr′ tmp′ answer) z d₁ in
-    (t, shown p w h mode q index (u .sendable) (u .size) pic y cb cr tmp pic′ y′ cb′ cr′ tmp′ answer ly lb lr lt room d₂)
+    let d = subst (λ (x : List ℕ). FrameRead (at 4 w h mode) x pic y cb cr tmp pic′ y′ cb′ cr′ tmp′ answer) (u .bytes) done in
+    (our-headers s₀ w h mode ho ho′ hr hw e, shown p w h mode q index (u .sendable) (u .size) pic y cb cr tmp pic′ y′ cb′ cr′ tmp′ answer ly lb lr lt room d)

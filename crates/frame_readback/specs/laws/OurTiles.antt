@@ -2,22 +2,21 @@
 -- its tiles are the ones written, and each code gives back the samples of the list that was written.
 -- Assumes nothing.
 use Prim.Native.Nat.{ℕ, _+_, _*_, _/_, _%_, _≤_, _<_}
-use mathlib.Core.Path.{_≡_, refl, ap, sym, _∙_}
-use mathlib.Core.Bool.{Bool, true, false}
+use mathlib.Core.Path.{_≡_, ap, sym, _∙_}
+use mathlib.Core.Bool.{true}
 use mathlib.Core.List.{List}
+use mathlib.Core.Logic.{⊎-elim}
 use native.Mathlib.Omega.{arith}
 use lib.IntN.{ℤ}
 use lib.ListN.{length, getD}
-use lib.Dec.{eqb}
-use borrow.Author.Tests.{eqb-true}
-use Rattle.whole.specs.Row.{_⇒_∣_}
 use Rattle.whole.specs.laws.Row.{both, goes-on}
 use Rattle.frame_layout.specs.Bytes.{quantBytes}
 use Rattle.frame_layout.specs.Reader.{codesFault}
 use Rattle.frame_layout.specs.Tiles.{Good}
 use Rattle.frame_layout.specs.laws.ReadBack.{Sent, Taken, read-back}
 use Rattle.bands.specs.Bands.{QuantGood, quantOf, summed, scaledBy, coefficientsFault}
-use Rattle.code.specs.Read.{isMode}
+use Rattle.wire.specs.Mode.{isMode}
+use Rattle.wire.specs.laws.Mode.{mode-is}
 use Rattle.code_write.specs.Write.{bytesOf}
 use Rattle.code_write.specs.laws.Write.{bytes-written}
 use Rattle.wave_back.specs.Tile.{tileBack}
@@ -85,13 +84,7 @@ pub record TileTaken (p : List ℕ) (w h mode : ℕ) (q : List ℕ) (k : ℕ) : 
   pub cr : PartTaken mode q (listOf p w h q k 2)
 
 mode-16 : (mode : ℕ) → isMode mode ≡ true → mode < 16
-unfolding isMode _⇒_∣_
-mode-16 mode e = by-mode (eqb mode 1) (eqb mode 4) refl refl e
-  where
-    by-mode : (a b : Bool) → eqb mode 1 ≡ a → eqb mode 4 ≡ b → (a ⇒ true ∣ b) ≡ true → mode < 16
-    by-mode true b p q e = let z = eqb-true mode 1 p in omega arith
-    by-mode false true p q e = let z = eqb-true mode 4 q in omega arith
-    by-mode false false p q e = let z : _≡_ {A = ℕ} 0 1 = cc in absurd (omega arith)
+mode-16 mode e = ⊎-elim {C = mode < 16} (λ z. omega arith) (λ z. omega arith) (mode-is mode e)
 
 module _ (p : List ℕ) (w h mode : ℕ) (q : List ℕ) (s : Sendable p w h mode q) where
   pub tile-taken : (k : ℕ) → k < tilesNo w h → TileTaken p w h mode q k

@@ -10,19 +10,20 @@ use borrow.Author.Tests.{le-leb, lt-leb, eqb-true}
 use lib.Dec.{eqb}
 use lib.IntN.{ℤ, pos}
 use lib.ListN.{length, replicate}
-use Rattle.whole.specs.Row.{_⨟_}
 use Rattle.whole.specs.laws.Row.{held, stops, goes-on, passes, fails}
 use Rattle.wire.specs.Le.{written}
+use Rattle.wire.specs.Mode.{isMode}
+use Rattle.wire.specs.Wrote.{Wrote}
+use Rattle.wire.specs.laws.Wrote.{refused, done, onward, wrote-once}
+use Rattle.wire.specs.declared.Writing.{Writing}
+use Rattle.wire.specs.declared.Writing.the-variants.{Done, Refused}
 use Rattle.frame_layout.specs.Bytes.{tilesOf, frameOf}
-use Rattle.session.specs.Header.{sizeGood, modeGood}
+use Rattle.session.specs.Header.{sizeGood}
 use Rattle.session.specs.laws.Header.{allowed}
 use Rattle.bands.specs.Bands.{isGood}
 use Rattle.bands.specs.laws.Band.{good-set}
-use Rattle.code_write.specs.Write.{writingNumber, writingLength, lengthSaid, outLeft, Wrote, Measures}
-use Rattle.code_write.specs.declared.call.Writing.{Writing}
-use Rattle.code_write.specs.declared.call.Writing.the-variants.{Done, Refused}
+use Rattle.code_write.specs.Write.{Measures}
 use Rattle.code_write.specs.declared.call.Sized.{Sized}
-use Rattle.code_write.specs.laws.Once.{answerOf}
 use Rattle.frame_pieces.specs.Parts.{tilesNo}
 use Rattle.frame_pieces.specs.laws.Parts.{frame-long}
 use Rattle.frame_write.specs.Encode.{tileP, refusals, frameP, Picture}
@@ -40,7 +41,7 @@ pub args-good : (w h mode : ℕ) (q p : List ℕ) (list scratch : ℕ) → 0 ≡
 unfolding argFault pixelsGood
 args-good w h mode q p list scratch e =
     let a = held (sizeGood w h) 5 _ 0 (λ z. omega arith) e in
-    let b = held (modeGood mode) 5 _ 0 (λ z. omega arith) (a .1) in
+    let b = held (isMode mode) 5 _ 0 (λ z. omega arith) (a .1) in
     let c = held (isGood q) 7 _ 0 (λ z. omega arith) (b .1) in
     let d = held (eqb (length p) (3 * (w * h))) 2 _ 0 (λ z. omega arith) (c .1) in
     let f = held (eqb list 4096) 2 _ 0 (λ z. omega arith) (d .1) in
@@ -65,16 +66,6 @@ pub size-small : (w h : ℕ) → w ≤ 4096 → h ≤ 2048 → w * h ≤ 8388608
 size-small w h a b = mul-le-mul {n₂ = 4096} {m₂ = 2048} a b
 
 -- ---- the answers
-
-refused : (f x : ℕ) (bytes out : List ℕ) → x ≡ f → (x ≡ 0 → ⊥) → Wrote f bytes out out (Refused x)
-unfolding writingNumber writingLength lengthSaid outLeft
-refused zero x bytes out e h = absurd (h e)
-refused (suc f) x bytes out e h = record { number = e; said = refl; left = refl }
-
-done : (f k : ℕ) (bytes out out′ : List ℕ) → 0 ≡ f → k ≡ length bytes → out′ ≡ written bytes out → Wrote f bytes out out′ (Done k)
-unfolding writingNumber writingLength lengthSaid outLeft
-done zero k bytes out out′ e l w = record { number = refl; said = l; left = w }
-done (suc f) k bytes out out′ e l w = absurd (omega arith)
 
 module _ (index w h mode : ℕ) (q p out : List ℕ) (n : ℕ) (count : n ≡ tilesNo w h) (s : Sized) (m : Measures (refusals p w h mode q n 0) (length (tilesOf (tileP p w h mode q) n 0)) s) where
   frame-is : frameOf index w h mode q n (tileP p w h mode q) ≡ frameP index w h mode q p
@@ -104,20 +95,15 @@ module _ (index w h mode : ℕ) (q p out : List ℕ) (n : ℕ) (count : n ≡ ti
         done _ k _ out out′ (goes-on _ _ _ (sym first-is ∙ e) (passes _ _ _ _ (le-leb (length (frameP index w h mode q p)) (length out) (omega (arith, frame-size))) refl))
         (lk ∙ ap length frame-is) (w′ ∙ ap (λ (y : List ℕ). written y out) frame-is)
 
-untouched : (f x : ℕ) (xs : List ℤ) → x ≡ f → (x ≡ 0 → ⊥) → xs ≡ workLeft f xs
+pub untouched : (f x : ℕ) (xs : List ℤ) → x ≡ f → (x ≡ 0 → ⊥) → xs ≡ workLeft f xs
 unfolding workLeft
 untouched zero x xs e h = absurd (h e)
 untouched (suc f) x xs e h = refl
 
-cleared : (f : ℕ) (xs ys : List ℤ) → 0 ≡ f → ys ≡ replicate 4096 (pos 0) → ys ≡ workLeft f xs
+pub cleared : (f : ℕ) (xs ys : List ℤ) → 0 ≡ f → ys ≡ replicate 4096 (pos 0) → ys ≡ workLeft f xs
 unfolding workLeft
 cleared zero xs ys e c = c
 cleared (suc f) xs ys e c = absurd (omega arith)
-
-onward : (f g : ℕ) (bytes out out′ : List ℕ) (r : Writing) → 0 ≡ f → Wrote g bytes out out′ r → Wrote (f ⨟ g) bytes out out′ r
-unfolding _⨟_
-onward zero g bytes out out′ r e w = w
-onward (suc f) g bytes out out′ r e w = absurd (omega arith)
 
 module _ (w h mode : ℕ) (q : List ℕ) (index : ℕ) (p : List ℕ) (list scratch : List ℤ) (out : List ℕ) (x : ℕ) (is : x ≡ argFault w h mode q (length p) (length list) (length scratch)) where
   pub all-refused : (x ≡ 0 → ⊥) → FrameWritten w h mode q index p list list scratch scratch out out (Refused x)
@@ -142,15 +128,8 @@ some-frame : (index w h mode : ℕ) (q p : List ℕ) → 0 < length (frameP inde
 unfolding frameP
 some-frame index w h mode q p = omega (arith, frame-long index w h mode q (tilesNo w h) (tileP p w h mode q))
 
-wrote-answer : (f : ℕ) (bytes out out′ : List ℕ) (r : Writing) → 0 < length bytes → Wrote f bytes out out′ r → r ≡ answerOf f bytes
-unfolding writingNumber writingLength lengthSaid
-wrote-answer zero bytes out out′ (Done k) s w = ap Done (w .said)
-wrote-answer zero bytes out out′ (Refused k) s w = absurd (omega (arith, w .said))
-wrote-answer (suc f) bytes out out′ (Done k) s w = absurd (omega (arith, w .number))
-wrote-answer (suc f) bytes out out′ (Refused k) s w = ap Refused (w .number)
-
 pub frame-once : (w h mode : ℕ) (q : List ℕ) (index : ℕ) (p : List ℕ) (list a a′ scratch b b′ : List ℤ) (out c c′ : List ℕ) (r r′ : Writing) →
     FrameWritten w h mode q index p list a scratch b out c r → FrameWritten w h mode q index p list a′ scratch b′ out c′ r′ → (r ≡ r′) × (a ≡ a′) × (b ≡ b′) × (c ≡ c′)
 frame-once w h mode q index p list a a′ scratch b b′ out c c′ r r′ x y =
-    let s = some-frame index w h mode q p in
-    (wrote-answer _ _ out c r s (x .wrote) ∙ sym (wrote-answer _ _ out c′ r′ s (y .wrote)), x .first ∙ sym (y .first), x .second ∙ sym (y .second), x .wrote .left ∙ sym (y .wrote .left))
+    let o = wrote-once _ _ out c c′ r r′ (λ z. some-frame index w h mode q p) (x .wrote) (y .wrote) in
+    (o .0, x .first ∙ sym (y .first), x .second ∙ sym (y .second), o .1)

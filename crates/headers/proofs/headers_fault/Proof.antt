@@ -1,12 +1,9 @@
+-- `headers_fault` meets its contract: each return is read off the row of `headersFault`.
 use Rattle.whole.specs.laws.Row.{rows}
 use Rattle.headers.specs.Headers.{headersFault}
 use borrow.Author.Needs.{needs}
 use Rattle.headers.proofs.headers_fault.Statement.{statement}
 use Rattle.headers.proofs.headers_fault.Tie as tie
-use Rattle.headers.proofs.headers_fault.Reads as reads
-use Rattle.headers.proofs.headers_fault.Lts as lts
-use Rattle.session.proofs.is_mode.Reads as is-mode-reads
-use Rattle.session.proofs.is_size.Reads as is-size-reads
 
 is-size-requires : tie.Need-is-size-requires
 is-size-requires c κs = search needs

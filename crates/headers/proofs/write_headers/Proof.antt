@@ -1,16 +1,13 @@
+-- `write_headers` meets its contract: the ways out are those of every writer (wire's `refused` and `done`), and the four blocks are 47 bytes.
 use Rattle.headers.specs.laws.Headers.{writable}
 use mathlib.Core.Path.{refl, sym, _∙_}
 use native.Mathlib.Omega.{arith}
 use Rattle.wire.specs.Le.{bytes16, bytes32}
 use Rattle.headers.specs.Headers.{headersOf, syncOf, versionsOf, channelsOf, contextOf}
-use Rattle.headers.specs.laws.Wrote.{refused, done}
+use Rattle.wire.specs.laws.Wrote.{refused, done}
 use borrow.Author.Needs.{needs}
 use Rattle.headers.proofs.write_headers.Statement.{statement}
 use Rattle.headers.proofs.write_headers.Tie as tie
-use Rattle.headers.proofs.write_headers.Reads as reads
-use Rattle.headers.proofs.write_headers.Lts as lts
-use Rattle.headers.proofs.headers_fault.Reads as headers-fault-reads
-use Rattle.headers.proofs.put_headers.Reads as put-headers-reads
 
 headers-fault-requires : tie.Need-headers-fault-requires
 headers-fault-requires c κs = search needs
@@ -19,14 +16,19 @@ returns : tie.Need-returns
 returns c = refused _ _ _ _ (c .before .headers-fault .ensures) (c .if1 .taken)
 
 put-headers-requires : tie.Need-put-headers-requires
-put-headers-requires c κs = let k = writable _ _ _ _ (sym (c .before .if1 .left) ∙ c .before .before .headers-fault .ensures) in (omega (arith, k .fits), omega arith)
+put-headers-requires c κs =
+    let k = writable _ _ _ _ (sym (c .before .if1 .left) ∙ c .before .before .headers-fault .ensures) in
+    (omega (arith, k .fits), omega arith)
 
 same-length : tie.Need-same-length
 same-length c = search needs
 
 returns-2 : tie.Need-returns-2
 unfolding bytes16 bytes32 headersOf syncOf versionsOf channelsOf contextOf
-returns-2 c = done _ _ _ _ _ (sym (c .before .before .before .before .if1 .left) ∙ c .before .before .before .before .before .headers-fault .ensures) refl (c .before .before .put-headers .ensures)
+returns-2 c =
+    let p = c .before .before .before .before in
+    let q = p .before in
+    done _ _ _ _ _ (sym (p .if1 .left) ∙ q .headers-fault .ensures) refl (c .before .before .put-headers .ensures)
 
 pub write-headers-spec : {M : Type 1} → statement M
 write-headers-spec =

@@ -1,21 +1,19 @@
--- The calls for C are the panel's own: each promise follows from that call's answer, and gives it back, so the demands hold of them too. And each
--- promise leaves one number, one value and one content of every list.
+-- The calls for C are the panel's own: each promise follows from that call's answer.
 use Prim.Native.Nat.{ℕ}
 use mathlib.Core.Path.{_≡_, refl, ap, _∙_, subst}
 use mathlib.Core.List.{List}
 use lib.IntN.{ℤ}
+use Rattle.wire.specs.declared.Writing.{Writing}
+use Rattle.wire.specs.Wrote.{writingNumber, writingLength, Wrote}
 use Rattle.session.specs.declared.Session.{Session}
+use Rattle.session.specs.declared.HeaderReading.{HeaderReading}
+use Rattle.session.specs.Header.{headerNumber, headerRecord, headerReading}
 use Rattle.code.specs.declared.read.Reading.{Reading}
 use Rattle.code.specs.Read.{readingNumber, readingBits, ComponentRead}
-use Rattle.code_write.specs.declared.call.Writing.{Writing}
-use Rattle.code_write.specs.Write.{writingNumber, writingLength, Wrote}
+use Rattle.frame.specs.declared.call.FrameReading.{FrameReading}
+use Rattle.frame.specs.Frame.{frameReadingNumber, frameReadingTiles, FrameRead}
 use Rattle.frame_write.specs.FrameWrite.{FrameWritten}
-use Rattle.panel.specs.declared.HeaderReading.{HeaderReading}
-use Rattle.panel.specs.declared.FrameReading.{FrameReading}
-use Rattle.panel.specs.Panel.{headerNumber, headerRecord, headerReading, frameReadingNumber, frameReadingTiles, FrameRead}
 use Rattle.panel.specs.Edge.{ReadHeaderCall, ReadFrameCall, ReadComponentCall, WriterCall, WriteFrameCall}
-
--- ---- from the panel's calls
 
 pub header-call : (s s′ : Session) (m : List ℕ) (n : ℕ) (h : HeaderReading) → h ≡ headerReading s m → n ≡ headerNumber h → s′ ≡ headerRecord h s → ReadHeaderCall s s′ m n
 header-call s s′ m n h e f g = record { number = f ∙ ap headerNumber e; session = g ∙ ap (λ (x : HeaderReading). headerRecord x s) e }

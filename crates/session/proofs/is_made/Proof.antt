@@ -1,12 +1,9 @@
+-- `is_made` meets its contract: each return is read off the rows of `made`.
 use Rattle.whole.specs.laws.Row.{rows}
 use Rattle.session.specs.Header.{made}
 use borrow.Author.Needs.{needs}
 use Rattle.session.proofs.is_made.Statement.{statement}
 use Rattle.session.proofs.is_made.Tie as tie
-use Rattle.session.proofs.is_made.Reads as reads
-use Rattle.session.proofs.is_made.Lts as lts
-use Rattle.session.proofs.is_mode.Reads as is-mode-reads
-use Rattle.session.proofs.is_size.Reads as is-size-reads
 
 returns : tie.Need-returns
 unfolding made

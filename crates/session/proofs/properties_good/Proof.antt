@@ -1,13 +1,10 @@
+-- `properties_good` meets its contract: each return is read off the row of `propertiesGood`.
 use mathlib.Core.Path.{refl}
 use Rattle.whole.specs.laws.Row.{rows, passes, fails}
 use Rattle.session.specs.Header.{propertiesGood}
 use borrow.Author.Needs.{needs}
 use Rattle.session.proofs.properties_good.Statement.{statement}
 use Rattle.session.proofs.properties_good.Tie as tie
-use Rattle.session.proofs.properties_good.Reads as reads
-use Rattle.session.proofs.properties_good.Lts as lts
-use Rattle.session.proofs.et_of.Reads as et-of-reads
-use Rattle.session.proofs.is_mode.Reads as is-mode-reads
 
 returns : tie.Need-returns
 unfolding propertiesGood

@@ -1,12 +1,13 @@
 -- Cases of 01 on the header call, computed by the definitions.
 use mathlib.Core.Path.{refl}
 use Rattle.wire.specs.Le.{le16, le32}
+use Rattle.wire.specs.Mode.{isMode}
 use Rattle.whole.specs.Row.{_!_⨾_, _⇒_∣_, _⨟_}
-use Rattle.session.specs.Header.{sizeGood, modeGood, made, ready, due, sizeOf, syncJudge, versionsJudge, channelsJudge, propertiesGood, contextJudge, etOf, syncFault, versionsFault, channelsFault, contextFault, fieldFault, headJudge, headerFault, recordAfter, headerOf}
+use Rattle.session.specs.Header.{sizeGood, made, ready, due, sizeOf, syncJudge, versionsJudge, channelsJudge, propertiesGood, contextJudge, etOf, syncFault, versionsFault, channelsFault, contextFault, fieldFault, headJudge, headerFault, recordAfter, headerReading}
 use Rattle.session.specs.Cases.{Cases}
 
 pub cases : Cases
-unfolding le16 le32 _!_⨾_ _⇒_∣_ _⨟_ sizeGood modeGood made ready due sizeOf syncJudge versionsJudge channelsJudge propertiesGood contextJudge etOf syncFault versionsFault channelsFault contextFault fieldFault headJudge headerFault recordAfter headerOf
+unfolding le16 le32 _!_⨾_ _⇒_∣_ _⨟_ sizeGood isMode made ready due sizeOf syncJudge versionsJudge channelsJudge propertiesGood contextJudge etOf syncFault versionsFault channelsFault contextFault fieldFault headJudge headerFault recordAfter headerReading
 cases = record {
   sync-taken = refl;
   versions-taken = refl;

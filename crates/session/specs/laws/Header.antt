@@ -1,19 +1,21 @@
 -- What holds of a record that is ready and of a header message in which nothing is wrong.
 use Prim.Native.Nat.{ℕ, _≤_}
-use mathlib.Core.Path.{_≡_, refl, sym, _∙_}
+use mathlib.Core.Path.{_≡_, refl, sym}
 use mathlib.Core.Bool.{Bool, true, false, true≢false}
-use mathlib.Core.Logic.{_⊎_, inl, inr, ⊎-elim}
+use mathlib.Core.Logic.{_⊎_}
 use mathlib.Core.List.{List}
 use native.Mathlib.Omega.{arith}
 use lib.ListN.{length}
 use lib.Dec.{eqb}
-use borrow.Author.Tests.{leb-true, eqb-true, le-ltb, ne-eqb}
+use borrow.Author.Tests.{leb-true, eqb-true, eqb-false, le-ltb, eq-eqb, ne-eqb}
 use Rattle.whole.specs.Row.{_⇒_∣_}
 use Rattle.wire.specs.Le.{le16, le32}
-use Rattle.whole.specs.laws.Row.{held, both, case-not}
+use Rattle.wire.specs.Mode.{isMode}
+use Rattle.wire.specs.laws.Mode.{mode-is}
+use Rattle.whole.specs.laws.Row.{held, both, case-yes, case-no, case-not}
 use Rattle.session.specs.declared.Session.{Session}
-use Rattle.session.specs.declared.HeaderAnswer.{HeaderAnswer}
-use Rattle.session.specs.Header.{sizeGood, modeGood, made, ready, sizeOf, due, headJudge, headerFault, fieldFault, headerOf}
+use Rattle.session.specs.declared.HeaderReading.the-variants.{Taken, Refused}
+use Rattle.session.specs.Header.{sizeGood, made, ready, sizeOf, due, headJudge, headerFault, fieldFault, recordAfter, headerNumber, headerReading}
 
 -- the bytes of each type
 pub size0 : (t : ℕ) → t ≡ 0xCCC0 → sizeOf t ≡ 12
@@ -72,16 +74,7 @@ pub record Allowed (w h et : ℕ) : Type 0 where
   pub most-h : h ≤ 2048
   pub mode : (et ≡ 1) ⊎ (et ≡ 4)
 
-either : (t b : Bool) → (t ⇒ true ∣ b) ≡ true → (t ≡ true) ⊎ (b ≡ true)
-unfolding _⇒_∣_
-either true b e = inl refl
-either false b e = inr e
-
-pub mode-is : (et : ℕ) → modeGood et ≡ true → (et ≡ 1) ⊎ (et ≡ 4)
-unfolding modeGood
-mode-is et e = ⊎-elim (λ q. inl (eqb-true et 1 q)) (λ q. inr (eqb-true et 4 q)) (either (eqb et 1) (eqb et 4) e)
-
-pub allowed : (w h mode : ℕ) → sizeGood w h ≡ true → modeGood mode ≡ true → Allowed w h mode
+pub allowed : (w h mode : ℕ) → sizeGood w h ≡ true → isMode mode ≡ true → Allowed w h mode
 unfolding sizeGood
 allowed w h mode e f =
     let a = held _ _ _ _ true≢false (sym e) in
@@ -100,7 +93,7 @@ pub record Ready (s : Session) : Type 0 where
   pub headers : s .headers ≡ 4
   pub allowed : Allowed (s .width) (s .height) (s .mode)
 
-made-four : (headers w h mode : ℕ) → headers ≡ 4 → made headers w h mode ≡ true → (sizeGood w h ≡ true) × (modeGood mode ≡ true)
+made-four : (headers w h mode : ℕ) → headers ≡ 4 → made headers w h mode ≡ true → (sizeGood w h ≡ true) × (isMode mode ≡ true)
 unfolding made
 made-four headers w h mode q e =
     let a = case-not _ _ _ _ (le-ltb headers 3 (omega arith)) (sym e) in
@@ -116,6 +109,21 @@ ready-good s e =
     let b = made-four _ _ _ _ q (sym (a .1)) in
     record { headers = q; allowed = allowed _ _ _ (b .0) (b .1) }
 
--- one answer alone meets the promise
-pub one-answer : (s : Session) (m : List ℕ) (a b : HeaderAnswer) → a ≡ headerOf s m → b ≡ headerOf s m → a ≡ b
-one-answer s m a b e f = e ∙ sym f
+-- ---- the answer, by the first fault
+
+pub header-taken : (s : Session) (m : List ℕ) → headerFault s m ≡ 0 → headerReading s m ≡ Taken (recordAfter s m)
+unfolding headerReading
+header-taken s m e = sym (case-yes _ _ _ _ (eq-eqb (headerFault s m) 0 e) refl)
+
+pub header-refused : (s : Session) (m : List ℕ) → (headerFault s m ≡ 0 → ⊥) → headerReading s m ≡ Refused (headerFault s m)
+unfolding headerReading
+header-refused s m h = sym (case-no _ _ _ _ (ne-eqb (headerFault s m) 0 h) refl)
+
+-- the number is the first fault's
+number-by : (s : Session) (m : List ℕ) (b : Bool) → eqb (headerFault s m) 0 ≡ b → headerNumber (headerReading s m) ≡ headerFault s m
+unfolding headerNumber
+number-by s m true e = let z = eqb-true (headerFault s m) 0 e in rw (header-taken s m z) (sym z)
+number-by s m false e = rw (header-refused s m (eqb-false (headerFault s m) 0 e)) refl
+
+pub reading-number : (s : Session) (m : List ℕ) → headerNumber (headerReading s m) ≡ headerFault s m
+reading-number s m = number-by s m _ refl

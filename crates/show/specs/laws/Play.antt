@@ -8,8 +8,8 @@ use borrow.Author.Tests.{lt-ltb, le-ltb}
 use Rattle.whole.specs.laws.Row.{fails, passes}
 use Rattle.session.specs.declared.Session.{Session}
 use Rattle.frame.specs.Frame.{callFault, frameNumber, framePicture}
-use Rattle.panel.specs.declared.HeaderReading.{HeaderReading}
-use Rattle.panel.specs.Panel.{headerReading, headerRecord}
+use Rattle.session.specs.declared.HeaderReading.{HeaderReading}
+use Rattle.session.specs.Header.{headerReading, headerRecord}
 use Rattle.app_stream.specs.declared.Call.{Call}
 use Rattle.app_stream.specs.declared.Call.the-variants.{Header, Frame, End}
 use Rattle.app_stream.specs.Split.{callAt, partOf}

@@ -12,7 +12,8 @@ use Rattle.whole.specs.Row.{_⨟_}
 use Rattle.whole.specs.laws.Row.{held, goes-on, both}
 use Rattle.whole.specs.Tab.{at}
 use Rattle.bits.specs.Bytes.{Written}
-use Rattle.code.specs.Read.{isMode, readFault, decoded}
+use Rattle.wire.specs.Mode.{isMode}
+use Rattle.code.specs.Read.{readFault, decoded}
 use Rattle.code.specs.OneCode.{code, Listed}
 use Rattle.code.specs.laws.OneCode.{written-decoded}
 use Rattle.bands.specs.Bands.{allIn, rangeFault, sumsFault, summed, scaleFault, scaledBy, coefficientsFault}

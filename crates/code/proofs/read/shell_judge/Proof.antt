@@ -1,3 +1,4 @@
+-- `shell_judge` meets its contract: each return is read off the row of `shellFault`, the mode by what `is_mode` says.
 use mathlib.Core.Path.{refl, sym, _∙_}
 use borrow.Author.Tests.{not-true, not-false}
 use Rattle.whole.specs.laws.Row.{rows, passes, fails}
@@ -5,9 +6,6 @@ use Rattle.code.specs.Read.{shellFault}
 use borrow.Author.Needs.{needs}
 use Rattle.code.proofs.read.shell_judge.Statement.{statement}
 use Rattle.code.proofs.read.shell_judge.Tie as tie
-use Rattle.code.proofs.read.shell_judge.Reads as reads
-use Rattle.code.proofs.read.shell_judge.Lts as lts
-use Rattle.code.proofs.read.is_mode.Reads as is-mode-reads
 
 is-mode-requires : tie.Need-is-mode-requires
 is-mode-requires c κs = search needs
@@ -22,11 +20,15 @@ returns-2 c = passes _ _ _ _ (sym (c .before .before .is-mode .ensures) ∙ not-
 
 returns-3 : tie.Need-returns-3
 unfolding shellFault
-returns-3 c = passes _ _ _ _ (sym (c .before .before .before .is-mode .ensures) ∙ not-false (c .before .before .before .is-mode .result) (c .before .before .if1 .left)) (search rows)
+returns-3 c =
+    let p = c .before .before .before in
+    passes _ _ _ _ (sym (p .is-mode .ensures) ∙ not-false (p .is-mode .result) (c .before .before .if1 .left)) (search rows)
 
 returns-4 : tie.Need-returns-4
 unfolding shellFault
-returns-4 c = passes _ _ _ _ (sym (c .before .before .before .is-mode .ensures) ∙ not-false (c .before .before .before .is-mode .result) (c .before .before .if1 .left)) (search rows)
+returns-4 c =
+    let p = c .before .before .before in
+    passes _ _ _ _ (sym (p .is-mode .ensures) ∙ not-false (p .is-mode .result) (c .before .before .if1 .left)) (search rows)
 
 pub shell-judge-spec : {M : Type 1} → statement M
 shell-judge-spec = tie.close (tie.spec is-mode-requires returns returns-2 returns-3 returns-4)

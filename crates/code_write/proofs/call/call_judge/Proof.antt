@@ -1,3 +1,4 @@
+-- `call_judge` meets its contract: each return is read off the row of `callFault`, the mode by what `is_mode` says.
 use mathlib.Core.Path.{refl, sym, _∙_}
 use borrow.Author.Tests.{not-true, not-false}
 use Rattle.whole.specs.laws.Row.{rows, passes, fails}
@@ -5,9 +6,6 @@ use Rattle.code_write.specs.Write.{callFault}
 use borrow.Author.Needs.{needs}
 use Rattle.code_write.proofs.call.call_judge.Statement.{statement}
 use Rattle.code_write.proofs.call.call_judge.Tie as tie
-use Rattle.code_write.proofs.call.call_judge.Reads as reads
-use Rattle.code_write.proofs.call.call_judge.Lts as lts
-use Rattle.code_write.proofs.call.is_mode.Reads as is-mode-reads
 
 is-mode-requires : tie.Need-is-mode-requires
 is-mode-requires c κs = search needs

@@ -1,3 +1,4 @@
+-- `take_frame` meets its contract: one law of specs/laws/Frame for each of the three ways out; the lists keep their lengths from call to call.
 use mathlib.Core.Path.{refl, sym, _∙_}
 use denote.Ref.{now}
 use Rattle.frame_draw.specs.laws.Show.{lists-kept}
@@ -5,12 +6,6 @@ use Rattle.frame.specs.laws.Frame.{call-good, frame-early, frame-refused
 use borrow.Author.Needs.{needs}
 use Rattle.frame.proofs.call.take_frame.Statement.{statement}
 use Rattle.frame.proofs.call.take_frame.Tie as tie
-use Rattle.frame.proofs.call.take_frame.Reads as reads
-use Rattle.frame.proofs.call.take_frame.Lts as lts
-use Rattle.frame.proofs.call.call_judge.Reads as call-judge-reads
-use Rattle.frame.proofs.call.clear_all.Reads as clear-all-reads
-use Rattle.frame.proofs.call.draw_frame.Reads as draw-frame-reads
-use Rattle.frame.proofs.call.message_fault.Reads as message-fault-reads
 
 cast-w : tie.Need-cast-w
 cast-w c = search needs
@@ -22,13 +17,26 @@ call-judge-requires : tie.Need-call-judge-requires
 call-judge-requires c κs = search needs
 
 returns : tie.Need-returns
-returns c = frame-early (c .before .before .before .before .before .before .args .s) (now (c .before .before .before .before .before .before .args .m)) (now (c .before .before .before .before .before .before .args .picture)) (now (c .before .before .before .before .before .before .args .ys)) (now (c .before .before .before .before .before .before .args .cbs)) (now (c .before .before .before .before .before .before .args .crs)) (now (c .before .before .before .before .before .before .args .tmp)) (c .before .call-judge .result) (c .before .call-judge .ensures) (c .if1 .taken)
+returns c =
+    let a = c .before .before .before .before .before .before .args in
+    frame-early (a .s) (now (a .m)) (now (a .picture)) (now (a .ys)) (now (a .cbs)) (now (a .crs)) (now (a .tmp)) (c .before .call-judge .result)
+    (c .before .call-judge .ensures) (c .if1 .taken)
 
 message-fault-requires : tie.Need-message-fault-requires
-message-fault-requires c κs = let g = call-good (c .before .before .before .before .before .before .before .args .s) _ (now (c .before .before .before .before .before .before .before .args .ys)) (now (c .before .before .before .before .before .before .before .args .cbs)) (now (c .before .before .before .before .before .before .before .args .crs)) (now (c .before .before .before .before .before .before .before .args .tmp)) (sym (c .before .if1 .left) ∙ c .before .before .call-judge .ensures) in g .lists .tmp-len
+message-fault-requires c κs =
+    let a = c .before .before .before .before .before .before .before .args in
+    let g = call-good (a .s) _ (now (a .ys)) (now (a .cbs)) (now (a .crs)) (now (a .tmp))
+    (sym (c .before .if1 .left) ∙ c .before .before .call-judge .ensures) in
+    g .lists .tmp-len
 
 clear-all-requires : tie.Need-clear-all-requires
-clear-all-requires c κs = let g = call-good (c .before .before .before .before .before .before .before .before .before .before .before .before .before .before .args .s) _ (now (c .before .before .before .before .before .before .before .before .before .before .before .before .before .before .args .ys)) (now (c .before .before .before .before .before .before .before .before .before .before .before .before .before .before .args .cbs)) (now (c .before .before .before .before .before .before .before .before .before .before .before .before .before .before .args .crs)) (now (c .before .before .before .before .before .before .before .before .before .before .before .before .before .before .args .tmp)) (sym (c .before .before .before .before .before .before .before .before .if1 .left) ∙ c .before .before .before .before .before .before .before .before .before .call-judge .ensures) in lists-kept _ _ _ _ _ _ _ _ (g .lists) refl refl refl (c .before .before .before .before .before .before .message-fault .kept .1 .1 .1 .1 .0)
+clear-all-requires c κs =
+    let p = c .before .before .before .before .before .before in
+    let q = p .before .before in
+    let r = q .before in
+    let a = r .before .before .before .before .before .args in
+    let g = call-good (a .s) _ (now (a .ys)) (now (a .cbs)) (now (a .crs)) (now (a .tmp)) (sym (q .if1 .left) ∙ r .call-judge .ensures) in
+    lists-kept _ _ _ _ _ _ _ _ (g .lists) refl refl refl (p .message-fault .kept .1 .1 .1 .1 .0)
 
 same-length : tie.Need-same-length
 same-length c = search needs
@@ -43,13 +51,39 @@ same-length-4 : tie.Need-same-length-4
 same-length-4 c = search needs
 
 returns-2 : tie.Need-returns-2
-returns-2 c = frame-refused (c .before .before .before .before .before .before .before .before .before .before .before .before .before .before .before .before .before .before .before .args .s) (now (c .before .before .before .before .before .before .before .before .before .before .before .before .before .before .before .before .before .before .before .args .m)) (now (c .before .before .before .before .before .before .before .before .before .before .before .before .before .before .before .before .before .before .before .args .picture)) (now (c .before .before .before .before .before .before .before .before .before .before .before .before .before .before .before .before .before .before .before .args .ys)) (now (c .before .before .before .before .before .before .before .before .before .before .before .before .before .before .before .before .before .before .before .args .cbs)) (now (c .before .before .before .before .before .before .before .before .before .before .before .before .before .before .before .before .before .before .before .args .crs)) (now (c .before .before .before .before .before .before .before .before .before .before .before .before .before .before .before .before .before .before .before .args .tmp)) (c .before .before .before .before .before .before .before .before .before .before .before .before .before .before .call-judge .result) (c .before .before .before .before .before .before .before .before .before .before .before .before .before .before .call-judge .ensures) (c .before .before .before .before .before .before .before .before .before .before .before .before .before .if1 .left) _ _ _ _ (c .before .before .before .before .clear-all .ensures) (c .before .before .before .before .before .before .before .before .before .before .before .message-fault .result) (c .before .before .before .before .before .before .before .before .before .before .before .message-fault .ensures) (c .before .before .before .before .before .before .before .before .before .if2 .taken)
+returns-2 c =
+    let p = c .before .before .before .before in
+    let q = p .before .before .before .before .before in
+    let r = q .before .before in
+    let t = r .before .before in
+    let u = t .before in
+    let a = u .before .before .before .before .before .args in
+    frame-refused (a .s) (now (a .m)) (now (a .picture)) (now (a .ys)) (now (a .cbs)) (now (a .crs)) (now (a .tmp)) (u .call-judge .result)
+    (u .call-judge .ensures) (t .if1 .left) _ _ _ _ (p .clear-all .ensures) (r .message-fault .result) (r .message-fault .ensures) (q .if2 .taken)
 
 draw-frame-requires : tie.Need-draw-frame-requires
-draw-frame-requires c κs = let g = call-good (c .before .before .before .before .before .before .before .before .before .before .before .before .before .before .before .args .s) _ (now (c .before .before .before .before .before .before .before .before .before .before .before .before .before .before .before .args .ys)) (now (c .before .before .before .before .before .before .before .before .before .before .before .before .before .before .before .args .cbs)) (now (c .before .before .before .before .before .before .before .before .before .before .before .before .before .before .before .args .crs)) (now (c .before .before .before .before .before .before .before .before .before .before .before .before .before .before .before .args .tmp)) (sym (c .before .before .before .before .before .before .before .before .before .if1 .left) ∙ c .before .before .before .before .before .before .before .before .before .before .call-judge .ensures) in (lists-kept _ _ _ _ _ _ _ _ (g .lists) refl refl refl (c .before .before .before .before .before .before .before .message-fault .kept .1 .1 .1 .1 .0), sym (c .before .before .before .before .before .if2 .left) ∙ c .before .before .before .before .before .before .before .message-fault .ensures, g .room)
+draw-frame-requires c κs =
+    let p = c .before .before .before .before .before in
+    let q = p .before .before in
+    let r = q .before .before in
+    let t = r .before in
+    let a = t .before .before .before .before .before .args in
+    let g = call-good (a .s) _ (now (a .ys)) (now (a .cbs)) (now (a .crs)) (now (a .tmp)) (sym (r .if1 .left) ∙ t .call-judge .ensures) in (
+      lists-kept _ _ _ _ _ _ _ _ (g .lists) refl refl refl (q .message-fault .kept .1 .1 .1 .1 .0),
+      sym (p .if2 .left) ∙ q .message-fault .ensures,
+      g .room,
+    )
 
 clear-all-requires-2 : tie.Need-clear-all-requires-2
-clear-all-requires-2 c κs = let g = call-good (c .before .before .before .before .before .before .before .before .before .before .before .before .before .before .before .before .before .before .before .before .before .before .before .before .before .before .args .s) _ (now (c .before .before .before .before .before .before .before .before .before .before .before .before .before .before .before .before .before .before .before .before .before .before .before .before .before .before .args .ys)) (now (c .before .before .before .before .before .before .before .before .before .before .before .before .before .before .before .before .before .before .before .before .before .before .before .before .before .before .args .cbs)) (now (c .before .before .before .before .before .before .before .before .before .before .before .before .before .before .before .before .before .before .before .before .before .before .before .before .before .before .args .crs)) (now (c .before .before .before .before .before .before .before .before .before .before .before .before .before .before .before .before .before .before .before .before .before .before .before .before .before .before .args .tmp)) (sym (c .before .before .before .before .before .before .before .before .before .before .before .before .before .before .before .before .before .before .before .before .if1 .left) ∙ c .before .before .before .before .before .before .before .before .before .before .before .before .before .before .before .before .before .before .before .before .before .call-judge .ensures) in lists-kept _ _ _ _ _ _ _ _ (g .lists) (c .before .before .before .before .before .before .before .before .before .before .draw-frame .kept .1 .1 .1 .1 .1 .0) (c .before .before .before .before .before .before .before .before .before .before .draw-frame .kept .1 .1 .1 .1 .1 .1 .0) (c .before .before .before .before .before .before .before .before .before .before .draw-frame .kept .1 .1 .1 .1 .1 .1 .1 .0) (c .before .before .before .before .before .before .before .before .before .before .draw-frame .kept .1 .1 .1 .1 .1 .1 .1 .1 .0 ∙ c .before .before .before .before .before .before .before .before .before .before .before .before .before .before .before .before .before .before .message-fault .kept .1 .1 .1 .1 .0)
+clear-all-requires-2 c κs =
+    let p = c .before .before .before .before .before .before .before .before .before .before in
+    let q = p .before .before .before .before .before .before .before .before in
+    let r = q .before .before in
+    let t = r .before in
+    let a = t .before .before .before .before .before .args in
+    let g = call-good (a .s) _ (now (a .ys)) (now (a .cbs)) (now (a .crs)) (now (a .tmp)) (sym (r .if1 .left) ∙ t .call-judge .ensures) in
+    lists-kept _ _ _ _ _ _ _ _ (g .lists) (p .draw-frame .kept .1 .1 .1 .1 .1 .0) (p .draw-frame .kept .1 .1 .1 .1 .1 .1 .0)
+    (p .draw-frame .kept .1 .1 .1 .1 .1 .1 .1 .0) (p .draw-frame .kept .1 .1 .1 .1 .1 .1 .1 .1 .0 ∙ q .message-fault .kept .1 .1 .1 .1 .0)
 
 same-length-5 : tie.Need-same-length-5
 same-length-5 c = search needs
@@ -67,7 +101,17 @@ same-length-9 : tie.Need-same-length-9
 same-length-9 c = search needs
 
 returns-3 : tie.Need-returns-3
-returns-3 c = frame-done (c .before .before .before .before .before .before .before .before .before .before .before .before .before .before .before .before .before .before .before .before .before .before .before .before .before .before .before .before .before .before .before .args .s) (now (c .before .before .before .before .before .before .before .before .before .before .before .before .before .before .before .before .before .before .before .before .before .before .before .before .before .before .before .before .before .before .before .args .m)) (now (c .before .before .before .before .before .before .before .before .before .before .before .before .before .before .before .before .before .before .before .before .before .before .before .before .before .before .before .before .before .before .before .args .picture)) (now (c .before .before .before .before .before .before .before .before .before .before .before .before .before .before .before .before .before .before .before .before .before .before .before .before .before .before .before .before .before .before .before .args .ys)) (now (c .before .before .before .before .before .before .before .before .before .before .before .before .before .before .before .before .before .before .before .before .before .before .before .before .before .before .before .before .before .before .before .args .cbs)) (now (c .before .before .before .before .before .before .before .before .before .before .before .before .before .before .before .before .before .before .before .before .before .before .before .before .before .before .before .before .before .before .before .args .crs)) (now (c .before .before .before .before .before .before .before .before .before .before .before .before .before .before .before .before .before .before .before .before .before .before .before .before .before .before .before .before .before .before .before .args .tmp)) (c .before .before .before .before .before .before .before .before .before .before .before .before .before .before .before .before .before .before .before .before .before .before .before .before .before .before .call-judge .result) (c .before .before .before .before .before .before .before .before .before .before .before .before .before .before .before .before .before .before .before .before .before .before .before .before .before .before .call-judge .ensures) (c .before .before .before .before .before .before .before .before .before .before .before .before .before .before .before .before .before .before .before .before .before .before .before .before .before .if1 .left) _ _ _ _ (c .before .before .before .before .clear-all2 .ensures) (c .before .before .before .before .before .before .before .before .before .before .before .before .before .before .before .before .before .before .before .before .before .before .before .message-fault .result) (c .before .before .before .before .before .before .before .before .before .before .before .before .before .before .before .before .before .before .before .before .before .before .before .message-fault .ensures) (c .before .before .before .before .before .before .before .before .before .before .before .before .before .before .before .before .before .before .before .before .before .if2 .left) _ (c .before .before .before .before .before .before .before .before .before .before .before .before .before .before .before .draw-frame .result) (c .before .before .before .before .before .before .before .before .before .before .before .before .before .before .before .draw-frame .ensures .1) (c .before .before .before .before .before .before .before .before .before .before .before .before .before .before .before .draw-frame .ensures .0)
+returns-3 c =
+    let p = c .before .before .before .before in
+    let q = p .before .before .before .before .before .before .before .before .before .before .before in
+    let r = q .before .before .before .before .before .before in
+    let t = r .before .before in
+    let u = t .before .before in
+    let v = u .before in
+    let a = v .before .before .before .before .before .args in
+    frame-done (a .s) (now (a .m)) (now (a .picture)) (now (a .ys)) (now (a .cbs)) (now (a .crs)) (now (a .tmp)) (v .call-judge .result)
+    (v .call-judge .ensures) (u .if1 .left) _ _ _ _ (p .clear-all2 .ensures) (t .message-fault .result) (t .message-fault .ensures) (r .if2 .left) _
+    (q .draw-frame .result) (q .draw-frame .ensures .1) (q .draw-frame .ensures .0)
 
 pub take-frame-spec : {M : Type 1} → statement M
 take-frame-spec =

@@ -43,11 +43,11 @@ use denote.Triple.Table.{entered, cited}
 use denote.Triple.Walked.{says, Stays, stay-ref, stay-none-slice, walkOf, AllGo, goes-none-slice, goes-ref, Walks, ends-at, walked, walk-meets}
 use denote.Exit.{yes}
 use Rattle.session.specs.declared.Session.{Session}
-use Rattle.session.specs.declared.HeaderAnswer.{HeaderAnswer}
+use Rattle.panel.specs.declared.edge.Handed.{Handed}
 use Rattle.session.proofs.Session as T
 use Rattle.session.proofs.Session.Laws as T′
-use Rattle.session.proofs.HeaderAnswer as R
-use Rattle.session.proofs.HeaderAnswer.Laws as R′
+use Rattle.panel.proofs.edge.Handed as R
+use Rattle.panel.proofs.edge.Handed.Laws as R′
 use Rattle.panel.specs.Edge.{ReadHeaderCall}
 use Rattle.panel.proofs.edge.header_call as take
 use Rattle.panel.proofs.edge.header_call.Symbol as take-def
@@ -78,7 +78,7 @@ module _ {M : Type 1} (𝓤 : URA M) (H : Heap 𝓤) (A : Atoms 𝓤) (W : Given
   abbrev mach : Val
   mach = T′.lowered h
 
-  abbrev Said : HeaderAnswer → Type 0
+  abbrev Said : Handed → Type 0
   Said r = ReadHeaderCall h (r .session) (now m) (r .number)
 
   abbrev Post : Val → SProp 𝓤
@@ -104,17 +104,17 @@ module _ {M : Type 1} (𝓤 : URA M) (H : Heap 𝓤) (A : Atoms 𝓤) (W : Given
       move ! (0 ∷ 2 ∷ []) $ fjoin ! $ owned ! T.the-row (Is T.the-row) (LL.makes T.the-type T′.the-plain 𝓤 H A) h _ is $ fjoin ! $
       move ! (2 ∷ 0 ∷ []) $ use2 W (raw (Take 𝓤 H A at-mem run .pre to)) asked $ frame ! $ done !
 
-  said : (r : HeaderAnswer) → ent 𝓤 (ensured 𝓤 H A take.ended (take.clauses 𝓤 H A at-mem run) (κ′, tt) (h, (m, tt)) tt r) (fact 𝓤 (Said r))
+  said : (r : Handed) → ent 𝓤 (ensured 𝓤 H A take.ended (take.clauses 𝓤 H A at-mem run) (κ′, tt) (h, (m, tt)) tt r) (fact 𝓤 (Said r))
   said r = exE 𝓤 _ (λ ws. snd∗ 𝓤 (sem 𝓤 H A (lasts take.ended (κ′, tt) (h, (m, tt)) ws)) (fact 𝓤 (Said r)))
 
   -- of an answer that is owned: its record, and its number
-  sess : (r : HeaderAnswer) (u : Val) → Is R.the-row r (u ∷ []) → Is T.the-row (r .session) (T′.lowered (r .session) ∷ [])
+  sess : (r : Handed) (u : Val) → Is R.the-row r (u ∷ []) → Is T.the-row (r .session) (T′.lowered (r .session) ∷ [])
   sess r u is = LL.owed R.the-type R′.the-laws r _ is .1 .0
 
-  num : (r : HeaderAnswer) (u : Val) → Is R.the-row r (u ∷ []) → r .number < 2 ^ 8
+  num : (r : Handed) (u : Val) → Is R.the-row r (u ∷ []) → r .number < 2 ^ 8
   num r u is = LL.owed R.the-type R′.the-laws r _ is .0 .1
 
-  exits : (r : HeaderAnswer) → r .number < 2 ^ 8 → Said r → ent 𝓤 (⋆ 𝓤 H A (‵ (fobs γ (T.the-row .coded .code (r .session))) ∷ ‵ (fbor κ (Body (mem (T.the-row)) b o γ)) ∷ ‵ (flft κ q) ∷ (‵ (flft κ′ q′) ⊛ ‵ ftrue) ∷ ‵ Own ∷ [])) (Post (vint w8 (r .number)))
+  exits : (r : Handed) → r .number < 2 ^ 8 → Said r → ent 𝓤 (⋆ 𝓤 H A (‵ (fobs γ (T.the-row .coded .code (r .session))) ∷ ‵ (fbor κ (Body (mem (T.the-row)) b o γ)) ∷ ‵ (flft κ q) ∷ (‵ (flft κ′ q′) ⊛ ‵ ftrue) ∷ ‵ Own ∷ [])) (Post (vint w8 (r .number)))
   exits r fits e =
       qed W (‵ (fobs γ (T.the-row .coded .code (r .session))) ∷ ‵ (fbor κ (Body (mem (T.the-row)) b o γ)) ∷ ‵ (flft κ q) ∷ (‵ (flft κ′ q′) ⊛ ‵ ftrue) ∷ ‵ Own ∷ []) ∵
       suffices ! _ (ends-at 𝓤 H A header.ended stayed (header.clauses 𝓤 H A at-mem run) W (((κ, (κ′, tt)), (q, (q′, tt)), bounds, a, vals), tt) (vint w8 (r .number)) (r .number) (r .session, (tt, tt)) (tt, (tt, tt))) $
@@ -135,7 +135,7 @@ module _ {M : Type 1} (𝓤 : URA M) (H : Heap 𝓤) (A : Atoms 𝓤) (W : Given
         assigns ! (of-opd ! (load ! (from ! (hop ! (look ! 13 refl) (stop !))) (look ! 0 refl))) (from ! (stop !)) (init ! 7 refl (LL.lawful T.the-type T′.the-laws 𝓤 H A W .typed h _ was .0)) $
         move ! (5 ∷ 6 ∷ []) $ use2 W (raw (Take 𝓤 H A at-mem run .pre to) ⊛ ‵ Own) (goes was) $ split ! $
         calls-at ! fm (Take 𝓤 H A at-mem run) known to (and-then ! (load ! (from ! (stop !)) (look ! 7 refl)) (and-then ! (load ! (from ! (stop !)) (look ! 11 refl)) (no-more !))) (λ u.
-        use1 W (later (some (λ (r : HeaderAnswer). ((‵ (flft κ′ q′) ⊛ ‵ ftrue) ⊛ ‵ (R.the-row .own r (u ∷ []))) ⊛ raw (ensured 𝓤 H A take.ended (take.clauses 𝓤 H A at-mem run) (κ′, tt) (h, (m, tt)) tt r)))) (id⊢ 𝓤 _) $ await ! tt $ pick ! (λ r.
+        use1 W (later (some (λ (r : Handed). ((‵ (flft κ′ q′) ⊛ ‵ ftrue) ⊛ ‵ (R.the-row .own r (u ∷ []))) ⊛ raw (ensured 𝓤 H A take.ended (take.clauses 𝓤 H A at-mem run) (κ′, tt) (h, (m, tt)) tt r)))) (id⊢ 𝓤 _) $ await ! tt $ pick ! (λ r.
         split ! $ move ! (1 ∷ []) $ use1 W (raw (fact 𝓤 (Said r))) (said r) $ heard ! (Said r) (λ e. split ! $ move ! (1 ∷ []) $
         -- [the result; the token; what m owns; the cell; what a Session owns; the open borrow; obs; auth; _4; …; _3; …; _2; …; _1; …; room for _0; …]
         peeks ! R.the-row (Is R.the-row) (shows 𝓤 H A R.the-row) r (u ∷ []) (λ is.

@@ -1,17 +1,8 @@
-use Prim.Native.Nat.{_-_}
+-- `frame` meets its contract: the picture is what the frame call leaves with four work lists of 4,096 numbers.
 use Rattle.show.specs.laws.Play.{frame-is}
 use borrow.Author.Needs.{needs}
 use Rattle.show.proofs.playing.frame.Statement.{statement}
 use Rattle.show.proofs.playing.frame.Tie as tie
-use Rattle.show.proofs.playing.frame.Reads as reads
-use Rattle.show.proofs.playing.frame.Lts as lts
-use Rattle.app_text.proofs.lines.say_frame.Reads as say-frame-reads
-use Rattle.panel.proofs.frame_number.Reads as frame-number-reads
-use Rattle.panel.proofs.frame_tiles.Reads as frame-tiles-reads
-use Rattle.panel.proofs.read_frame.Reads as read-frame-reads
-use Rattle.show.proofs.playing.after_frame.Reads as after-frame-reads
-use Rattle.std.proofs.num.wrapping_add_u64.Reads as wrapping-add-u64-reads
-use Rattle.app_stream.proofs.message.Reads as message-reads
 
 wrapping-add-u64-requires : tie.Need-wrapping-add-u64-requires
 wrapping-add-u64-requires c κs = search needs
@@ -50,7 +41,10 @@ same-length : tie.Need-same-length
 same-length c = search needs
 
 returns : tie.Need-returns
-returns c = (c .after-frame .ensures, frame-is _ _ _ _ _ _ _ _ _ (c .before .before .before .before .before .before .before .before .before .before .read-frame .ensures .picture) (search needs) (search needs) (search needs) (search needs) (c .before .before .before .before .before .before .before .before .before .before .before .before .before .before .before .before .message .ensures))
+returns c =
+    let r = c .before .before .before .before .before .before .before .before .before .before .read-frame in
+    let m = c .before .before .before .before .before .before .before .before .before .before .before .before .before .before .before .before .message in
+    (c .after-frame .ensures, frame-is _ _ _ _ _ _ _ _ _ (r .ensures .picture) (search needs) (search needs) (search needs) (search needs) (m .ensures))
 
 pub frame-spec : {M : Type 1} → statement M
 frame-spec =

@@ -1,17 +1,8 @@
-use Prim.Native.Nat.{_-_}
+-- `header` meets its contract: the desk goes on with the record that the header call leaves.
 use Rattle.show.specs.laws.Play.{header-is}
 use borrow.Author.Needs.{needs}
 use Rattle.show.proofs.playing.header.Statement.{statement}
 use Rattle.show.proofs.playing.header.Tie as tie
-use Rattle.show.proofs.playing.header.Reads as reads
-use Rattle.show.proofs.playing.header.Lts as lts
-use Rattle.app_text.proofs.lines.say_header.Reads as say-header-reads
-use Rattle.panel.proofs.header_number.Reads as header-number-reads
-use Rattle.panel.proofs.header_record.Reads as header-record-reads
-use Rattle.panel.proofs.read_header.Reads as read-header-reads
-use Rattle.show.proofs.playing.after_header.Reads as after-header-reads
-use Rattle.std.proofs.num.wrapping_add_u64.Reads as wrapping-add-u64-reads
-use Rattle.app_stream.proofs.message.Reads as message-reads
 
 wrapping-add-u64-requires : tie.Need-wrapping-add-u64-requires
 wrapping-add-u64-requires c κs = search needs
@@ -35,7 +26,9 @@ after-header-requires : tie.Need-after-header-requires
 after-header-requires c κs = search needs
 
 returns : tie.Need-returns
-returns c = header-is _ _ _ _ _ _ _ (c .after-header .ensures) (c .before .header-record .ensures) (c .before .before .before .before .read-header .ensures) (c .before .before .before .before .before .message .ensures)
+returns c =
+    let h = c .before .before .before .before in
+    header-is _ _ _ _ _ _ _ (c .after-header .ensures) (c .before .header-record .ensures) (h .read-header .ensures) (h .before .message .ensures)
 
 pub header-spec : {M : Type 1} → statement M
 header-spec =

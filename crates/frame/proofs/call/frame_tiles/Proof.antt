@@ -1,8 +1,9 @@
+-- `frame_tiles` meets its contract: in each arm the answer is the variant that was matched.
 use mathlib.Core.Path.{ap, sym}
-use Rattle.panel.specs.Panel.{frameReadingTiles}
+use Rattle.frame.specs.Frame.{frameReadingTiles}
 use borrow.Author.Needs.{needs}
-use Rattle.panel.proofs.frame_tiles.Statement.{statement}
-use Rattle.panel.proofs.frame_tiles.Tie as tie
+use Rattle.frame.proofs.call.frame_tiles.Statement.{statement}
+use Rattle.frame.proofs.call.frame_tiles.Tie as tie
 
 enum-known-f : tie.Need-enum-known-f
 enum-known-f c = search needs

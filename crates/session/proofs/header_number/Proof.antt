@@ -1,8 +1,9 @@
+-- `header_number` meets its contract: in each arm the answer is the variant that was matched.
 use mathlib.Core.Path.{ap, sym}
-use Rattle.panel.specs.Panel.{headerNumber}
+use Rattle.session.specs.Header.{headerNumber}
 use borrow.Author.Needs.{needs}
-use Rattle.panel.proofs.header_number.Statement.{statement}
-use Rattle.panel.proofs.header_number.Tie as tie
+use Rattle.session.proofs.header_number.Statement.{statement}
+use Rattle.session.proofs.header_number.Tie as tie
 
 enum-known-h : tie.Need-enum-known-h
 enum-known-h c = search needs

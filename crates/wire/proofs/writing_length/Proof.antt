@@ -1,10 +1,9 @@
+-- `writing_length` meets its contract: in each arm the answer is the variant that was matched.
 use mathlib.Core.Path.{ap, sym}
-use Rattle.code_write.specs.Write.{writingLength}
+use Rattle.wire.specs.Wrote.{writingLength}
 use borrow.Author.Needs.{needs}
-use Rattle.code_write.proofs.call.writing_length.Statement.{statement}
-use Rattle.code_write.proofs.call.writing_length.Tie as tie
-use Rattle.code_write.proofs.call.writing_length.Reads as reads
-use Rattle.code_write.proofs.call.writing_length.Lts as lts
+use Rattle.wire.proofs.writing_length.Statement.{statement}
+use Rattle.wire.proofs.writing_length.Tie as tie
 
 enum-known-w : tie.Need-enum-known-w
 enum-known-w c = search needs

@@ -1,10 +1,9 @@
+-- `writing_number` meets its contract: in each arm the answer is the variant that was matched.
 use mathlib.Core.Path.{ap, sym}
-use Rattle.code_write.specs.Write.{writingNumber}
+use Rattle.wire.specs.Wrote.{writingNumber}
 use borrow.Author.Needs.{needs}
-use Rattle.code_write.proofs.call.writing_number.Statement.{statement}
-use Rattle.code_write.proofs.call.writing_number.Tie as tie
-use Rattle.code_write.proofs.call.writing_number.Reads as reads
-use Rattle.code_write.proofs.call.writing_number.Lts as lts
+use Rattle.wire.proofs.writing_number.Statement.{statement}
+use Rattle.wire.proofs.writing_number.Tie as tie
 
 enum-known-w : tie.Need-enum-known-w
 enum-known-w c = search needs

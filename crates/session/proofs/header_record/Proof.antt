@@ -1,9 +1,10 @@
+-- `header_record` meets its contract: in each arm the answer is the variant that was matched.
 use mathlib.Core.Path.{ap, sym}
-use Rattle.panel.specs.declared.HeaderReading.{HeaderReading}
-use Rattle.panel.specs.Panel.{headerRecord}
+use Rattle.session.specs.declared.HeaderReading.{HeaderReading}
+use Rattle.session.specs.Header.{headerRecord}
 use borrow.Author.Needs.{needs}
-use Rattle.panel.proofs.header_record.Statement.{statement}
-use Rattle.panel.proofs.header_record.Tie as tie
+use Rattle.session.proofs.header_record.Statement.{statement}
+use Rattle.session.proofs.header_record.Tie as tie
 
 enum-known-h : tie.Need-enum-known-h
 enum-known-h c = search needs

@@ -1,8 +1,9 @@
+-- `frame_number` meets its contract: in each arm the answer is the variant that was matched.
 use mathlib.Core.Path.{ap, sym}
-use Rattle.panel.specs.Panel.{frameReadingNumber}
+use Rattle.frame.specs.Frame.{frameReadingNumber}
 use borrow.Author.Needs.{needs}
-use Rattle.panel.proofs.frame_number.Statement.{statement}
-use Rattle.panel.proofs.frame_number.Tie as tie
+use Rattle.frame.proofs.call.frame_number.Statement.{statement}
+use Rattle.frame.proofs.call.frame_number.Tie as tie
 
 enum-known-f : tie.Need-enum-known-f
 enum-known-f c = search needs

@@ -1,0 +1,66 @@
+-- Which numbers the frame writer answers, and what its work lists hold on each: 01, "The frame writer's work lists are untouched on 5, 7 and 2 and hold
+-- only zeros after every other answer."
+-- Assumes nothing.
+use Prim.Native.Nat.{ℕ, zero, suc, _+_}
+use mathlib.Core.Path.{_≡_, refl, sym, _∙_, subst}
+use mathlib.Core.List.{List, [], _∷_}
+use lib.IntN.{ℤ, pos}
+use lib.ListN.{length, replicate}
+use Rattle.whole.specs.Among.{among, Among, Other}
+use Rattle.whole.specs.laws.Among.{numbers, each, among-then, among-all, among-none, first-there, first-none}
+use Rattle.wire.specs.Wrote.{writingNumber}
+use Rattle.wire.specs.declared.Writing.{Writing}
+use Rattle.bands.specs.Bands.{rangeFault, sumsFault, scaleFault, coefficientsFault}
+use Rattle.frame_write.specs.Encode.{partRefusal, tileRefusal, refusals}
+use Rattle.frame_write.specs.FrameWrite.{argFault, sendFault, FrameWritten}
+use Rattle.frame_write.specs.laws.FrameWrite.{untouched, cleared}
+
+-- what is judged of the arguments, and after them
+abbrev pub argNumbers : List ℕ
+argNumbers = 5 ∷ 7 ∷ 2 ∷ []
+
+abbrev pub sendNumbers : List ℕ
+sendNumbers = 0 ∷ 9 ∷ 6 ∷ 13 ∷ []
+
+pub arg-among : (w h mode : ℕ) (q : List ℕ) (pixels list scratch : ℕ) → Among (0 ∷ argNumbers) (argFault w h mode q pixels list scratch)
+unfolding argFault among
+arg-among w h mode q pixels list scratch = search numbers depth 9
+
+part-among : (mode : ℕ) (q : List ℕ) (zs : List ℤ) → Among sendNumbers (partRefusal mode q zs)
+unfolding partRefusal coefficientsFault rangeFault sumsFault scaleFault among
+part-among mode q zs = search numbers depth 9
+
+tiles-among : (p : List ℕ) (w h mode : ℕ) (q : List ℕ) (n i : ℕ) → Among sendNumbers (refusals p w h mode q n i)
+unfolding refusals tileRefusal among
+tiles-among p w h mode q zero i = search numbers
+tiles-among p w h mode q (suc n) i =
+    among-then _ _ (among-then _ _ (part-among mode q _) (among-then _ _ (part-among mode q _) (part-among mode q _))) (tiles-among p w h mode q n (i + 1))
+
+pub send-among : (index w h mode : ℕ) (q p : List ℕ) (room : ℕ) → Among sendNumbers (sendFault index w h mode q p room)
+unfolding sendFault among
+send-among index w h mode q p room = search (numbers, tiles-among)
+
+module _ (w h mode : ℕ) (q : List ℕ) (index : ℕ) (p : List ℕ) (list list′ scratch scratch′ : List ℤ) (out out′ : List ℕ) (r : Writing)
+    (x : FrameWritten w h mode q index p list list′ scratch scratch′ out out′ r) where
+  arguments : ℕ
+  arguments = argFault w h mode q (length p) (length list) (length scratch)
+
+  -- which numbers the call answers
+  pub frame-written-among : Among (5 ∷ 7 ∷ 2 ∷ sendNumbers) (writingNumber r)
+  unfolding each among
+  frame-written-among =
+      rw (x .wrote .number) (among-then _ _ (among-all _ (arg-among w h mode q (length p) (length list) (length scratch)) refl)
+      (among-all _ (send-among index w h mode q p (length out)) refl))
+
+  pub work-untouched : Among argNumbers (writingNumber r) → (list′ ≡ list) × (scratch′ ≡ scratch)
+  unfolding arguments each among
+  work-untouched e =
+      let o = among-none argNumbers (send-among index w h mode q p (length out)) refl in
+      let f = first-there arguments _ o (subst (Among argNumbers) (x .wrote .number) e) in
+      (x .first ∙ sym (untouched _ arguments list refl f), x .second ∙ sym (untouched _ arguments scratch refl f))
+
+  pub work-zeros : Other argNumbers (writingNumber r) → (list′ ≡ replicate 4096 (pos 0)) × (scratch′ ≡ replicate 4096 (pos 0))
+  unfolding arguments
+  work-zeros o =
+      let z = sym (first-none arguments _ (arg-among w h mode q (length p) (length list) (length scratch)) (subst (Other argNumbers) (x .wrote .number) o)) in
+      (x .first ∙ sym (cleared _ list _ z refl), x .second ∙ sym (cleared _ scratch _ z refl))
