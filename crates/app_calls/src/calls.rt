@@ -142,33 +142,68 @@ pub fn headers_back_call(s: Session, out: &[u8]) -> Session
     f.session
 }
 
-fn fill_two(a: &mut [i32], b: &mut [i32]) {
-    app_recording::lent::fill_list(a, 7);
-    app_recording::lent::fill_list(b, 7);
+// How long the work lists are that a call is lent.
+pub struct Lengths {
+    pub one: usize,
+    pub two: usize,
+    pub three: usize,
 }
 
-// One frame call.
-pub fn frame_call(
+// The frame call, with its third list, a part of one of 8,192; false where more is asked for.
+fn frame_with_two(
     s: Session,
     message: &[u8],
     picture: &mut [u16],
     y: &mut [i32],
     cb: &mut [i32],
-    cr: &mut [i32],
-    scratch: &mut [i32],
-)
-    ensures { λ _. ⌜ Unit ⌝ }
-{
-    fill_two(y, cb);
-    fill_two(cr, scratch);
-    let r = panel::read_frame(s, message, picture, y, cb, cr, scratch);
+    three: usize,
+) -> bool {
+    let mut space = [7i32; 8192];
+    let mut scratch = [7i32; 4096];
+    let cr: &mut [i32] = &mut space;
+    if cr.len() < three {
+        return false;
+    }
+    let r = panel::read_frame(s, message, picture, y, cb, &mut cr[0..three], &mut scratch);
+    let after = &cr[..];
     crate::lines::say_frame(
         frame::call::frame_number(r),
         frame::call::frame_tiles(r),
-        work_letter(pair_letter(y, cb), pair_letter(cr, scratch)),
+        work_letter(pair_letter(y, cb), pair_letter(&after[0..three], &scratch)),
         s,
         app_recording::lent::hash_words(picture),
     );
+    true
+}
+
+// The same with its second list.
+fn frame_with_one(
+    s: Session,
+    message: &[u8],
+    picture: &mut [u16],
+    y: &mut [i32],
+    n: Lengths,
+) -> bool {
+    let mut space = [7i32; 8192];
+    let cb: &mut [i32] = &mut space;
+    let two = n.two;
+    if cb.len() < two {
+        return false;
+    }
+    frame_with_two(s, message, picture, y, &mut cb[0..two], n.three)
+}
+
+// One frame call, on lists of these lengths; false where more is asked for than there is.
+pub fn frame_call(s: Session, message: &[u8], picture: &mut [u16], n: Lengths) -> bool
+    ensures { λ _. ⌜ Unit ⌝ }
+{
+    let mut space = [7i32; 8192];
+    let y: &mut [i32] = &mut space;
+    let one = n.one;
+    if y.len() < one {
+        return false;
+    }
+    frame_with_one(s, message, picture, &mut y[0..one], n)
 }
 
 // What the frame writer is asked for, beside memory.
@@ -180,18 +215,13 @@ pub struct Asked {
     pub q: Quant,
 }
 
-// One call of the frame writer; the bytes that it wrote.
-pub fn frame_writer_call(
-    a: Asked,
-    pixels: &[u8],
-    list: &mut [i32],
-    scratch: &mut [i32],
-    out: &mut [u8],
-) -> usize
-    ensures { λ _. ⌜ Unit ⌝ }
-{
-    fill_two(list, scratch);
-    app_recording::lent::fill_bytes(out, 0xA5);
+// The frame writer, with its second list, a part of one of 8,192; a count of bytes beyond any output where more is asked for.
+fn writer_with_one(a: Asked, pixels: &[u8], list: &mut [i32], two: usize, out: &mut [u8]) -> usize {
+    let mut space = [7i32; 8192];
+    let scratch: &mut [i32] = &mut space;
+    if scratch.len() < two {
+        return usize::MAX;
+    }
     let q = a.q;
     let w = panel::write_frame(
         a.width,
@@ -201,15 +231,29 @@ pub fn frame_writer_call(
         a.index,
         pixels,
         list,
-        scratch,
+        &mut scratch[0..two],
         out,
     );
     let n = wire::writing_length(w);
+    let after = &scratch[..];
     crate::lines::say_written(
         wire::writing_number(w),
         n,
-        pair_letter(list, scratch),
+        pair_letter(list, &after[0..two]),
         app_recording::lent::hash_bytes(out),
     );
     n
+}
+
+// One call of the frame writer, on lists of these lengths; the bytes that it wrote.
+pub fn frame_writer_call(a: Asked, pixels: &[u8], one: usize, two: usize, out: &mut [u8]) -> usize
+    ensures { λ _. ⌜ Unit ⌝ }
+{
+    let mut space = [7i32; 8192];
+    let list: &mut [i32] = &mut space;
+    if list.len() < one {
+        return usize::MAX;
+    }
+    app_recording::lent::fill_bytes(out, 0xA5);
+    writer_with_one(a, pixels, &mut list[0..one], two, out)
 }

@@ -1,4 +1,4 @@
-// Splits a stream of header blocks and frames, as they follow each other, into calls (issue 8.3): a block is one header call, a frame, from its begin block
+// Splits a stream of header blocks and frames, as they follow each other, into calls: a block is one header call, a frame, from its begin block
 // to its end block, one frame call. What cannot be split so is handed on as it is, so that the codec itself says the number. specs/Split has the rule.
 ghost use mathlib.Core.Path.{_≡_};
 ghost use Prim.Native.Nat.{_+_, _≤_};

@@ -1,4 +1,4 @@
-// Lines of text for the programs: on standard error (`lines`), files read whole (`loading`), and lines built in memory (`report`). No customer links it.
+// What the programs share: what they say (`lines`), their arguments (`arguments`), inputs read whole (`loading`). No customer links it.
+pub mod arguments;
 pub mod lines;
 pub mod loading;
-pub mod report;

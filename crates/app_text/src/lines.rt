@@ -1,36 +1,48 @@
-// Lines of text on standard error, with 01's words for its numbers ("Numbers the fitter sees"; issues 8.3 and 8.4). They answer nothing and change nothing
-// lent: they only talk to the outside.
-use libc::STDERR_FILENO;
+// What the programs say, piece by piece: texts, numbers and hashes, on standard output (`OUT`) or standard error (`ERR`), and lines with 01's words for its
+// numbers ("Numbers the fitter sees"). They answer nothing and change nothing lent: they only talk to the outside.
+pub const OUT: i32 = 1;
 
-pub fn say(text: &[u8])
+pub const ERR: i32 = 2;
+
+pub fn say(to: i32, text: &[u8])
     ensures { λ _. ⌜ Unit ⌝ }
 {
-    io::write_all(STDERR_FILENO, text);
+    io::write_all(to, text);
 }
 
-pub fn say_number(n: u64)
+// A text, and a number behind it.
+pub fn say_number(to: i32, text: &[u8], n: u64)
     ensures { λ _. ⌜ Unit ⌝ }
 {
-    io::print_decimal(STDERR_FILENO, n);
+    say(to, text);
+    io::print_decimal(to, n);
 }
 
-// 01's word for a number, behind a blank.
+// A text, and a hash behind it, in 16 digits of base 16.
+pub fn say_hash(to: i32, text: &[u8], h: u64)
+    ensures { λ _. ⌜ Unit ⌝ }
+{
+    say(to, text);
+    io::print_hex(to, h, 16);
+}
+
+// 01's word for a number, behind a blank, and the end of the line.
 fn say_word(number: u8) {
     match number {
-        1 => say(b" cut"),
-        2 => say(b" buffer"),
-        3 => say(b" kind"),
-        4 => say(b" length"),
-        5 => say(b" field"),
-        6 => say(b" too big"),
-        7 => say(b" quant"),
-        8 => say(b" place"),
-        9 => say(b" range"),
-        10 => say(b" overrun"),
-        11 => say(b" tail"),
-        12 => say(b" order"),
-        13 => say(b" room"),
-        _ => say(b""),
+        1 => say(ERR, b" cut\n"),
+        2 => say(ERR, b" buffer\n"),
+        3 => say(ERR, b" kind\n"),
+        4 => say(ERR, b" length\n"),
+        5 => say(ERR, b" field\n"),
+        6 => say(ERR, b" too big\n"),
+        7 => say(ERR, b" quant\n"),
+        8 => say(ERR, b" place\n"),
+        9 => say(ERR, b" range\n"),
+        10 => say(ERR, b" overrun\n"),
+        11 => say(ERR, b" tail\n"),
+        12 => say(ERR, b" order\n"),
+        13 => say(ERR, b" room\n"),
+        _ => say(ERR, b"\n"),
     }
 }
 
@@ -38,21 +50,18 @@ fn say_word(number: u8) {
 pub fn say_refused(number: u8)
     ensures { λ _. ⌜ Unit ⌝ }
 {
-    say(b"refused ");
-    say_number(number as u64);
+    say_number(ERR, b"refused ", number as u64);
     say_word(number);
-    say(b"\n");
 }
 
 // What a header call came to.
 pub fn say_header(count: u64, number: u8)
     ensures { λ _. ⌜ Unit ⌝ }
 {
-    say(b"header ");
-    say_number(count);
-    say(b": ");
+    say_number(ERR, b"header ", count);
+    say(ERR, b": ");
     if number == 0 {
-        say(b"done\n");
+        say(ERR, b"done\n");
         return;
     }
     say_refused(number);
@@ -62,13 +71,11 @@ pub fn say_header(count: u64, number: u8)
 pub fn say_frame(count: u64, number: u8, tiles: usize)
     ensures { λ _. ⌜ Unit ⌝ }
 {
-    say(b"frame ");
-    say_number(count);
-    say(b": ");
+    say_number(ERR, b"frame ", count);
+    say(ERR, b": ");
     if number == 0 {
-        say(b"done, ");
-        say_number(tiles as u64);
-        say(b" tiles\n");
+        say_number(ERR, b"done, ", tiles as u64);
+        say(ERR, b" tiles\n");
         return;
     }
     say_refused(number);

@@ -1,6 +1,9 @@
-// Reads a whole input, a file that an argument names or standard input, into a buffer (issues 8.3 and 8.4).
+// Reads a whole input, a file that an argument names or standard input, into a buffer, of which the first bytes are then what was read.
 ghost use Prim.Native.Nat.{_≤_};
+ghost use mathlib.Core.Path.{_≡_};
 ghost use lib.ListN.{length};
+ghost use Rattle.app_text.specs.First.{firstOf};
+use crate::lines::ERR;
 use libc::STDIN_FILENO;
 
 // How many bytes were read, and whether they are the whole input.
@@ -31,7 +34,7 @@ fn is_end(fd: i32, too_long: &[u8]) -> bool {
         os::fail(b"the input cannot be read");
         return false;
     }
-    crate::lines::say(too_long);
+    crate::lines::say(ERR, too_long);
     false
 }
 
@@ -59,4 +62,14 @@ pub fn load(i: usize, data: &mut [u8], too_long: &[u8]) -> Loaded
     let l = load_from(fd, data, too_long);
     libc::close(fd);
     l
+}
+
+// The first n bytes, none where there are fewer.
+pub fn first(s: &[u8], n: usize) -> &[u8]
+    ensures { λ r. ⌜ now r ≡ firstOf (now (s .entry)) n ⌝ }
+{
+    if s.len() < n {
+        return &s[..0];
+    }
+    &s[..n]
 }

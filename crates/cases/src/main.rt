@@ -1,15 +1,16 @@
 // Runs document 01's "Cases on both sides" through the calls of `panel`, and prints a line for each: those that are not marked (p), and those that are,
 // since running costs little; and the cases that document 02 adds. A case that comes out otherwise says so, and the gate compares the lines.
+use app_text::lines::OUT;
 use bands::Quant;
 use session::Session;
 
 fn told(name: &[u8], good: bool) {
-    app_text::report::say(name);
+    app_text::lines::say(OUT, name);
     if good {
-        app_text::report::say(b": agrees\n");
+        app_text::lines::say(OUT, b": agrees\n");
         return;
     }
-    app_text::report::say(b": DIFFERS\n");
+    app_text::lines::say(OUT, b": DIFFERS\n");
 }
 
 // ---- the component code
@@ -366,16 +367,16 @@ fn frames() {
 }
 
 fn main() {
-    app_text::report::say(b"RLGR1\n");
+    app_text::lines::say(OUT, b"RLGR1\n");
     zeros(1);
     ones(1, 28);
-    app_text::report::say(b"RLGR3\n");
+    app_text::lines::say(OUT, b"RLGR3\n");
     zeros(4);
     ones(4, 27);
-    app_text::report::say(b"headers\n");
+    app_text::lines::say(OUT, b"headers\n");
     headers();
     widths();
-    app_text::report::say(b"frames\n");
+    app_text::lines::say(OUT, b"frames\n");
     quants();
     frames();
 }

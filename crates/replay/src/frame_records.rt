@@ -2,113 +2,57 @@
 // recording that asks for more than there is ends with `bad recording`. No section of document 01 is made true here.
 use crate::records::Desk;
 use app_calls::calls::Asked;
+use app_calls::calls::Lengths;
 use app_recording::read::Four;
 use app_recording::read::In;
-use app_recording::read::Three;
 use bands::Quant;
 
-// The frame call on the parts that are lent; false where the recording asks for more than there is.
-fn frame_part(
-    d: Desk,
-    g: Three,
-    message: &[u8],
-    picture: &mut [u16],
-    y: &mut [i32],
-    cb: &mut [i32],
-    cr: &mut [i32],
-    scratch: &mut [i32],
-) -> bool {
+// The frame call on the words of picture that are lent, and the desk after it.
+fn framed(d: Desk, from: In, message: &[u8], picture: &mut [u16], n: Lengths) -> Desk {
     let words = d.picture;
-    let one = g.a;
-    let two = g.b;
-    let three = g.c;
-    if picture.len() < words || scratch.len() < 4096 {
-        return false;
+    if picture.len() < words {
+        return crate::records::bad(d);
     }
-    if y.len() < one || cb.len() < two || cr.len() < three {
-        return false;
+    if app_calls::calls::frame_call(d.s, message, &mut picture[0..words], n) {
+        return crate::records::going(d, from);
     }
-    app_calls::calls::frame_call(
-        d.s,
-        message,
-        &mut picture[0..words],
-        &mut y[0..one],
-        &mut cb[0..two],
-        &mut cr[0..three],
-        &mut scratch[0..4096],
-    );
-    true
-}
-
-// The same on lists of its own.
-fn frame_on(d: Desk, g: Three, message: &[u8], picture: &mut [u16]) -> bool {
-    let mut y = [0i32; 8192];
-    let mut cb = [0i32; 8192];
-    let mut cr = [0i32; 8192];
-    let mut scratch = [0i32; 4096];
-    frame_part(
-        d,
-        g,
-        message,
-        picture,
-        &mut y,
-        &mut cb,
-        &mut cr,
-        &mut scratch,
-    )
-}
-
-// The first n bytes, none where there are fewer.
-fn first(s: &[u8], n: usize) -> &[u8] {
-    if n <= s.len() {
-        return &s[0..n];
-    }
-    &s[0..0]
-}
-
-// What an 'F' asks for: the lengths of three lists, and a message of so many bytes.
-struct Framed {
-    lists: Three,
-    count: usize,
-    from: In,
-}
-
-fn take_framed(input: &mut [u8], c: In, message: &mut [u8]) -> Framed {
-    let g = app_recording::read::take_three(input, c);
-    let n = app_recording::read::number(input, g.from);
-    let from = app_recording::read::take_message(input, n.from, message, n.value);
-    Framed {
-        lists: g,
-        count: n.value,
-        from: from,
-    }
+    crate::records::bad(d)
 }
 
 // 'F': a frame call on a message.
 pub fn frame(d: Desk, input: &mut [u8], message: &mut [u8], picture: &mut [u16]) -> Desk {
-    let f = take_framed(input, d.from, message);
-    let from = f.from;
-    let n = f.count;
-    if crate::records::MESSAGE < n || !from.whole {
+    let g = app_recording::read::take_four(input, d.from);
+    let from = crate::records::take_limited(input, g.from, message, g.d);
+    let n = Lengths {
+        one: g.a,
+        two: g.b,
+        three: g.c,
+    };
+    if !from.whole {
         return crate::records::bad(d);
     }
-    if frame_on(d, f.lists, first(message, n), picture) {
-        return crate::records::going(d, from);
-    }
-    crate::records::bad(d)
+    framed(d, from, app_text::loading::first(message, g.d), picture, n)
 }
 
 // 'G': a frame call on the bytes that the frame writer wrote last.
 pub fn frame_again(d: Desk, input: &mut [u8], out: &[u8], picture: &mut [u16]) -> Desk {
     let g = app_recording::read::take_three(input, d.from);
     let from = g.from;
+    let n = Lengths {
+        one: g.a,
+        two: g.b,
+        three: g.c,
+    };
     if !from.whole {
         return crate::records::bad(d);
     }
-    if frame_on(d, g, first(out, d.written), picture) {
-        return crate::records::going(d, from);
-    }
-    crate::records::bad(d)
+    framed(
+        d,
+        from,
+        app_text::loading::first(out, d.written),
+        picture,
+        n,
+    )
 }
 
 // What a 'Z' asks for: size, mode and index; lists and room; the quantisers; how many bytes of pixels.
@@ -154,35 +98,13 @@ fn second_length(lists: Four) -> usize {
     lists.c
 }
 
-// The frame writer on the parts that are lent; a count of bytes beyond the output where the recording asks for more than there is.
-fn frame_writer_part(
-    a: Asked,
-    lists: Four,
-    pixels: &[u8],
-    list: &mut [i32],
-    scratch: &mut [i32],
-    out: &mut [u8],
-) -> usize {
-    let one = lists.a;
-    let two = second_length(lists);
+// The frame writer on the output that is lent; a count of bytes beyond the output where the recording asks for more than there is.
+fn frame_writer_on(a: Asked, lists: Four, pixels: &[u8], out: &mut [u8]) -> usize {
     let room = lists.d;
-    if out.len() < room || list.len() < one || scratch.len() < two {
+    if out.len() < room {
         return usize::MAX;
     }
-    app_calls::calls::frame_writer_call(
-        a,
-        pixels,
-        &mut list[0..one],
-        &mut scratch[0..two],
-        &mut out[0..room],
-    )
-}
-
-// The same on lists of its own.
-fn frame_writer_on(a: Asked, lists: Four, pixels: &[u8], out: &mut [u8]) -> usize {
-    let mut list = [0i32; 8192];
-    let mut scratch = [0i32; 8192];
-    frame_writer_part(a, lists, pixels, &mut list, &mut scratch, out)
+    app_calls::calls::frame_writer_call(a, pixels, lists.a, second_length(lists), &mut out[0..room])
 }
 
 // 'Z': the frame writer.
@@ -193,7 +115,12 @@ pub fn frame_writer(d: Desk, input: &mut [u8], pixels: &mut [u8], out: &mut [u8]
     if !from.whole {
         return crate::records::bad(d);
     }
-    let n = frame_writer_on(asked(a.size, v), a.lists, first(pixels, a.count), out);
+    let n = frame_writer_on(
+        asked(a.size, v),
+        a.lists,
+        app_text::loading::first(pixels, a.count),
+        out,
+    );
     if out.len() < n {
         return crate::records::bad(d);
     }

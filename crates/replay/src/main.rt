@@ -1,13 +1,13 @@
 // Makes the calls of a recording (standard input) on the public functions of `panel`, and prints one line for each: 01's number, its values, the record, and a
 // hash of the lent memory. A record of the recording is a letter and little-endian numbers of four bytes, then bytes; lent lists hold 7 and lent output A5.
-// The records are in `records` and `frame_records`, the calls in `replay_calls`, their lines in `replay_lines`; here is the loop.
+// The records are in `records` and `frame_records`, the calls and their lines in `app_calls`; here is the loop.
 mod frame_records;
 mod records;
 
 use crate::records::Desk;
 
 // One record of the recording, by its letter.
-fn replayed(
+fn record(
     d: Desk,
     letter: u8,
     input: &mut [u8],
@@ -16,10 +16,19 @@ fn replayed(
     picture: &mut [u16],
 ) -> Desk {
     match letter {
+        b'N' => crate::records::fresh(d.from),
+        b'R' => crate::records::set_record(d, input),
+        b'P' => crate::records::set_picture(d, input, picture),
+        b'H' => crate::records::header(d, input, message),
+        b'C' => crate::records::component(d, input, message),
+        b'D' => crate::records::component_again(d, input, out),
+        b'W' => crate::records::writer(d, input, out),
+        b'X' => crate::records::headers(d, input, out),
+        b'Y' => crate::records::headers_again(d, out),
         b'F' => crate::frame_records::frame(d, input, message, picture),
         b'G' => crate::frame_records::frame_again(d, input, out, picture),
         b'Z' => crate::frame_records::frame_writer(d, input, message, out),
-        _ => crate::records::record(d, letter, input, message, out, picture),
+        _ => crate::records::bad(d),
     }
 }
 
@@ -36,7 +45,7 @@ fn step(
     if !from.whole {
         return crate::records::stopped(d);
     }
-    replayed(
+    record(
         crate::records::going(d, from),
         b.value,
         input,

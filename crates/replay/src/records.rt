@@ -1,10 +1,9 @@
-// The records of a recording but for frames: a new case, the session record, a picture, and the calls on headers and components (vec-to-calls says the
-// form of each). No section of document 01 is made true here: `replay` shows by these calls that the proved library does what the recording says.
+// The records of a recording but for frames: a new case, the session record, a picture, and the calls on headers and components. A record is a letter and
+// little-endian numbers of four bytes, then bytes. No section of document 01 is made true here: `replay` shows by these calls that the proved library does
+// what the recording says.
 use app_recording::read::In;
+use app_text::lines::OUT;
 use session::Session;
-
-// The longest message, in bytes.
-pub const MESSAGE: usize = 262144;
 
 // What goes on from record to record: the input, the session, the words of picture that are lent, the bytes last written, and whether it goes on.
 pub struct Desk {
@@ -42,7 +41,7 @@ pub fn stopped(d: Desk) -> Desk {
 
 // The recording asks for too much, or is cut.
 pub fn bad(d: Desk) -> Desk {
-    app_text::report::say(b"bad recording\n");
+    app_text::lines::say(OUT, b"bad recording\n");
     stopped(d)
 }
 
@@ -96,7 +95,7 @@ fn with_picture(d: Desk, c: In, n: usize) -> Desk {
 }
 
 // 'R': the session record, whatever it is.
-fn set_record(d: Desk, input: &mut [u8]) -> Desk {
+pub fn set_record(d: Desk, input: &mut [u8]) -> Desk {
     let g = app_recording::read::take_four(input, d.from);
     let from = g.from;
     if !from.whole {
@@ -112,7 +111,7 @@ fn set_record(d: Desk, input: &mut [u8]) -> Desk {
 }
 
 // 'P': a new picture.
-fn set_picture(d: Desk, input: &mut [u8], picture: &mut [u16]) -> Desk {
+pub fn set_picture(d: Desk, input: &mut [u8], picture: &mut [u16]) -> Desk {
     let g = app_recording::read::take_two(input, d.from);
     let from = g.from;
     let n = g.a;
@@ -126,9 +125,9 @@ fn set_picture(d: Desk, input: &mut [u8], picture: &mut [u16]) -> Desk {
     with_picture(d, from, n)
 }
 
-// The n bytes of a message; one that is too long counts as cut.
-fn take_limited(input: &mut [u8], c: In, message: &mut [u8], n: usize) -> In {
-    if MESSAGE < n {
+// The n bytes of a message, at most 262,144; one that is too long counts as cut.
+pub fn take_limited(input: &mut [u8], c: In, message: &mut [u8], n: usize) -> In {
+    if 262144 < n {
         return In {
             at: 0,
             have: 0,
@@ -138,25 +137,19 @@ fn take_limited(input: &mut [u8], c: In, message: &mut [u8], n: usize) -> In {
     app_recording::read::take_message(input, c, message, n)
 }
 
-fn header_part(s: Session, message: &[u8], n: usize) -> Session {
-    if message.len() < n {
-        return s;
-    }
-    app_calls::calls::header_call(s, &message[0..n])
-}
-
 // 'H'
-fn header(d: Desk, input: &mut [u8], message: &mut [u8]) -> Desk {
+pub fn header(d: Desk, input: &mut [u8], message: &mut [u8]) -> Desk {
     let a = app_recording::read::number(input, d.from);
     let from = take_limited(input, a.from, message, a.value);
     if !from.whole {
         return bad(d);
     }
-    with_session(d, from, header_part(d.s, message, a.value))
+    let s = app_calls::calls::header_call(d.s, app_text::loading::first(message, a.value));
+    with_session(d, from, s)
 }
 
 // The component reader on the part of a list that is lent; false where the recording asks for more than there is.
-fn component_part(mode: usize, code: &[u8], len: usize) -> bool {
+fn component_on(mode: usize, code: &[u8], len: usize) -> bool {
     let mut space = [0i32; 8192];
     let list: &mut [i32] = &mut space;
     if list.len() < len {
@@ -166,35 +159,27 @@ fn component_part(mode: usize, code: &[u8], len: usize) -> bool {
     true
 }
 
-// The same on the first n bytes.
-fn component_on(mode: usize, s: &[u8], n: usize, len: usize) -> bool {
-    if s.len() < n {
-        return false;
-    }
-    component_part(mode, &s[0..n], len)
-}
-
 // 'C'
-fn component(d: Desk, input: &mut [u8], message: &mut [u8]) -> Desk {
+pub fn component(d: Desk, input: &mut [u8], message: &mut [u8]) -> Desk {
     let g = app_recording::read::take_three(input, d.from);
     let from = take_limited(input, g.from, message, g.c);
     if !from.whole {
         return bad(d);
     }
-    if component_on(g.a, message, g.c, g.b) {
+    if component_on(g.a, app_text::loading::first(message, g.c), g.b) {
         return going(d, from);
     }
     bad(d)
 }
 
 // 'D'
-fn component_again(d: Desk, input: &mut [u8], out: &[u8]) -> Desk {
+pub fn component_again(d: Desk, input: &mut [u8], out: &[u8]) -> Desk {
     let a = app_recording::read::number(input, d.from);
     let from = a.from;
     if !from.whole {
         return bad(d);
     }
-    if component_on(a.value, out, d.written, 4096) {
+    if component_on(a.value, app_text::loading::first(out, d.written), 4096) {
         return going(d, from);
     }
     bad(d)
@@ -240,7 +225,7 @@ fn writer_asked(input: &mut [u8], c: In, out: &mut [u8]) -> Wrote {
 }
 
 // 'W'
-fn writer(d: Desk, input: &mut [u8], out: &mut [u8]) -> Desk {
+pub fn writer(d: Desk, input: &mut [u8], out: &mut [u8]) -> Desk {
     let w = writer_asked(input, d.from, out);
     let from = w.from;
     let n = w.count;
@@ -251,7 +236,7 @@ fn writer(d: Desk, input: &mut [u8], out: &mut [u8]) -> Desk {
 }
 
 // 'X'
-fn headers(d: Desk, input: &mut [u8], out: &mut [u8]) -> Desk {
+pub fn headers(d: Desk, input: &mut [u8], out: &mut [u8]) -> Desk {
     let g = app_recording::read::take_four(input, d.from);
     let from = g.from;
     let room = g.d;
@@ -271,34 +256,11 @@ fn headers(d: Desk, input: &mut [u8], out: &mut [u8]) -> Desk {
 }
 
 // 'Y': the four blocks of 'X', each to a header call.
-fn headers_again(d: Desk, out: &[u8]) -> Desk {
+pub fn headers_again(d: Desk, out: &[u8]) -> Desk {
     if d.written < 47 {
         return bad(d);
     }
     let s = app_calls::calls::headers_back_call(d.s, out);
     let from = d.from;
     with_session(d, from, s)
-}
-
-// One record, by its letter.
-pub fn record(
-    d: Desk,
-    letter: u8,
-    input: &mut [u8],
-    message: &mut [u8],
-    out: &mut [u8],
-    picture: &mut [u16],
-) -> Desk {
-    match letter {
-        b'N' => fresh(d.from),
-        b'R' => set_record(d, input),
-        b'P' => set_picture(d, input, picture),
-        b'H' => header(d, input, message),
-        b'C' => component(d, input, message),
-        b'D' => component_again(d, input, out),
-        b'W' => writer(d, input, out),
-        b'X' => headers(d, input, out),
-        b'Y' => headers_again(d, out),
-        _ => bad(d),
-    }
 }

@@ -8,12 +8,6 @@ use lib.IntN.{ℤ, pos, negsuc, _+ℤ_, _-ℤ_, _*ℤ_}
 use lib.ListN.{length, getD, take, drop}
 use Rattle.whole.specs.Row.{_!_⨾_, _⇒_∣_}
 
--- the first n of some bytes, none where there are fewer
-unfoldable pub firstOf : List ℕ → ℕ → List ℕ
-firstOf s n =
-    leb n (length s) ! take 0 s ⨾
-    take n s
-
 -- the n numbers from place a on, none where they are not all there
 unfoldable pub partOf : List ℤ → ℕ → ℕ → List ℤ
 partOf l a n =

@@ -1,5 +1,6 @@
 // The codes of 001's worked sample (4.2.3 and 4.2.4.1) against the lists that 001 prints: 01's "If it disagrees with a rule here, its decoded values decide,
 // save in colour and 11". A code that answers 11 is cut to the bits reported; of one that answers 10 the bits before its last pair are compared.
+use app_text::lines::OUT;
 use code::element::Element;
 use code::element::Refusal;
 use code::element::State;
@@ -155,11 +156,11 @@ fn is_last(printed: &[u8], c: State, list: &[i32]) -> bool {
 }
 
 fn say_last(is: bool) {
-    app_text::report::say(b" agree; that pair is the last value and -1: ");
+    app_text::lines::say(OUT, b" agree; that pair is the last value and -1: ");
     if is {
-        app_text::report::say(b"yes\n");
+        app_text::lines::say(OUT, b"yes\n");
     } else {
-        app_text::report::say(b"no\n");
+        app_text::lines::say(OUT, b"no\n");
     }
 }
 
@@ -169,12 +170,13 @@ fn against_written(name: &[u8], printed: &[u8], list: &[i32], code: &mut [u8]) -
     let w = code_write::call::write_component(MODE, list, code);
     let c = before_refusal(printed);
     let at = c.at;
-    app_text::report::say(name);
-    crate::stages::say_with(
+    app_text::lines::say(OUT, name);
+    app_text::lines::say_number(
+        OUT,
         b": bits before the last pair, of the list written: ",
-        agree_bits(printed, code, at),
+        agree_bits(printed, code, at) as u64,
     );
-    crate::stages::say_with(b" of ", at);
+    app_text::lines::say_number(OUT, b" of ", at as u64);
     say_last(is_last(printed, c, list));
     wire::writing_length(w)
 }
@@ -190,13 +192,13 @@ fn against_list(
     crate::stages::load(name, code);
     let n = cut(code, bits);
     let mut got = [0; 4096];
-    let r = code::read::read_component(MODE, crate::stages::start(code, n), &mut got);
+    let r = code::read::read_component(MODE, app_text::loading::first(code, n), &mut got);
     if code::read::reading_number(r) == 0 {
         crate::stages::say_agree(list_name, crate::stages::agree(&got, list), list.len());
         return n;
     }
-    app_text::report::say(list_name);
-    app_text::report::say(b": the code that was cut is refused\n");
+    app_text::lines::say(OUT, list_name);
+    app_text::lines::say(OUT, b": the code that was cut is refused\n");
     n
 }
 
@@ -206,10 +208,10 @@ fn answer(name: &[u8], printed: &[u8]) -> usize {
     let r = code::read::read_component(MODE, printed, &mut list);
     let number = code::read::reading_number(r);
     let bits = code::read::reading_bits(r);
-    app_text::report::say(name);
-    crate::stages::say_with(b" as printed: answer ", number as usize);
-    crate::stages::say_with(b", bits ", bits);
-    app_text::report::say(b"\n");
+    app_text::lines::say(OUT, name);
+    app_text::lines::say_number(OUT, b" as printed: answer ", number as u64);
+    app_text::lines::say_number(OUT, b", bits ", bits as u64);
+    app_text::lines::say(OUT, b"\n");
     bits
 }
 
@@ -231,7 +233,7 @@ pub fn component(name: &[u8], list_name: &[u8], code: &mut [u8]) -> usize {
     values(
         name,
         list_name,
-        crate::stages::start(&printed, n),
+        app_text::loading::first(&printed, n),
         &list,
         code,
     )

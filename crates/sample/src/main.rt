@@ -5,6 +5,7 @@ mod code_stages;
 mod stages;
 mod wave_stages;
 
+use app_text::lines::OUT;
 use bands::Quant;
 ghost use Rattle.tile_back.specs.Word.{Plane};
 
@@ -137,10 +138,10 @@ fn colours(name: &[u8], words: &[u16; 4096]) {
     let t = count_words(words, &data);
     let same = t.same;
     let other = t.other;
-    app_text::report::say(name);
-    crate::stages::say_with(b": ", same);
-    crate::stages::say_with(b" agree, ", other);
-    app_text::report::say(b" differ\n");
+    app_text::lines::say(OUT, name);
+    app_text::lines::say_number(OUT, b": ", same as u64);
+    app_text::lines::say_number(OUT, b" agree, ", other as u64);
+    app_text::lines::say(OUT, b" differ\n");
 }
 
 // The tile's words against those of 01's integers, and against the text's, which differ: 001 gives reals, and 01's integers decide.
@@ -162,16 +163,16 @@ fn codes() {
 // Y of 4.2.4, stage by stage.
 fn luma(q: Quant, ys: &mut [i32], tmp: &mut [i32]) {
     luma_code(q, ys);
-    crate::wave_stages::third_level(ys, tmp);
-    crate::wave_stages::second_level(ys, tmp);
-    crate::wave_stages::first_level(ys, tmp);
+    crate::wave_stages::shown_level(b'1', b'3', b'2', 8, ys, tmp);
+    crate::wave_stages::shown_level(b'2', b'2', b'1', 16, ys, tmp);
+    crate::wave_stages::shown_level(b'3', b'1', b'0', 32, ys, tmp);
     crate::stages::stage(b"4.2.4.3.4_y", ys);
 }
 
 fn luma_code(q: Quant, ys: &mut [i32]) {
     let mut code = [0u8; 1024];
     let n = crate::code_stages::component(b"4.2.4.1_y", b"4.2.4.1_y_list", &mut code);
-    coefficients(q, crate::stages::start(&code, n), ys);
+    coefficients(q, app_text::loading::first(&code, n), ys);
 }
 
 // Cb or Cr of 4.2.4.
@@ -185,7 +186,7 @@ fn chroma(
 ) {
     let mut code = [0u8; 1024];
     let n = crate::code_stages::component(name, list_name, &mut code);
-    samples(q, crate::stages::start(&code, n), work, tmp);
+    samples(q, app_text::loading::first(&code, n), work, tmp);
     crate::stages::stage(samples_name, work);
 }
 

@@ -4,23 +4,15 @@ ghost use mathlib.Core.Path.{_≡_};
 ghost use lib.IntN.{pos};
 ghost use Rattle.whole.specs.Near.{Near};
 ghost use Rattle.io.specs.Counts.{Counts};
-ghost use Rattle.sample.specs.Compare.{firstOf, partOf, numberOf, valueAt, Unpacked, Loaded, oneIf, holdsAt, agreeing};
-
-fn say_number(n: usize) {
-    io::print_decimal(1, n as u64);
-}
-
-pub fn say_with(text: &[u8], n: usize) {
-    app_text::report::say(text);
-    say_number(n);
-}
+ghost use Rattle.sample.specs.Compare.{partOf, numberOf, valueAt, Unpacked, Loaded, oneIf, holdsAt, agreeing};
+use app_text::lines::OUT;
 
 // A stage's line: how many values agree, of how many.
 pub fn say_agree(stage: &[u8], same: usize, all: usize) {
-    app_text::report::say(stage);
-    say_with(b": ", same);
-    say_with(b" of ", all);
-    app_text::report::say(b" agree\n");
+    app_text::lines::say(OUT, stage);
+    app_text::lines::say_number(OUT, b": ", same as u64);
+    app_text::lines::say_number(OUT, b" of ", all as u64);
+    app_text::lines::say(OUT, b" agree\n");
 }
 
 // Reads a file of data/; the answer is the number of its bytes.
@@ -35,17 +27,6 @@ pub fn load(name: &[u8], bytes: &mut [u8]) -> usize
     let n = io::read_full(fd, bytes);
     libc::close(fd);
     n
-}
-
-// The first n of some bytes, none where there are fewer.
-pub fn start(s: &[u8], n: usize) -> &[u8]
-    ensures { λ r. ⌜ now r ≡ firstOf (now (s .entry)) n ⌝ }
-{
-    if s.len() < n {
-        return &s[..0];
-    }
-    let a = 0;
-    &s[a..n]
 }
 
 // The n numbers of a list from place a on, none where they are not all there.
@@ -147,7 +128,7 @@ pub fn stage(name: &[u8], got: &[i32]) {
     let n = load_list(name, &mut list);
     say_agree(name, agree(got, part(&list, 0, n)), n);
     if got.len() != n {
-        app_text::report::say(b"  but not as many were made\n");
+        app_text::lines::say(OUT, b"  but not as many were made\n");
     }
 }
 

@@ -1,39 +1,13 @@
-// The wavelet of 001's worked sample (4.2.4.3), level by level, each band and each pass against the list that 001 prints: 01's "Bands and the wavelet" as
-// the sample has it. No section of document 01 is made true here; `sample` runs it.
+// The wavelet of 001's worked sample (4.2.4.3), level by level, each band and each pass against its stage: 01's "Bands and the wavelet" as the sample has it.
+// No section of document 01 is made true here; `sample` runs it.
 ghost use mathlib.Core.Path.{_≡_};
+ghost use Prim.Native.Nat.{_≤_};
 ghost use lib.ListN.{length};
-ghost use Rattle.sample.specs.Waves.{levelled};
+ghost use Rattle.sample.specs.Waves.{isReady, levelled};
 
-// The row pass of the level whose bands, n by n, begin at place a: whether its numbers are such that it is made.
-fn rows(work: &[i32], tmp: &mut [i32], a: usize, n: usize) -> bool {
-    if n < 2 {
-        return false;
-    }
-    if 32 < n {
-        return false;
-    }
-    let e = work.len();
-    let k = 4 * (n * n);
-    if e != 4096 {
-        return false;
-    }
-    if a != 4096 - k {
-        return false;
-    }
-    if tmp.len() != 4096 {
-        return false;
-    }
-    if !code_write::call::in_range(work) {
-        return false;
-    }
-    let z = 0;
-    wave_back::tile::row_pass(&work[a..e], &mut tmp[z..k], n);
-    true
-}
-
-// The whole level.
-fn level(work: &mut [i32], tmp: &mut [i32], a: usize, n: usize) -> bool
-    ensures { λ _. ⌜ now (work .exit) ≡ levelled a n (length (now (tmp .entry))) (now (work .entry)) ⌝ }
+// Whether the level whose bands are n by n can be made.
+fn ready(work: &[i32], tmp: &[i32], n: usize) -> bool
+    ensures { λ r. ⌜ r ≡ isReady (now (work .entry)) (length (now (tmp .entry))) n ⌝ }
 {
     if n < 2 {
         return false;
@@ -44,67 +18,102 @@ fn level(work: &mut [i32], tmp: &mut [i32], a: usize, n: usize) -> bool
     if work.len() != 4096 {
         return false;
     }
-    if a != 4096 - 4 * (n * n) {
-        return false;
-    }
     if tmp.len() != 4096 {
         return false;
     }
-    if !code_write::call::in_range(work) {
-        return false;
+    code_write::call::in_range(work)
+}
+
+// The row pass of that level, where it can be made.
+fn rows(work: &[i32], tmp: &mut [i32], n: usize) {
+    if !ready(work, tmp, n) {
+        return;
     }
-    wave_back::tile::level_from(work, tmp, a, n, 2 * n);
-    true
+    let k = 4 * (n * n);
+    let a = 4096 - k;
+    let e = work.len();
+    let z = 0;
+    wave_back::tile::row_pass(&work[a..e], &mut tmp[z..k], n);
 }
 
-fn third_bands(work: &[i32]) {
-    crate::stages::shown(b"4.2.4.3.1.1_Y_LL3", work, 4032, 64);
-    crate::stages::shown(b"4.2.4.3.1.2_Y_HL3", work, 3840, 64);
-    crate::stages::shown(b"4.2.4.3.1.3_Y_LH3", work, 3904, 64);
-    crate::stages::shown(b"4.2.4.3.1.4_Y_HH3", work, 3968, 64);
-}
-
-pub fn third_level(work: &mut [i32], tmp: &mut [i32])
-    ensures { λ _. ⌜ now (work .exit) ≡ levelled 3840 8 (length (now (tmp .entry))) (now (work .entry)) ⌝ }
+// The whole level, where it can be made.
+fn level(work: &mut [i32], tmp: &mut [i32], n: usize)
+    ensures { λ _. ⌜ now (work .exit) ≡ levelled n (length (now (tmp .entry))) (now (work .entry)) ⌝ }
 {
-    third_bands(work);
-    rows(work, tmp, 3840, 8);
-    crate::stages::shown(b"4.2.4.3.1.5_Y_L2", tmp, 0, 128);
-    crate::stages::shown(b"4.2.4.3.1.6_Y_H2", tmp, 128, 128);
-    level(work, tmp, 3840, 8);
-    crate::stages::shown(b"4.2.4.3.1.7_Y_LL2", work, 3840, 256);
+    if !ready(work, tmp, n) {
+        return;
+    }
+    wave_back::tile::level_from(work, tmp, 4096 - 4 * (n * n), n, 2 * n);
 }
 
-fn second_bands(work: &[i32]) {
-    crate::stages::shown(b"4.2.4.3.2.2_Y_HL2", work, 3072, 256);
-    crate::stages::shown(b"4.2.4.3.2.3_Y_LH2", work, 3328, 256);
-    crate::stages::shown(b"4.2.4.3.2.4_Y_HH2", work, 3584, 256);
+// The name of a stage that is a band, of the section's number, the stage's, and the band's letters and level.
+fn band_name(section: u8, stage: u8, one: u8, two: u8, digit: u8) -> [u8; 17] {
+    let mut name = *b"4.2.4.3.1.1_Y_LL3";
+    name[8] = section;
+    name[10] = stage;
+    name[14] = one;
+    name[15] = two;
+    name[16] = digit;
+    name
 }
 
-pub fn second_level(work: &mut [i32], tmp: &mut [i32])
-    ensures { λ _. ⌜ now (work .exit) ≡ levelled 3072 16 (length (now (tmp .entry))) (now (work .entry)) ⌝ }
+// The name of a stage that is half of a row pass.
+fn half_name(section: u8, stage: u8, one: u8, digit: u8) -> [u8; 16] {
+    let mut name = *b"4.2.4.3.1.5_Y_L2";
+    name[8] = section;
+    name[10] = stage;
+    name[14] = one;
+    name[15] = digit;
+    name
+}
+
+// How many numbers a band of a level has, by the side of the band.
+fn count(n: usize) -> usize
+    ensures { λ r. ⌜ r ≤ 1024 ⌝ }
 {
-    second_bands(work);
-    rows(work, tmp, 3072, 16);
-    crate::stages::shown(b"4.2.4.3.2.5_Y_L1", tmp, 0, 512);
-    crate::stages::shown(b"4.2.4.3.2.6_Y_H1", tmp, 512, 512);
-    level(work, tmp, 3072, 16);
-    crate::stages::shown(b"4.2.4.3.2.7_Y_LL1", work, 3072, 1024);
+    match n {
+        8 => 64,
+        16 => 256,
+        _ => 1024,
+    }
 }
 
-fn first_bands(work: &[i32]) {
-    crate::stages::shown(b"4.2.4.3.3.2_Y_HL1", work, 0, 1024);
-    crate::stages::shown(b"4.2.4.3.3.3_Y_LH1", work, 1024, 1024);
-    crate::stages::shown(b"4.2.4.3.3.4_Y_HH1", work, 2048, 1024);
+// The bands of a level; LL is shown where nothing was made before.
+fn bands(section: u8, digit: u8, n: usize, work: &[i32]) {
+    let k = count(n);
+    let a = 4096 - 4 * k;
+    if section == b'1' {
+        crate::stages::shown(
+            &band_name(section, b'1', b'L', b'L', digit),
+            work,
+            a + 3 * k,
+            k,
+        );
+    }
+    crate::stages::shown(&band_name(section, b'2', b'H', b'L', digit), work, a, k);
+    crate::stages::shown(&band_name(section, b'3', b'L', b'H', digit), work, a + k, k);
+    crate::stages::shown(
+        &band_name(section, b'4', b'H', b'H', digit),
+        work,
+        a + 2 * k,
+        k,
+    );
 }
 
-pub fn first_level(work: &mut [i32], tmp: &mut [i32])
-    ensures { λ _. ⌜ now (work .exit) ≡ levelled 0 32 (length (now (tmp .entry))) (now (work .entry)) ⌝ }
+// A level, stage by stage: its bands, the two halves of its row pass, and the band that it makes, which has the next level's digit.
+pub fn shown_level(section: u8, digit: u8, next: u8, n: usize, work: &mut [i32], tmp: &mut [i32])
+    ensures { λ _. ⌜ now (work .exit) ≡ levelled n (length (now (tmp .entry))) (now (work .entry)) ⌝ }
 {
-    first_bands(work);
-    rows(work, tmp, 0, 32);
-    crate::stages::shown(b"4.2.4.3.3.5_Y_L0", tmp, 0, 2048);
-    crate::stages::shown(b"4.2.4.3.3.6_Y_H0", tmp, 2048, 2048);
-    level(work, tmp, 0, 32);
-    crate::stages::shown(b"4.2.4.3.3.7_Y_LL0", work, 0, 4096);
+    let k = count(n);
+    bands(section, digit, n, work);
+    rows(work, tmp, n);
+    crate::stages::shown(&half_name(section, b'5', b'L', next), tmp, 0, 2 * k);
+    crate::stages::shown(&half_name(section, b'6', b'H', next), tmp, 2 * k, 2 * k);
+    level(work, tmp, n);
+    crate::stages::shown(
+        &band_name(section, b'7', b'L', b'L', next),
+        work,
+        4096 - 4 * k,
+        4 * k,
+    );
 }

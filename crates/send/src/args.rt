@@ -1,97 +1,41 @@
-// The arguments of the program `send` (issue 8.4):  send [FILE] [-m 1|3] [-q Q0 .. Q9] [-i INDEX]
+// The options of the program `send`:  send [FILE] [-m 1|3] [-q Q0 .. Q9] [-i INDEX]
 use bands::Quant;
 
-// The file's argument (0 none), mode, quantisers, the frame's index; what the next argument belongs to (1 -m, 2 -q, 3 -i); how many of the
-// quantisers are still to come; whether all is well so far.
+// The file's argument (0 none), mode, quantisers, the frame's index; whether the arguments are as the usage says.
 pub struct Options {
     pub file: usize,
     pub mode: u8,
     pub q: Quant,
     pub index: u32,
-    pub wants: u8,
-    pub left: usize,
     pub good: bool,
 }
 
-// What an argument is: 1 for -m, 2 for -q, 3 for -i, 4 for any other that begins with '-', else 0.
-fn option_kind(i: usize) -> u8 {
-    let mut text = [0u8; 3];
-    let n = os::arg(i, &mut text);
-    if text[0] != b'-' {
-        return 0;
-    }
-    if n != 2 {
-        return 4;
-    }
-    match text[1] {
-        b'm' => 1,
-        b'q' => 2,
-        b'i' => 3,
-        _ => 4,
-    }
-}
+// What stands for an argument that is no number.
+const NONE: usize = 4294967296;
 
-// The number that an argument is, 2^32 where it is none.
+// The number that an argument is.
 fn number_of(i: usize) -> usize {
     let mut text = [0u8; 16];
     let n = os::arg(i, &mut text);
     if n == 0 {
-        return 4294967296;
+        return NONE;
     }
     let f = app_pictures::ppm::number(&text, 0);
     if f.at != n {
-        return 4294967296;
+        return NONE;
     }
     f.value
 }
 
-fn none() -> Options {
-    Options {
-        file: 0,
-        mode: 4,
-        q: Quant {
-            v: [6, 6, 6, 6, 7, 7, 8, 8, 8, 9],
-        },
-        index: 0,
-        wants: 0,
-        left: 0,
-        good: true,
+// RLGR3, whose number in the stream is 4, without -m; else 1 is RLGR1, 3 is RLGR3, and 0 stands for none.
+fn mode_of(i: usize) -> u8 {
+    if i == 0 {
+        return 4;
     }
-}
-
-fn with_file(o: Options, i: usize) -> Options {
-    let q = o.q;
-    Options {
-        file: i,
-        mode: o.mode,
-        q: q,
-        index: o.index,
-        wants: 0,
-        left: 0,
-        good: o.good && o.file == 0,
-    }
-}
-
-// 1 is RLGR1, 3 is RLGR3, whose number in the stream is 4; 0 none.
-fn mode_of(n: usize) -> u8 {
-    match n {
+    match number_of(i) {
         1 => 1,
         3 => 4,
         _ => 0,
-    }
-}
-
-fn with_mode(o: Options, n: usize) -> Options {
-    let q = o.q;
-    let mode = mode_of(n);
-    Options {
-        file: o.file,
-        mode: mode,
-        q: q,
-        index: o.index,
-        wants: 0,
-        left: 0,
-        good: o.good && mode != 0,
     }
 }
 
@@ -103,98 +47,60 @@ fn byte_of(n: usize) -> u8 {
     n as u8
 }
 
-fn quant_with(q: Quant, left: usize, n: usize) -> Quant {
-    let mut v = q.v;
-    if left < 1 {
-        return q;
-    }
-    if 10 < left {
-        return q;
-    }
-    v[10 - left] = byte_of(n);
-    Quant { v: v }
+// Ten quantisers, and whether all are numbers.
+struct Ten {
+    v: [u8; 10],
+    good: bool,
 }
 
-// One quantiser more; behind the tenth the next argument is free again.
-fn with_quant(o: Options, n: usize) -> Options {
-    let left = o.left;
-    let q = quant_with(o.q, left, n);
-    let mut wants = 2;
-    let mut rest = 0;
-    if left <= 1 {
-        wants = 0;
-    } else {
-        rest = left - 1;
+fn quantisers(i: usize) -> Ten {
+    let mut v = [6, 6, 6, 6, 7, 7, 8, 8, 8, 9];
+    let mut good = true;
+    if i == 0 {
+        return Ten { v: v, good: good };
     }
-    Options {
-        file: o.file,
-        mode: o.mode,
-        q: q,
-        index: o.index,
-        wants: wants,
-        left: rest,
-        good: o.good && n < 4294967296,
+    let mut k: usize = 0;
+    while k < 10 {
+        let n = number_of(std::num::wrapping_add_usize(i, k));
+        good = good && n < NONE;
+        v[k] = byte_of(n);
+        k += 1;
     }
+    Ten { v: v, good: good }
 }
 
-fn index_of(n: usize) -> u32 {
-    if 4294967295 < n {
+fn index_of(i: usize) -> usize {
+    if i == 0 {
+        return 0;
+    }
+    number_of(i)
+}
+
+fn index32(n: usize) -> u32 {
+    if NONE <= n {
         return 0;
     }
     n as u32
 }
 
-fn with_index(o: Options, n: usize) -> Options {
-    let q = o.q;
-    Options {
-        file: o.file,
-        mode: o.mode,
-        q: q,
-        index: index_of(n),
-        wants: 0,
-        left: 0,
-        good: o.good && n < 4294967296,
-    }
-}
-
-fn wanting(o: Options, kind: u8) -> Options {
-    let q = o.q;
-    Options {
-        file: o.file,
-        mode: o.mode,
-        q: q,
-        index: o.index,
-        wants: kind,
-        left: 10,
-        good: o.good && kind < 4,
-    }
-}
-
-// The options with one argument more.
-fn with_argument(o: Options, i: usize) -> Options {
-    let wants = o.wants;
-    match wants {
-        1 => with_mode(o, number_of(i)),
-        2 => with_quant(o, number_of(i)),
-        3 => with_index(o, number_of(i)),
-        _ => {
-            let kind = option_kind(i);
-            if kind == 0 {
-                return with_file(o, i);
-            }
-            wanting(o, kind)
-        }
-    }
-}
-
-// All arguments; they are good where `good` holds and nothing is wanted any more.
 pub fn arguments() -> Options {
-    let n = os::arg_count();
-    let mut o = none();
-    let mut i: usize = 1;
-    while i < n {
-        o = with_argument(o, i);
-        i += 1;
+    let known = [b'm', 1, b'q', 10, b'i', 1, 0, 0];
+    let file = app_text::arguments::find(known, 0);
+    let mode = mode_of(app_text::arguments::find(known, b'm').at);
+    let q = quantisers(app_text::arguments::find(known, b'q').at);
+    let index = index_of(app_text::arguments::find(known, b'i').at);
+    let other = app_text::arguments::find(known, b'-');
+    let v = q.v;
+    Options {
+        file: file.at,
+        mode: mode,
+        q: Quant { v: v },
+        index: index32(index),
+        good: file.whole
+            && file.times < 2
+            && other.times == 0
+            && mode != 0
+            && q.good
+            && index < NONE,
     }
-    o
 }

@@ -1,4 +1,4 @@
-// Sends a picture as a RemoteFX stream (issue 8.4):  send [FILE] [-m 1|3] [-q Q0 .. Q9] [-i INDEX]
+// Sends a picture as a RemoteFX stream:  send [FILE] [-m 1|3] [-q Q0 .. Q9] [-i INDEX]
 // The picture, a binary PPM (P6, 255 the largest value, comments in its head allowed), comes from FILE or from standard input. The stream goes to standard
 // output: the four header blocks (47 bytes) and one frame. -m 3 is RLGR3 (so without -m), -m 1 RLGR1; -q takes ten quantisers from 6 to 15 in the order LL3, LH3,
 // HL3, HH3, LH2, HL2, HH2, LH1, HL1, HH1 (6 6 6 6 7 7 8 8 8 9 without); INDEX is the frame's (0 without). At most 1,048,576 pixels and 4,194,304 bytes of
@@ -7,33 +7,39 @@ mod args;
 
 use crate::args::Options;
 use app_pictures::ppm::Head;
+use app_text::lines::ERR;
 use libc::STDOUT_FILENO;
 
 // ---- lines on standard error
 
 // What the writers refused, with 01's number.
 fn say_refused(number: u8) {
-    app_text::lines::say(b"send: ");
+    app_text::lines::say(ERR, b"send: ");
     app_text::lines::say_refused(number);
     if number == 13 {
-        app_text::lines::say(b"send: the stream would be longer than 4194304 bytes\n");
+        app_text::lines::say(
+            ERR,
+            b"send: the stream would be longer than 4194304 bytes\n",
+        );
     }
 }
 
 // Why a picture is not taken.
 fn say_fault(fault: u8) {
     match fault {
-        1 => app_text::lines::say(b"send: not a binary PPM: it does not begin with P6\n"),
-        2 => app_text::lines::say(b"send: the PPM's head cannot be read\n"),
-        3 => app_text::lines::say(b"send: the PPM's largest value is not 255\n"),
+        1 => app_text::lines::say(ERR, b"send: not a binary PPM: it does not begin with P6\n"),
+        2 => app_text::lines::say(ERR, b"send: the PPM's head cannot be read\n"),
+        3 => app_text::lines::say(ERR, b"send: the PPM's largest value is not 255\n"),
         4 => app_text::lines::say(
+            ERR,
             b"send: the size is not allowed: width 1 to 4096, height 1 to 2048\n",
         ),
         5 => app_text::lines::say(
+            ERR,
             b"send: the picture is too large: at most 1048576 pixels are taken\n",
         ),
-        6 => app_text::lines::say(b"send: the picture has too few bytes\n"),
-        _ => app_text::lines::say(b"send: the picture has too many bytes\n"),
+        6 => app_text::lines::say(ERR, b"send: the picture has too few bytes\n"),
+        _ => app_text::lines::say(ERR, b"send: the picture has too many bytes\n"),
     }
 }
 
@@ -96,7 +102,7 @@ fn put(out: &[u8], size: usize) {
     }
     let e = 47 + size;
     if !io::write_all(STDOUT_FILENO, &out[0..e]) {
-        app_text::lines::say(b"send: the stream could not be written\n");
+        app_text::lines::say(ERR, b"send: the stream could not be written\n");
     }
 }
 
@@ -138,14 +144,9 @@ fn load_and_send(o: Options, data: &mut [u8], out: &mut [u8]) {
         data,
         b"send: the picture is too large: at most 1048576 pixels are taken\n",
     );
-    let n = l.n;
-    if !l.whole {
-        return;
+    if l.whole {
+        send_picture(o, app_text::loading::first(data, l.n), out);
     }
-    if data.len() < n {
-        return;
-    }
-    send_picture(o, &data[0..n], out);
 }
 
 // The two large ones come as arrays: their lengths are known without counting to a million. The picture's has 1,024 bytes for the head.
@@ -157,11 +158,12 @@ fn main() {
     let mut data = [0u8; 3146752];
     let mut out = [0u8; 4194304];
     let o = crate::args::arguments();
-    if o.good && o.wants == 0 {
+    if o.good {
         send_in(o, &mut data, &mut out);
         return;
     }
     app_text::lines::say(
+        ERR,
         b"usage: send [FILE] [-m 1|3] [-q Q0 Q1 Q2 Q3 Q4 Q5 Q6 Q7 Q8 Q9] [-i INDEX]\n",
     );
 }

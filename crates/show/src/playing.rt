@@ -1,4 +1,4 @@
-// Makes the calls of a stream, one after the other (issue 8.3), and says on standard error what each came to; specs/Play says what the picture shows then.
+// Makes the calls of a stream, one after the other, and says on standard error what each came to; specs/Play says what the picture shows then.
 ghost use mathlib.Core.Path.{_≡_};
 ghost use Rattle.app_stream.specs.Split.{partOf};
 ghost use Rattle.show.specs.Play.{freshDesk, headerDesk, frameDesk, endDesk, deskAfter, frameShown, Stepped, Played};

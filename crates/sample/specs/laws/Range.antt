@@ -3,8 +3,6 @@
 use mathlib.Core.Path.{_≡_, sym, _∙_}
 use mathlib.Core.Bool.{Bool, true}
 use mathlib.Core.List.{List}
-use Prim.Native.Nat.{ℕ, _*_, _≤_}
-use native.Mathlib.Nat.{mul-le-mul}
 use lib.IntN.{ℤ}
 use Rattle.whole.specs.laws.Tab.{AllNear}
 use Rattle.code_write.specs.Write.{inRange}
@@ -12,7 +10,3 @@ use Rattle.code_write.specs.laws.Write.{range-is}
 
 pub near-of : (zs : List ℤ) (r : Bool) → r ≡ inRange zs → r ≡ true → AllNear 32767 zs
 near-of zs r e t = record { all = λ i. record { near = range-is zs (sym e ∙ t) i } }
-
--- the bands of a level fit the list
-pub square : (n : ℕ) → n ≤ 32 → n * n ≤ 1024
-square n h = mul-le-mul h h

@@ -1,31 +1,40 @@
--- A level's last three returns, in plain variables.
-use Prim.Native.Nat.{ℕ, _*_, _-_, _≤_}
-use mathlib.Core.Path.{_≡_, refl}
-use mathlib.Core.Bool.{true, false}
+-- What a list that is ready for a level gives, in plain variables.
+use Prim.Native.Nat.{ℕ, _*_, _≤_}
+use mathlib.Core.Path.{_≡_, sym, _∙_}
+use mathlib.Core.Bool.{Bool, true, false, true≢false}
 use mathlib.Core.List.{List}
-use borrow.Author.Tests.{le-leb, eq-eqb, ne-eqb}
+use native.Mathlib.Nat.{mul-le-mul}
+use borrow.Author.Tests.{leb-true, eqb-true}
 use lib.IntN.{ℤ}
 use lib.ListN.{length}
-use Rattle.whole.specs.laws.Row.{fails, passes}
-use Rattle.code_write.specs.Write.{inRange}
-use Rattle.wave_back.specs.laws.Level.{levelFrom}
-use Rattle.sample.specs.Waves.{levelled}
+use Rattle.whole.specs.laws.Row.{held}
+use Rattle.whole.specs.laws.Tab.{AllNear}
+use Rattle.sample.specs.Waves.{isReady}
+use Rattle.sample.specs.laws.Range.{near-of}
 
-pub no-scratch : (a n m : ℕ) (l : List ℤ) → 2 ≤ n → n ≤ 32 → length l ≡ 4096 → a ≡ 4096 - 4 * (n * n) → (m ≡ 4096 → ⊥) → l ≡ levelled a n m l
-unfolding levelled
-no-scratch a n m l h1 h2 h3 h4 h =
-    passes _ _ _ _ (le-leb 2 n h1) (passes _ _ _ _ (le-leb n 32 h2) (passes _ _ _ _ (eq-eqb _ _ h3)
-    (passes _ _ _ _ (eq-eqb _ _ h4) (fails _ _ _ _ (ne-eqb _ _ h) refl))))
+pub record Ready (l : List ℤ) (m n : ℕ) : Type 0 where
+  pub low : 2 ≤ n
+  pub high : n ≤ 32
+  pub long : length l ≡ 4096
+  pub scratch : m ≡ 4096
+  pub near : AllNear 32767 l
+  -- the level's bands fit the list
+  pub square : n * n ≤ 1024
 
-module _ (a n m : ℕ) (l : List ℤ) (h1 : 2 ≤ n) (h2 : n ≤ 32) (h3 : length l ≡ 4096) (h4 : a ≡ 4096 - 4 * (n * n)) (h5 : m ≡ 4096) where
-  pub out-of-range : inRange l ≡ false → l ≡ levelled a n m l
-  unfolding levelled
-  out-of-range h =
-      passes _ _ _ _ (le-leb 2 n h1) (passes _ _ _ _ (le-leb n 32 h2) (passes _ _ _ _ (eq-eqb _ _ h3)
-      (passes _ _ _ _ (eq-eqb _ _ h4) (passes _ _ _ _ (eq-eqb _ _ h5) (fails _ _ _ _ h refl)))))
-
-  pub level-done : (r : List ℤ) → inRange l ≡ true → r ≡ levelFrom a n l → r ≡ levelled a n m l
-  unfolding levelled
-  level-done r h e =
-      passes _ _ _ _ (le-leb 2 n h1) (passes _ _ _ _ (le-leb n 32 h2) (passes _ _ _ _ (eq-eqb _ _ h3)
-      (passes _ _ _ _ (eq-eqb _ _ h4) (passes _ _ _ _ (eq-eqb _ _ h5) (passes _ _ _ _ h e)))))
+pub ready-gives : (l : List ℤ) (m n : ℕ) (r : Bool) → r ≡ isReady l m n → r ≡ true → Ready l m n
+unfolding isReady
+ready-gives l m n r e t =
+    let no : r ≡ false → ⊥ = λ q. true≢false (sym t ∙ q) in
+    let a = held _ _ _ r no e in
+    let b = held _ _ _ r no (a .1) in
+    let c = held _ _ _ r no (b .1) in
+    let d = held _ _ _ r no (c .1) in
+    let h = leb-true n 32 (b .0) in
+    record {
+      low = leb-true 2 n (a .0);
+      high = h;
+      long = eqb-true _ _ (c .0);
+      scratch = eqb-true _ _ (d .0);
+      near = near-of l r (d .1) t;
+      square = mul-le-mul h h;
+    }
