@@ -160,7 +160,8 @@ uint8_t xurbalenz_read_header(XurbalenzSession *s, const uint8_t *message, size_
  * is 4. Bytes after the frame end are 4.
  *
  * Afterwards: done - a word of the picture has changed exactly if it lies in the channel, in some rectangle of the region and in some
- * listed tile (the last such tile decides); *tiles is how many tiles the frame lists; refused - the picture is what it was, *tiles is 0.
+ * listed tile (the last such tile decides); a region with no rectangles is one rectangle over the whole channel, one of width or height 0
+ * holds nothing; *tiles is how many tiles the frame lists; refused - the picture is what it was, *tiles is 0.
  * Words past width x height never change. The record is left equal in every case (it is not const only because all calls take it alike).
  * Work lists: untouched on 12 and 2; only zeros after every other answer, done too.
  */

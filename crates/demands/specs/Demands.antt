@@ -88,7 +88,7 @@ pub record Sent (bytes out out′ : List ℕ) (answer : Writing) : Type 0 where
 -- ---- 2. "An accepted frame changes the picture to what 01's rules say, pixel by pixel, and no other word."
 
 -- "A picture word is changed exactly if it lies in the channel, in some rectangle of the region, and in some listed tile; the last such
--- tile in message order decides."
+-- tile in message order decides." "No rectangles: one rectangle over the whole channel", as document 02's request Three mends 01.
 abbrev pub shownWord : ReadFrame → ℕ → ℕ → ℕ
 shownWord c px py =
     let old : ℕ = getD (c .picture) (py * c .session .width + px) 0 in

@@ -7,7 +7,7 @@ ghost use lib.ListN.{length, getD};
 ghost use Rattle.frame_draw.specs.Draw.{inside, holds, stores, rowPlace, rowDrawn};
 ghost use Rattle.frame_draw.specs.Spans.{always, partOf, lastOf, spanIn, spanOf, noted, spanned, Ends, rowFirst, covers, asked};
 
-// A part of a tile's row: the words from one on to before another.
+// A part of a tile's row: the words from one on to before another, none where that is no more.
 struct Span {
     from: usize,
     to: usize,
@@ -38,7 +38,7 @@ fn greater(a: usize, b: usize) -> usize
     a
 }
 
-// What is left of a number, at least 0.
+// One number less another, 0 where that is more.
 fn past(a: usize, b: usize) -> usize
     ensures { λ r. ⌜ r ≡ a - b ⌝ }
 {
