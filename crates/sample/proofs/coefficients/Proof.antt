@@ -1,3 +1,4 @@
+-- What `coefficients` asks for was tested.
 use mathlib.Core.Path.{sym, _∙_}
 use borrow.Author.Needs.{needs}
 use borrow.Author.Tests.{not-false}
@@ -6,7 +7,10 @@ use Rattle.sample.proofs.coefficients.Statement.{statement}
 use Rattle.sample.proofs.coefficients.Tie as tie
 
 coefficients-requires : tie.Need-coefficients-requires
-coefficients-requires c κs = (c .before .before .before .if1 .left, good-set _ (sym (c .before .before .is-good .ensures) ∙ not-false (c .before .before .is-good .result) (c .before .if2 .left)))
+coefficients-requires c κs =
+    let s = c .before .before in
+    let t = s .before in
+    (t .if1 .left, good-set _ (sym (s .is-good .ensures) ∙ not-false (s .is-good .result) (c .before .if2 .left)))
 
 pub coefficients-spec : {M : Type 1} → statement M
 coefficients-spec =

@@ -1,3 +1,4 @@
+-- What `coefficients` and `samples` ask for was tested; without a fault the list is of 4,096 numbers.
 use mathlib.Core.Path.{sym, _∙_}
 use borrow.Author.Needs.{needs}
 use borrow.Author.Tests.{not-false}
@@ -7,13 +8,17 @@ use Rattle.sample.proofs.samples.Statement.{statement}
 use Rattle.sample.proofs.samples.Tie as tie
 
 coefficients-requires : tie.Need-coefficients-requires
-coefficients-requires c κs = (c .before .before .before .before .if1 .left, good-set _ (sym (c .before .before .is-good .ensures) ∙ not-false (c .before .before .is-good .result) (c .before .if3 .left)))
+coefficients-requires c κs =
+    let g = c .before .before in
+    (g .before .before .if1 .left, good-set _ (sym (g .is-good .ensures) ∙ not-false (g .is-good .result) (c .before .if3 .left)))
 
 samples-requires : tie.Need-samples-requires
 samples-requires c κs =
-    let z = sym (c .before .before .if4 .left) ∙ c .before .before .before .before .coefficients .ensures .number in
-    let d = coefficients-are _ _ _ (c .before .before .before .before .coefficients .last .1 .1 .1 .0) (c .before .before .before .before .coefficients .result) z (c .before .before .before .before .coefficients .ensures) in
-    (d .1, c .before .before .before .before .before .before .before .before .if2 .left, good-set _ (sym (c .before .before .before .before .before .before .before .is-good .ensures) ∙ not-false (c .before .before .before .before .before .before .before .is-good .result) (c .before .before .before .before .before .before .if3 .left)), z)
+    let r = c .before .before .before .before in
+    let g = r .before .before .before in
+    let z = sym (c .before .before .if4 .left) ∙ r .coefficients .ensures .number in
+    let d = coefficients-are _ _ _ (r .coefficients .last .1 .1 .1 .0) (r .coefficients .result) z (r .coefficients .ensures) in
+    (d .1, g .before .if2 .left, good-set _ (sym (g .is-good .ensures) ∙ not-false (g .is-good .result) (r .before .before .if3 .left)), z)
 
 pub samples-spec : {M : Type 1} → statement M
 samples-spec =

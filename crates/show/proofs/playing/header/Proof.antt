@@ -1,51 +1,17 @@
-use Prim.Native.Nat.{_-_}
+-- The desk is `after_header`'s of what `read_header` answered, by the law `header-is`.
 use Rattle.show.specs.laws.Play.{header-is}
 use borrow.Author.Needs.{needs}
 use Rattle.show.proofs.playing.header.Statement.{statement}
 use Rattle.show.proofs.playing.header.Tie as tie
-use Rattle.show.proofs.playing.header.Reads as reads
-use Rattle.show.proofs.playing.header.Lts as lts
-use Rattle.app_text.proofs.lines.say_header.Reads as say-header-reads
-use Rattle.panel.proofs.header_number.Reads as header-number-reads
-use Rattle.panel.proofs.header_record.Reads as header-record-reads
-use Rattle.panel.proofs.read_header.Reads as read-header-reads
-use Rattle.show.proofs.playing.after_header.Reads as after-header-reads
-use Rattle.std.proofs.num.wrapping_add_u64.Reads as wrapping-add-u64-reads
-use Rattle.app_stream.proofs.message.Reads as message-reads
-
-wrapping-add-u64-requires : tie.Need-wrapping-add-u64-requires
-wrapping-add-u64-requires c κs = search needs
-
-message-requires : tie.Need-message-requires
-message-requires c κs = search needs
-
-read-header-requires : tie.Need-read-header-requires
-read-header-requires c κs = search needs
-
-header-number-requires : tie.Need-header-number-requires
-header-number-requires c κs = search needs
-
-say-header-requires : tie.Need-say-header-requires
-say-header-requires c κs = search needs
-
-header-record-requires : tie.Need-header-record-requires
-header-record-requires c κs = search needs
-
-after-header-requires : tie.Need-after-header-requires
-after-header-requires c κs = search needs
 
 returns : tie.Need-returns
-returns c = header-is _ _ _ _ _ _ _ (c .after-header .ensures) (c .before .header-record .ensures) (c .before .before .before .before .read-header .ensures) (c .before .before .before .before .before .message .ensures)
+returns c =
+    let s = c .before .before .before .before in
+    let t = s .before in
+    header-is _ _ _ _ _ _ _ (c .after-header .ensures) (c .before .header-record .ensures) (s .read-header .ensures) (t .message .ensures)
 
 pub header-spec : {M : Type 1} → statement M
 header-spec =
     tie.close
-    (tie.spec
-    wrapping-add-u64-requires
-    message-requires
-    read-header-requires
-    header-number-requires
-    say-header-requires
-    header-record-requires
-    after-header-requires
-    returns)
+    (tie.spec (λ c κs. search needs) (λ c κs. search needs) (λ c κs. search needs) (λ c κs. search needs) (λ c κs. search needs)
+    (λ c κs. search needs) (λ c κs. search needs) returns)
