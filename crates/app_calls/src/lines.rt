@@ -22,7 +22,7 @@ fn say_letter(letter: u8) {
 
 // A hash, behind a blank, and the end of the line.
 fn end_with(h: u64) {
-    app_text::lines::say_hash(OUT, b" ", h);
+    app_text::lines::say_hex(OUT, b" ", h, 16);
     app_text::lines::say(OUT, b"\n");
 }
 

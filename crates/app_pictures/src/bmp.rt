@@ -1,4 +1,4 @@
-// A picture of 5-6-5 words as a BMP file of 16 bits a pixel (issue 8.3): its head, and the words of a row as bytes. specs/Bmp has the layout.
+// A picture of 5-6-5 words as a BMP file of 16 bits a pixel: its head, and the words of a row as bytes. specs/Bmp has the layout.
 ghost use mathlib.Core.Path.{_≡_};
 ghost use Prim.Native.Nat.{_+_, _*_, _≤_, _<_};
 ghost use lib.ListN.{length};

@@ -1,4 +1,4 @@
-// A binary PPM picture (P6, 255 the largest value; issue 8.4): its head, whether it is one that `send` takes, and decimal numbers in text. specs/Ppm has the rule.
+// A binary PPM picture (P6, 255 the largest value): its head, whether it is one that `send` takes, and decimal numbers in text. specs/Ppm has the rule.
 ghost use mathlib.Core.Path.{_≡_};
 ghost use Prim.Native.Nat.{_-_, _<_};
 ghost use Rattle.app_pictures.specs.Ppm.{isDigit, isBlank, moreOf, figureAt, afterOf, skipAt, fieldOf, fieldAt, isP6, blankAt, closedOf, headOf, sizeFault, bytesFault, sizedOf, pictureOf};

@@ -1,4 +1,4 @@
-// What the programs say, piece by piece: texts, numbers and hashes, on standard output (`OUT`) or standard error (`ERR`), and lines with 01's words for its
+// What the programs say, piece by piece: texts and numbers, on standard output (`OUT`) or standard error (`ERR`), and lines with 01's words for its
 // numbers ("Numbers the fitter sees"). They answer nothing and change nothing lent: they only talk to the outside.
 pub const OUT: i32 = 1;
 
@@ -18,12 +18,12 @@ pub fn say_number(to: i32, text: &[u8], n: u64)
     io::print_decimal(to, n);
 }
 
-// A text, and a hash behind it, in 16 digits of base 16.
-pub fn say_hash(to: i32, text: &[u8], h: u64)
+// A text, and a number behind it in base 16, of at least so many digits.
+pub fn say_hex(to: i32, text: &[u8], n: u64, digits: usize)
     ensures { λ _. ⌜ Unit ⌝ }
 {
     say(to, text);
-    io::print_hex(to, h, 16);
+    io::print_hex(to, n, digits);
 }
 
 // 01's word for a number, behind a blank, and the end of the line.

@@ -1,9 +1,9 @@
--- The files of 001's worked sample as lists, and how many places of two lists agree.
+-- The files of 001's worked sample as lists, how many places of two lists agree, and how many rows as 001 prints them are those of a stage.
 use Prim.Native.Nat.{ℕ, zero, suc, _+_, _*_, _-_, _≤_, _<_}
 use mathlib.Core.Path.{_≡_}
 use mathlib.Core.Bool.{Bool, true, false}
 use mathlib.Core.List.{List, [], _∷_}
-use lib.Dec.{leb, eqb}
+use lib.Dec.{leb, ltb, eqb}
 use lib.IntN.{ℤ, pos, negsuc, _+ℤ_, _-ℤ_, _*ℤ_}
 use lib.ListN.{length, getD, take, drop}
 use Rattle.whole.specs.Row.{_!_⨾_, _⇒_∣_}
@@ -19,10 +19,10 @@ partOf l a n =
 unfoldable pub numberOf : ℤ → ℤ → ℤ
 numberOf low high = low +ℤ pos 256 *ℤ high -ℤ pos 32768
 
--- the number at place i of a file of 8,192 bytes, 0 past the end
+-- the number at place i of a file of 8,320 bytes, 0 past the end
 unfoldable pub valueAt : List ℕ → ℕ → ℤ
 valueAt bytes i =
-    leb 4096 i ⇒ pos 0 ∣
+    leb 4160 i ⇒ pos 0 ∣
     numberOf (pos (getD bytes (2 * i) 0)) (pos (getD bytes (2 * i + 1) 0))
 
 -- a list of the same length that has the file's number at each place
@@ -30,11 +30,11 @@ pub record Unpacked (bytes : List ℕ) (before after : List ℤ) : Type 0 where
   pub long : length after ≡ length before
   pub each : (i : ℕ) → i < length before → getD after i (pos 0) ≡ valueAt bytes i
 
--- a list read from a file, whatever the file holds: the numbers of some bytes, and how many of them the file had, 4,096 at most
+-- a list read from a file, whatever the file holds: the numbers of some bytes, and how many of them the file had, 4,160 at most
 pub record Loaded (before after : List ℤ) (n : ℕ) : Type 0 where
   pub bytes : List ℕ
   pub unpacked : Unpacked bytes before after
-  pub most : n ≤ 4096
+  pub most : n ≤ 4160
 
 -- 1 for yes, 0 for no
 unfoldable pub oneIf : Bool → ℕ
@@ -59,3 +59,19 @@ unfoldable pub agreeing : List ℤ → List ℤ → ℕ
 agreeing [] ys = 0
 agreeing (x ∷ xs) [] = 0
 agreeing (x ∷ xs) (y ∷ ys) = oneIf (sameZ y x) + agreeing xs ys
+
+-- a number of a file as a place, 0 where it is below 0
+unfoldable pub placeOf : ℤ → ℕ
+placeOf (pos n) = n
+placeOf (negsuc n) = 0
+
+-- a row as 001 prints it: at place a of a file its place in the stage, behind that its w numbers. Are they the stage's?
+unfoldable pub rowSame : List ℤ → List ℤ → ℕ → ℕ → Bool
+rowSame rows got w a =
+    ltb a (length rows) ! false ⨾
+    eqb (agreeing (partOf got (placeOf (getD rows a (pos 0))) w) (partOf rows (a + 1) w)) w
+
+-- how many of the first n rows are
+unfoldable pub rowsSame : List ℤ → List ℤ → ℕ → ℕ → ℕ
+rowsSame rows got w zero = 0
+rowsSame rows got w (suc i) = rowsSame rows got w i + oneIf (rowSame rows got w (i * (w + 1)))

@@ -1,5 +1,6 @@
-// The codes of 001's worked sample (4.2.3 and 4.2.4.1) against the lists that 001 prints: 01's "If it disagrees with a rule here, its decoded values decide,
-// save in colour and 11". A code that answers 11 is cut to the bits reported; of one that answers 10 the bits before its last pair are compared.
+// The codes of 001's worked sample (4.2.3 and 4.2.4.1) against their decoded lists, and those of 4.2.4.1 against 001's print of the lists (4.2.4.2): 01's "If
+// it disagrees with a rule here, its decoded values decide, save in colour and 11". A code that answers 11 is cut to the bits reported; of one that answers 10
+// the bits before its last pair are compared.
 use app_text::lines::OUT;
 use code::element::Element;
 use code::element::Refusal;
@@ -164,7 +165,7 @@ fn say_last(is: bool) {
     }
 }
 
-// A code that answers 10 at its last pair, whose second half is a value -1 that no place is left for: the list that 001 prints
+// A code that answers 10 at its last pair, whose second half is a value -1 that no place is left for: the decoded list
 // is written, and its code compared up to that pair.
 fn against_written(name: &[u8], printed: &[u8], list: &[i32], code: &mut [u8]) -> usize {
     let w = code_write::call::write_component(MODE, list, code);
@@ -181,7 +182,7 @@ fn against_written(name: &[u8], printed: &[u8], list: &[i32], code: &mut [u8]) -
     wire::writing_length(w)
 }
 
-// A code that answers 11, cut to the bits that the reader reports, against the list that 001 prints.
+// A code that answers 11, cut to the bits that the reader reports, against the decoded list.
 fn against_list(
     name: &[u8],
     list_name: &[u8],
@@ -224,10 +225,21 @@ fn values(name: &[u8], list_name: &[u8], printed: &[u8], list: &[i32], code: &mu
     against_list(name, list_name, list, code, bits)
 }
 
+// The name of a code: that of its list, without "_list".
+fn code_name(list_name: &[u8]) -> &[u8] {
+    if list_name.len() < 5 {
+        return list_name;
+    }
+    let a = 0;
+    let e = list_name.len() - 5;
+    &list_name[a..e]
+}
+
 // One code: what it answers as printed, then its values. It leaves a clean code of the same list, whose length in bytes is the answer.
-pub fn component(name: &[u8], list_name: &[u8], code: &mut [u8]) -> usize {
+pub fn component(list_name: &[u8], code: &mut [u8]) -> usize {
     let mut printed = [0u8; 1024];
     let mut list = [0; 4096];
+    let name = code_name(list_name);
     let n = crate::stages::load(name, &mut printed);
     crate::stages::load_list(list_name, &mut list);
     values(
@@ -237,4 +249,11 @@ pub fn component(name: &[u8], list_name: &[u8], code: &mut [u8]) -> usize {
         &list,
         code,
     )
+}
+
+// The list of a clean code against 001's print of it, sixteen numbers a row.
+pub fn printed(name: &[u8], code: &[u8]) {
+    let mut list = [0; 4096];
+    code::read::read_component(MODE, code, &mut list);
+    crate::stages::printed(name, &list, 16);
 }

@@ -1,6 +1,9 @@
-// Runs 001's worked sample (the codes of 4.2.3, all stages of 4.2.4) and compares it with what 001 prints, value by value: a line for each stage.
-// The files of data/ hold 001's numbers: a list as two bytes for each number and 32,768, low byte first; the words of a tile as two bytes for
-// the 5-6-5 word and one that is 0 where the text cannot be read; codes and the tileset as they are. Each file's name is its stage's.
+// Runs 001's worked sample (the codes of 4.2.3, all stages of 4.2.4) and compares it twice. Against decoded values, place by place: a line for each stage.
+// Those come from an independent implementation that follows 001, and stand also where 001's text is damaged; equal means "as another implementation". Against
+// 001's print, row by row: a line `printed ..` for each stage, of the 3,175 rows that stand whole in 001's text; equal means "as 001 says". The 51 rows that
+// differ are named by the places that 001 labels them with; docs/DECISIONS.md, 41, says what is wrong with them.
+// Files: data/NAME has the decoded values of the stage NAME, data/printed/NAME its printed rows; the words of a tile are two bytes for the 5-6-5 word and one
+// that is 0 where the text cannot be read; codes and the tileset are 001's bytes.
 mod code_stages;
 mod stages;
 mod wave_stages;
@@ -155,9 +158,9 @@ fn picture(ys: &[i32], cbs: &[i32], crs: &[i32]) {
 // The codes of 4.2.3.
 fn codes() {
     let mut code = [0u8; 1024];
-    crate::code_stages::component(b"4.2.3_y", b"4.2.3_y_list", &mut code);
-    crate::code_stages::component(b"4.2.3_cb", b"4.2.3_cb_list", &mut code);
-    crate::code_stages::component(b"4.2.3_cr", b"4.2.3_cr_list", &mut code);
+    crate::code_stages::component(b"4.2.3_y_list", &mut code);
+    crate::code_stages::component(b"4.2.3_cb_list", &mut code);
+    crate::code_stages::component(b"4.2.3_cr_list", &mut code);
 }
 
 // Y of 4.2.4, stage by stage.
@@ -166,47 +169,46 @@ fn luma(q: Quant, ys: &mut [i32], tmp: &mut [i32]) {
     crate::wave_stages::shown_level(b'1', b'3', b'2', 8, ys, tmp);
     crate::wave_stages::shown_level(b'2', b'2', b'1', 16, ys, tmp);
     crate::wave_stages::shown_level(b'3', b'1', b'0', 32, ys, tmp);
-    crate::stages::stage(b"4.2.4.3.4_y", ys);
+    crate::stages::decoded(b"4.2.4.3.4_y", ys);
 }
 
 fn luma_code(q: Quant, ys: &mut [i32]) {
     let mut code = [0u8; 1024];
-    let n = crate::code_stages::component(b"4.2.4.1_y", b"4.2.4.1_y_list", &mut code);
-    coefficients(q, app_text::loading::first(&code, n), ys);
+    let n = crate::code_stages::component(b"4.2.4.1_y_list", &mut code);
+    let clean = app_text::loading::first(&code, n);
+    crate::code_stages::printed(b"printed/4.2.4.2.1_y_list", clean);
+    coefficients(q, clean, ys);
 }
 
-// Cb or Cr of 4.2.4.
-fn chroma(
-    name: &[u8],
-    list_name: &[u8],
-    samples_name: &[u8],
-    q: Quant,
-    work: &mut [i32],
-    tmp: &mut [i32],
-) {
+// The names of a chroma's list, of its printed list and of its printed samples, by the letter b or r.
+fn list_name(letter: u8) -> [u8; 15] {
+    let mut name = *b"4.2.4.1_cb_list";
+    name[9] = letter;
+    name
+}
+
+fn printed_list_name(section: u8, letter: u8) -> [u8; 25] {
+    let mut name = *b"printed/4.2.4.2.2_cb_list";
+    name[16] = section;
+    name[19] = letter;
+    name
+}
+
+fn printed_name(section: u8, letter: u8) -> [u8; 20] {
+    let mut name = *b"printed/4.2.4.3.5_cb";
+    name[16] = section;
+    name[19] = letter;
+    name
+}
+
+// Cb or Cr of 4.2.4, by its letter and the last digits of the sections that print its list and its samples.
+fn chroma(letter: u8, list: u8, stage: u8, q: Quant, work: &mut [i32], tmp: &mut [i32]) {
     let mut code = [0u8; 1024];
-    let n = crate::code_stages::component(name, list_name, &mut code);
-    samples(q, app_text::loading::first(&code, n), work, tmp);
-    crate::stages::stage(samples_name, work);
-}
-
-fn both_chromas(q: Quant, cbs: &mut [i32], crs: &mut [i32], tmp: &mut [i32]) {
-    chroma(
-        b"4.2.4.1_cb",
-        b"4.2.4.1_cb_list",
-        b"4.2.4.3.5_cb",
-        q,
-        cbs,
-        tmp,
-    );
-    chroma(
-        b"4.2.4.1_cr",
-        b"4.2.4.1_cr_list",
-        b"4.2.4.3.6_cr",
-        q,
-        crs,
-        tmp,
-    );
+    let n = crate::code_stages::component(&list_name(letter), &mut code);
+    let clean = app_text::loading::first(&code, n);
+    crate::code_stages::printed(&printed_list_name(list, letter), clean);
+    samples(q, clean, work, tmp);
+    crate::stages::stage(&printed_name(stage, letter), work);
 }
 
 fn main() {
@@ -217,6 +219,7 @@ fn main() {
     codes();
     let q = quantisers();
     luma(q, &mut ys, &mut tmp);
-    both_chromas(q, &mut cbs, &mut crs, &mut tmp);
+    chroma(b'b', b'2', b'5', q, &mut cbs, &mut tmp);
+    chroma(b'r', b'3', b'6', q, &mut crs, &mut tmp);
     picture(&ys, &cbs, &crs);
 }

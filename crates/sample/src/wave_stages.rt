@@ -46,24 +46,24 @@ fn level(work: &mut [i32], tmp: &mut [i32], n: usize)
     wave_back::tile::level_from(work, tmp, 4096 - 4 * (n * n), n, 2 * n);
 }
 
-// The name of a stage that is a band, of the section's number, the stage's, and the band's letters and level.
-fn band_name(section: u8, stage: u8, one: u8, two: u8, digit: u8) -> [u8; 17] {
-    let mut name = *b"4.2.4.3.1.1_Y_LL3";
-    name[8] = section;
-    name[10] = stage;
-    name[14] = one;
-    name[15] = two;
-    name[16] = digit;
+// The name of the printed rows of a stage that is a band, of the section's number, the stage's, and the band's letters and level.
+fn band_name(section: u8, stage: u8, one: u8, two: u8, digit: u8) -> [u8; 25] {
+    let mut name = *b"printed/4.2.4.3.1.1_Y_LL3";
+    name[16] = section;
+    name[18] = stage;
+    name[22] = one;
+    name[23] = two;
+    name[24] = digit;
     name
 }
 
-// The name of a stage that is half of a row pass.
-fn half_name(section: u8, stage: u8, one: u8, digit: u8) -> [u8; 16] {
-    let mut name = *b"4.2.4.3.1.5_Y_L2";
-    name[8] = section;
-    name[10] = stage;
-    name[14] = one;
-    name[15] = digit;
+// The same of a stage that is half of a row pass.
+fn half_name(section: u8, stage: u8, one: u8, digit: u8) -> [u8; 24] {
+    let mut name = *b"printed/4.2.4.3.1.5_Y_L2";
+    name[16] = section;
+    name[18] = stage;
+    name[22] = one;
+    name[23] = digit;
     name
 }
 

@@ -1,9 +1,8 @@
+-- Each return is one row of `sizeOf`.
 use Rattle.whole.specs.laws.Row.{rows}
 use Rattle.app_stream.specs.Split.{sizeOf}
 use Rattle.app_stream.proofs.size_of.Statement.{statement}
 use Rattle.app_stream.proofs.size_of.Tie as tie
-use Rattle.app_stream.proofs.size_of.Reads as reads
-use Rattle.app_stream.proofs.size_of.Lts as lts
 
 returns : tie.Need-returns
 unfolding sizeOf

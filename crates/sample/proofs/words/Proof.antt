@@ -1,3 +1,4 @@
+-- Each plane is of 4,096 numbers in range, as tested.
 use borrow.Author.Needs.{needs}
 use borrow.Author.Tests.{not-false}
 use Rattle.sample.proofs.Range.{plane-of}
@@ -5,11 +6,16 @@ use Rattle.sample.proofs.words.Statement.{statement}
 use Rattle.sample.proofs.words.Tie as tie
 
 fill-words-requires : tie.Need-fill-words-requires
-fill-words-requires c κs = (
-  plane-of (c .before .before .before .before .before .before .before .before .before .before .before .args .ys .now) _ (c .before .before .before .before .before .before .before .before .before .if1 .left) (c .before .before .before .before .before .before .in-range .ensures) (not-false (c .before .before .before .before .before .before .in-range .result) (c .before .before .before .before .before .if4 .left)),
-  plane-of (c .before .before .before .before .before .before .before .before .before .before .before .args .cbs .now) _ (c .before .before .before .before .before .before .before .before .if2 .left) (c .before .before .before .before .in-range2 .ensures) (not-false (c .before .before .before .before .in-range2 .result) (c .before .before .before .if5 .left)),
-  plane-of (c .before .before .before .before .before .before .before .before .before .before .before .args .crs .now) _ (c .before .before .before .before .before .before .before .if3 .left) (c .before .before .in-range3 .ensures) (not-false (c .before .before .in-range3 .result) (c .before .if6 .left)),
-)
+fill-words-requires c κs =
+    let z = c .before in
+    let y = z .before .before in
+    let x = y .before .before in
+    let s = x .before .before in
+    let a = s .before .before .before .args in (
+      plane-of (a .ys .now) _ (s .before .if1 .left) (x .before .in-range .ensures) (not-false (x .before .in-range .result) (x .if4 .left)),
+      plane-of (a .cbs .now) _ (s .if2 .left) (y .before .in-range2 .ensures) (not-false (y .before .in-range2 .result) (y .if5 .left)),
+      plane-of (a .crs .now) _ (x .before .before .if3 .left) (z .before .in-range3 .ensures) (not-false (z .before .in-range3 .result) (z .if6 .left)),
+    )
 
 pub words-spec : {M : Type 1} → statement M
 words-spec =

@@ -1,3 +1,4 @@
+-- Its numbers, one behind the other (`patch-next`).
 use mathlib.Core.Path.{refl}
 use native.Mathlib.Omega.{arith}
 use Rattle.wire.specs.Le.{bytes16, bytes32}
@@ -6,41 +7,23 @@ use Rattle.app_pictures.specs.Bmp.{infoHead}
 use borrow.Author.Needs.{needs}
 use Rattle.app_pictures.proofs.bmp.put_info_head.Statement.{statement}
 use Rattle.app_pictures.proofs.bmp.put_info_head.Tie as tie
-use Rattle.app_pictures.proofs.bmp.put_info_head.Reads as reads
-use Rattle.app_pictures.proofs.bmp.put_info_head.Lts as lts
-use Rattle.wire.proofs.put32_at.Reads as put32-at-reads
-use Rattle.wire.proofs.put_two16.Reads as put-two16-reads
-
-put32-at-requires : tie.Need-put32-at-requires
-put32-at-requires c κs = search needs
-
-put32-at-requires-2 : tie.Need-put32-at-requires-2
-put32-at-requires-2 c κs = search needs
-
-put32-at-requires-3 : tie.Need-put32-at-requires-3
-put32-at-requires-3 c κs = search needs
-
-put-two16-requires : tie.Need-put-two16-requires
-put-two16-requires c κs = search needs
-
-put32-at-requires-4 : tie.Need-put32-at-requires-4
-put32-at-requires-4 c κs = search needs
-
-same-length : tie.Need-same-length
-same-length c = search needs
 
 returns : tie.Need-returns
 unfolding bytes16 bytes32 infoHead
-returns c = let w1 = patch-next _ _ _ _ _ _ _ (c .before .before .before .before .before .before .before .before .before .before .before .before .before .before .before .before .before .before .put32-at .ensures) (c .before .before .before .before .before .before .before .before .before .before .before .before .before .before .put32-at2 .ensures) refl (omega arith) in let w2 = patch-next _ _ _ _ _ _ _ w1 (c .before .before .before .before .before .before .before .before .before .before .put32-at3 .ensures) refl (omega arith) in let w3 = patch-next _ _ _ _ _ _ _ w2 (c .before .before .before .before .before .before .put-two16 .ensures) refl (omega arith) in let w4 = patch-next _ _ _ _ _ _ _ w3 (c .before .before .put32-at4 .ensures) refl (omega arith) in w4
+returns c =
+    let s = c .before .before in
+    let t = s .before .before .before .before in
+    let u = t .before .before .before .before in
+    let v = u .before .before .before .before in
+    let x = v .before .before .before .before in
+    let w1 = patch-next _ _ _ _ _ _ _ (x .put32-at .ensures) (v .put32-at2 .ensures) refl (omega arith) in
+    let w2 = patch-next _ _ _ _ _ _ _ w1 (u .put32-at3 .ensures) refl (omega arith) in
+    let w3 = patch-next _ _ _ _ _ _ _ w2 (t .put-two16 .ensures) refl (omega arith) in
+    let w4 = patch-next _ _ _ _ _ _ _ w3 (s .put32-at4 .ensures) refl (omega arith) in
+    w4
 
 pub put-info-head-spec : {M : Type 1} → statement M
 put-info-head-spec =
     tie.close
-    (tie.spec
-    put32-at-requires
-    put32-at-requires-2
-    put32-at-requires-3
-    put-two16-requires
-    put32-at-requires-4
-    same-length
+    (tie.spec (λ c κs. search needs) (λ c κs. search needs) (λ c κs. search needs) (λ c κs. search needs) (λ c κs. search needs) (λ c. search needs)
     returns)

@@ -1,11 +1,9 @@
+-- Each return is one row of `afterOf`.
 use Rattle.whole.specs.laws.Row.{rows}
 use Rattle.app_pictures.specs.Ppm.{afterOf}
 use borrow.Author.Needs.{needs}
 use Rattle.app_pictures.proofs.ppm.after.Statement.{statement}
 use Rattle.app_pictures.proofs.ppm.after.Tie as tie
-use Rattle.app_pictures.proofs.ppm.after.Reads as reads
-use Rattle.app_pictures.proofs.ppm.after.Lts as lts
-use Rattle.app_pictures.proofs.ppm.is_blank.Reads as is-blank-reads
 
 returns : tie.Need-returns
 unfolding afterOf
@@ -14,9 +12,6 @@ returns c = search rows
 returns-2 : tie.Need-returns-2
 unfolding afterOf
 returns-2 c = search rows
-
-is-blank-requires : tie.Need-is-blank-requires
-is-blank-requires c κs = search needs
 
 returns-3 : tie.Need-returns-3
 unfolding afterOf
@@ -31,4 +26,4 @@ unfolding afterOf
 returns-5 c = search rows
 
 pub after-spec : {M : Type 1} → statement M
-after-spec = tie.close (tie.spec returns returns-2 is-blank-requires returns-3 returns-4 returns-5)
+after-spec = tie.close (tie.spec returns returns-2 (λ c κs. search needs) returns-3 returns-4 returns-5)

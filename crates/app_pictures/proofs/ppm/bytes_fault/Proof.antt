@@ -1,10 +1,8 @@
-use Prim.Native.Nat.{_-_}
+-- Each return is one row of `bytesFault`.
 use Rattle.whole.specs.laws.Row.{rows}
 use Rattle.app_pictures.specs.Ppm.{bytesFault}
 use Rattle.app_pictures.proofs.ppm.bytes_fault.Statement.{statement}
 use Rattle.app_pictures.proofs.ppm.bytes_fault.Tie as tie
-use Rattle.app_pictures.proofs.ppm.bytes_fault.Reads as reads
-use Rattle.app_pictures.proofs.ppm.bytes_fault.Lts as lts
 
 returns : tie.Need-returns
 unfolding bytesFault

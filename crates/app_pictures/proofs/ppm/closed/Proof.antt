@@ -1,3 +1,4 @@
+-- Each return is one row of `closedOf`.
 use Rattle.whole.specs.laws.Row.{rows}
 use native.Mathlib.Omega.{arith}
 use Rattle.app_pictures.specs.Ppm.{closedOf}
@@ -5,23 +6,22 @@ use Rattle.app_pictures.specs.laws.Ppm.{blank-in}
 use borrow.Author.Needs.{needs}
 use Rattle.app_pictures.proofs.ppm.closed.Statement.{statement}
 use Rattle.app_pictures.proofs.ppm.closed.Tie as tie
-use Rattle.app_pictures.proofs.ppm.closed.Reads as reads
-use Rattle.app_pictures.proofs.ppm.closed.Lts as lts
-use Rattle.app_pictures.proofs.ppm.blank_at.Reads as blank-at-reads
 
 returns : tie.Need-returns
 unfolding closedOf
 returns c = search rows
-
-blank-at-requires : tie.Need-blank-at-requires
-blank-at-requires c κs = search needs
 
 returns-2 : tie.Need-returns-2
 unfolding closedOf
 returns-2 c = search rows
 
 add-t9 : tie.Need-add-t9
-add-t9 c = let b = blank-in (c .before .before .before .before .before .before .args .m .now) (c .before .before .before .before .before .before .args .most .at) _ (c .before .before .before .blank-at .ensures) (c .before .before .if2 .taken) in omega arith
+add-t9 c =
+    let s = c .before .before in
+    let t = s .before in
+    let u = t .before .before .before in
+    let b = blank-in (u .args .m .now) (u .args .most .at) _ (t .blank-at .ensures) (s .if2 .taken) in
+    omega arith
 
 returns-3 : tie.Need-returns-3
 unfolding closedOf
@@ -32,4 +32,4 @@ unfolding closedOf
 returns-4 c = search rows
 
 pub closed-spec : {M : Type 1} → statement M
-closed-spec = tie.close (tie.spec returns blank-at-requires returns-2 add-t9 returns-3 returns-4)
+closed-spec = tie.close (tie.spec returns (λ c κs. search needs) returns-2 add-t9 returns-3 returns-4)

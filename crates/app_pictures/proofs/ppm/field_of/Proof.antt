@@ -1,9 +1,8 @@
+-- Each return is one row of `fieldOf`.
 use Rattle.whole.specs.laws.Row.{rows}
 use Rattle.app_pictures.specs.Ppm.{fieldOf}
 use Rattle.app_pictures.proofs.ppm.field_of.Statement.{statement}
 use Rattle.app_pictures.proofs.ppm.field_of.Tie as tie
-use Rattle.app_pictures.proofs.ppm.field_of.Reads as reads
-use Rattle.app_pictures.proofs.ppm.field_of.Lts as lts
 
 returns : tie.Need-returns
 unfolding fieldOf

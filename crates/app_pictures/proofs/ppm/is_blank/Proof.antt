@@ -1,9 +1,8 @@
+-- Each return is one row of `isBlank`.
 use Rattle.whole.specs.laws.Row.{rows}
 use Rattle.app_pictures.specs.Ppm.{isBlank}
 use Rattle.app_pictures.proofs.ppm.is_blank.Statement.{statement}
 use Rattle.app_pictures.proofs.ppm.is_blank.Tie as tie
-use Rattle.app_pictures.proofs.ppm.is_blank.Reads as reads
-use Rattle.app_pictures.proofs.ppm.is_blank.Lts as lts
 
 returns : tie.Need-returns
 unfolding isBlank

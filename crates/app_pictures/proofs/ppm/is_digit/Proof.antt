@@ -1,9 +1,8 @@
+-- Each return is one row of `isDigit`.
 use Rattle.whole.specs.laws.Row.{rows}
 use Rattle.app_pictures.specs.Ppm.{isDigit}
 use Rattle.app_pictures.proofs.ppm.is_digit.Statement.{statement}
 use Rattle.app_pictures.proofs.ppm.is_digit.Tie as tie
-use Rattle.app_pictures.proofs.ppm.is_digit.Reads as reads
-use Rattle.app_pictures.proofs.ppm.is_digit.Lts as lts
 
 returns : tie.Need-returns
 unfolding isDigit

@@ -1,3 +1,4 @@
+-- The digits from the place reached on give the whole number (`digits-on`); the measure is what is left.
 use Prim.Native.Nat.{_-_}
 use mathlib.Core.Path.{_≡_, refl, sym, _∙_}
 use native.Mathlib.Omega.{arith}
@@ -8,11 +9,6 @@ use Rattle.app_pictures.specs.Ppm.{figureAt, digitsFrom}
 use Rattle.app_pictures.specs.laws.Ppm.{digits-end, digits-on, digits-none}
 use Rattle.app_pictures.proofs.ppm.number.Statement.{statement}
 use Rattle.app_pictures.proofs.ppm.number.Tie as tie
-use Rattle.app_pictures.proofs.ppm.number.Reads as reads
-use Rattle.app_pictures.proofs.ppm.number.Lts as lts
-use Rattle.app_pictures.proofs.ppm.digit.Reads as digit-reads
-use Rattle.app_pictures.proofs.ppm.is_digit.Reads as is-digit-reads
-use Rattle.app_pictures.proofs.ppm.more.Reads as more-reads
 
 abbrev Inv-loop : tie.InvT-loop
 Inv-loop m from at₀ value₀ at value = figureAt m from ≡ digitsFrom m (length m - at) value at
@@ -24,29 +20,20 @@ loop-holds : tie.Need-loop-holds Inv-loop μ-loop
 unfolding figureAt
 loop-holds c = refl
 
-shared-slice-read-b : tie.Need-shared-slice-read-b Inv-loop μ-loop
-shared-slice-read-b c = search needs
-
-is-digit-requires : tie.Need-is-digit-requires Inv-loop μ-loop
-is-digit-requires c κs = search needs
-
 returns : tie.Need-returns Inv-loop μ-loop
-returns c = digits-end _ _ _ (c .before .before .before .loop-test .taken) (sym (c .before .is-digit .ensures) ∙ not-true _ (c .if1 .taken)) ∙ sym (c .before .before .before .before .loop .inv)
-
-digit-requires : tie.Need-digit-requires Inv-loop μ-loop
-digit-requires c κs = search needs
-
-more-requires : tie.Need-more-requires Inv-loop μ-loop
-more-requires c κs = search needs
-
-add-at : tie.Need-add-at Inv-loop μ-loop
-add-at c = omega arith
-
-loop-less : tie.Need-loop-less Inv-loop μ-loop
-loop-less c = omega arith
+returns c =
+    let s = c .before .before .before in
+    let t = s .before in
+    digits-end _ _ _ (s .loop-test .taken) (sym (c .before .is-digit .ensures) ∙ not-true _ (c .if1 .taken)) ∙ sym (t .loop .inv)
 
 loop-again : tie.Need-loop-again Inv-loop μ-loop
-loop-again c = c .before .before .before .before .before .before .loop .inv ∙ digits-on _ _ _ _ _ (c .before .before .before .before .before .loop-test .taken) (sym (c .before .before .before .is-digit .ensures) ∙ not-false _ (c .before .before .if1 .left)) (c .more .ensures) (c .before .digit .ensures .0)
+loop-again c =
+    let s = c .before .before in
+    let t = s .before in
+    let u = t .before .before in
+    let v = u .before in
+    v .loop .inv ∙ digits-on _ _ _ _ _ (u .loop-test .taken) (sym (t .is-digit .ensures) ∙ not-false _ (s .if1 .left)) (c .more .ensures)
+    (c .before .digit .ensures .0)
 
 returns-2 : tie.Need-returns-2 Inv-loop μ-loop
 returns-2 c = digits-none _ _ _ (c .loop-test .left) ∙ sym (c .before .loop .inv)
@@ -54,16 +41,5 @@ returns-2 c = digits-none _ _ _ (c .loop-test .left) ∙ sym (c .before .loop .i
 pub number-spec : {M : Type 1} → statement M
 number-spec =
     tie.close
-    (tie.spec
-    Inv-loop
-    μ-loop
-    loop-holds
-    shared-slice-read-b
-    is-digit-requires
-    returns
-    digit-requires
-    more-requires
-    add-at
-    loop-less
-    loop-again
-    returns-2)
+    (tie.spec Inv-loop μ-loop loop-holds (λ c. search needs) (λ c κs. search needs) returns (λ c κs. search needs) (λ c κs. search needs)
+    (λ c. omega arith) (λ c. omega arith) loop-again returns-2)

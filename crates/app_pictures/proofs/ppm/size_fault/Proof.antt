@@ -1,14 +1,12 @@
+-- Each return is one row of `sizeFault`.
 use borrow.Author.Tests.{le-leb, lt-leb}
 use native.Mathlib.Omega.{arith}
-use Prim.Native.Nat.{_-_}
 use mathlib.Core.Path.{refl}
 use Rattle.whole.specs.laws.Row.{rows, passes, fails}
 use Rattle.app_pictures.specs.Ppm.{sizeFault}
 use Rattle.app_pictures.specs.laws.Ppm.{size-bound}
 use Rattle.app_pictures.proofs.ppm.size_fault.Statement.{statement}
 use Rattle.app_pictures.proofs.ppm.size_fault.Tie as tie
-use Rattle.app_pictures.proofs.ppm.size_fault.Reads as reads
-use Rattle.app_pictures.proofs.ppm.size_fault.Lts as lts
 
 returns : tie.Need-returns
 unfolding sizeFault
@@ -27,16 +25,28 @@ unfolding sizeFault
 returns-4 c = search rows
 
 mul-if5 : tie.Need-mul-if5
-mul-if5 c = let b = size-bound (c .before .before .before .before .args .width) (c .before .before .before .before .args .height) (omega arith) (omega arith) in omega arith
+mul-if5 c =
+    let s = c .before .before .before .before in
+    let b = size-bound (s .args .width) (s .args .height) (omega arith) (omega arith) in
+    omega arith
 
 returns-5 : tie.Need-returns-5
 unfolding sizeFault
-returns-5 c = passes _ _ _ _ (le-leb _ _ (c .before .before .before .before .if1 .left)) (passes _ _ _ _ (le-leb _ _ (c .before .before .before .if2 .left)) (passes _ _ _ _ (le-leb _ _ (c .before .before .if3 .left)) (passes _ _ _ _ (le-leb _ _ (c .before .if4 .left)) (fails _ _ _ _ (lt-leb _ _ (c .if5 .taken)) refl))))
+returns-5 c =
+    let s = c .before .before in
+    let t = s .before in
+    let u = t .before in
+    passes _ _ _ _ (le-leb _ _ (u .if1 .left)) (passes _ _ _ _ (le-leb _ _ (t .if2 .left)) (passes _ _ _ _ (le-leb _ _ (s .if3 .left)) (passes _ _ _ _
+    (le-leb _ _ (c .before .if4 .left)) (fails _ _ _ _ (lt-leb _ _ (c .if5 .taken)) refl))))
 
 returns-6 : tie.Need-returns-6
 unfolding sizeFault
-returns-6 c = passes _ _ _ _ (le-leb _ _ (c .before .before .before .before .if1 .left)) (passes _ _ _ _ (le-leb _ _ (c .before .before .before .if2 .left)) (passes _ _ _ _ (le-leb _ _ (c .before .before .if3 .left)) (passes _ _ _ _ (le-leb _ _ (c .before .if4 .left)) (passes _ _ _ _ (le-leb _ _ (c .if5 .left)) refl))))
+returns-6 c =
+    let s = c .before .before in
+    let t = s .before in
+    let u = t .before in
+    passes _ _ _ _ (le-leb _ _ (u .if1 .left)) (passes _ _ _ _ (le-leb _ _ (t .if2 .left)) (passes _ _ _ _ (le-leb _ _ (s .if3 .left)) (passes _ _ _ _
+    (le-leb _ _ (c .before .if4 .left)) (passes _ _ _ _ (le-leb _ _ (c .if5 .left)) refl))))
 
 pub size-fault-spec : {M : Type 1} → statement M
-size-fault-spec =
-    tie.close (tie.spec returns returns-2 returns-3 returns-4 mul-if5 returns-5 returns-6)
+size-fault-spec = tie.close (tie.spec returns returns-2 returns-3 returns-4 mul-if5 returns-5 returns-6)

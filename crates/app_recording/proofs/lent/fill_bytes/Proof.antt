@@ -1,3 +1,4 @@
+-- What is passed holds v, the rest is as it was (`fill-more`); the measure is what is left.
 use mathlib.Core.Path.{_≡_, refl, _∙_}
 use mathlib.Core.List.{_++_}
 use native.Mathlib.Omega.{arith}
@@ -6,8 +7,6 @@ use lib.ListN.{length, replicate, drop}
 use Rattle.whole.specs.laws.Fill.{fill-more, fill-length, fill-all}
 use Rattle.app_recording.proofs.lent.fill_bytes.Statement.{statement}
 use Rattle.app_recording.proofs.lent.fill_bytes.Tie as tie
-use Rattle.app_recording.proofs.lent.fill_bytes.Reads as reads
-use Rattle.app_recording.proofs.lent.fill_bytes.Lts as lts
 
 abbrev Inv-loop : tie.InvT-loop
 Inv-loop a₀ v i₀ a i = (i ≤ length a₀) × (a ≡ replicate i v ++ drop i a₀)
@@ -28,24 +27,19 @@ loop-less : tie.Need-loop-less Inv-loop μ-loop
 loop-less c = let e = fill-length _ (c .before .loop .i) _ _ (c .before .loop .inv .1) (c .before .loop .inv .0) in omega arith
 
 loop-again : tie.Need-loop-again Inv-loop μ-loop
-loop-again c = let e = fill-length _ (c .before .loop .i) _ _ (c .before .loop .inv .1) (c .before .loop .inv .0) in (omega arith, rw (c .before .loop .inv .1) (fill-more _ (c .before .loop .i) _ (omega arith)))
+loop-again c =
+    let s = c .before in
+    let e = fill-length _ (s .loop .i) _ _ (s .loop .inv .1) (s .loop .inv .0) in
+    (omega arith, rw (s .loop .inv .1) (fill-more _ (s .loop .i) _ (omega arith)))
 
 same-length : tie.Need-same-length Inv-loop μ-loop
 same-length c = fill-length _ (c .before .loop .i) _ _ (c .before .loop .inv .1) (c .before .loop .inv .0)
 
 returns : tie.Need-returns Inv-loop μ-loop
-returns c = let e = fill-length _ (c .before .loop .i) _ _ (c .before .loop .inv .1) (c .before .loop .inv .0) in c .before .loop .inv .1 ∙ fill-all _ (c .before .loop .i) _ (omega arith) (c .before .loop .inv .0)
+returns c =
+    let s = c .before in
+    let e = fill-length _ (s .loop .i) _ _ (s .loop .inv .1) (s .loop .inv .0) in
+    s .loop .inv .1 ∙ fill-all _ (s .loop .i) _ (omega arith) (s .loop .inv .0)
 
 pub fill-bytes-spec : {M : Type 1} → statement M
-fill-bytes-spec =
-    tie.close
-    (tie.spec
-    Inv-loop
-    μ-loop
-    loop-holds
-    slice-write-out
-    add-i
-    loop-less
-    loop-again
-    same-length
-    returns)
+fill-bytes-spec = tie.close (tie.spec Inv-loop μ-loop loop-holds slice-write-out add-i loop-less loop-again same-length returns)

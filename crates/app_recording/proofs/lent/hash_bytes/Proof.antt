@@ -25,4 +25,5 @@ returns c = let l = c .before .loop in hash-all hashed _ (l .h) (l .i) (l .inv) 
 pub hash-bytes-spec : {M : Type 1} → statement M
 hash-bytes-spec =
     tie.close
-    (tie.spec Inv-loop μ-loop (λ c. hash-none hashed _) (λ c. search needs) (λ c κs. tt) (λ c κs. tt) (λ c. search needs) (λ c. search needs) loop-again returns)
+    (tie.spec Inv-loop μ-loop (λ c. hash-none hashed _) (λ c. search needs) (λ c κs. tt) (λ c κs. tt)
+    (λ c. search needs) (λ c. search needs) loop-again returns)

@@ -29,4 +29,5 @@ returns c = let l = c .before .loop in hash-all hashedSigned _ (l .h) (l .i) (l 
 pub hash-list-spec : {M : Type 1} → statement M
 hash-list-spec =
     tie.close
-    (tie.spec Inv-loop μ-loop (λ c. hash-none hashedSigned _) (λ c. search needs) (λ c. search needs) (λ c κs. tt) (λ c. search needs) (λ c. search needs) loop-again returns)
+    (tie.spec Inv-loop μ-loop (λ c. hash-none hashedSigned _) (λ c. search needs) (λ c. search needs) (λ c κs. tt)
+    (λ c. search needs) (λ c. search needs) loop-again returns)

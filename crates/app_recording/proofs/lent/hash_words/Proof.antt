@@ -25,4 +25,5 @@ returns c = let l = c .before .loop in hash-all hashedTwo _ (l .h) (l .i) (l .in
 pub hash-words-spec : {M : Type 1} → statement M
 hash-words-spec =
     tie.close
-    (tie.spec Inv-loop μ-loop (λ c. hash-none hashedTwo _) (λ c. search needs) (λ c. search needs) (λ c κs. tt) (λ c κs. tt) (λ c. search needs) (λ c. search needs) loop-again returns)
+    (tie.spec Inv-loop μ-loop (λ c. hash-none hashedTwo _) (λ c. search needs) (λ c. search needs) (λ c κs. tt) (λ c κs. tt)
+    (λ c. search needs) (λ c. search needs) loop-again returns)

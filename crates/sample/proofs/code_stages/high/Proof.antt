@@ -1,3 +1,4 @@
+-- A part of a byte is no larger than the byte.
 use native.Mathlib.Nat.{div-mul-le-self}
 use native.Mathlib.Omega.{arith}
 use borrow.Author.Needs.{needs}

@@ -1,11 +1,10 @@
+-- Three machine steps within their bounds (`Calc`).
 use mir.Syntax.{w32}
 use lib.IntN.{pos, _+ℤ_, _*ℤ_}
 use Rattle.whole.specs.Calc.{Calc, fits, val, arg, lit, add, sub, mul}
 use Rattle.sample.specs.Compare.{numberOf}
 use Rattle.sample.proofs.stages.number.Statement.{statement}
 use Rattle.sample.proofs.stages.number.Tie as tie
-use Rattle.sample.proofs.stages.number.Reads as reads
-use Rattle.sample.proofs.stages.number.Lts as lts
 
 abbrev upper : (c : tie.Start) → Calc w32 (pos 256 *ℤ c .args .high)
 upper c = mul (lit w32 (pos 256) tt) (arg w32 (c .pre .1) tt) tt

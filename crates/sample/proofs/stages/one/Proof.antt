@@ -1,8 +1,7 @@
+-- By the two cases.
 use Rattle.sample.specs.Compare.{oneIf}
 use Rattle.sample.proofs.stages.one.Statement.{statement}
 use Rattle.sample.proofs.stages.one.Tie as tie
-use Rattle.sample.proofs.stages.one.Reads as reads
-use Rattle.sample.proofs.stages.one.Lts as lts
 
 returns : tie.Need-returns
 unfolding oneIf

@@ -1,43 +1,18 @@
+-- Each return is one row of `partOf`.
 use native.Mathlib.Nat.{add-sub-cancel-left}
 use Rattle.whole.specs.laws.Row.{rows}
 use Rattle.sample.specs.Compare.{partOf}
 use borrow.Author.Needs.{needs}
 use Rattle.sample.proofs.stages.part.Statement.{statement}
 use Rattle.sample.proofs.stages.part.Tie as tie
-use Rattle.sample.proofs.stages.part.Reads as reads
-use Rattle.sample.proofs.stages.part.Lts as lts
-
-slice-aggregate-result : tie.Need-slice-aggregate-result
-slice-aggregate-result c = search needs
 
 returns : tie.Need-returns
 unfolding partOf
 returns c = search rows
 
-sub-if2 : tie.Need-sub-if2
-sub-if2 c = search needs
-
-slice-aggregate-result-2 : tie.Need-slice-aggregate-result-2
-slice-aggregate-result-2 c = search needs
-
 returns-2 : tie.Need-returns-2
 unfolding partOf
 returns-2 c = search rows
-
-add-e : tie.Need-add-e
-add-e c = search needs
-
-mul-result : tie.Need-mul-result
-mul-result c = search needs
-
-sub-result : tie.Need-sub-result
-sub-result c = search needs
-
-part-result-start : tie.Need-part-result-start
-part-result-start c = search needs
-
-part-result-end : tie.Need-part-result-end
-part-result-end c = search needs
 
 returns-3 : tie.Need-returns-3
 unfolding partOf
@@ -46,15 +21,5 @@ returns-3 c = simp add-sub-cancel-left (search rows)
 pub part-spec : {M : Type 1} → statement M
 part-spec =
     tie.close
-    (tie.spec
-    slice-aggregate-result
-    returns
-    sub-if2
-    slice-aggregate-result-2
-    returns-2
-    add-e
-    mul-result
-    sub-result
-    part-result-start
-    part-result-end
-    returns-3)
+    (tie.spec (λ c. search needs) returns (λ c. search needs) (λ c. search needs) returns-2 (λ c. search needs) (λ c. search needs)
+    (λ c. search needs) (λ c. search needs) (λ c. search needs) returns-3)

@@ -1,3 +1,4 @@
+-- Each place that is passed has the file's number; the measure is what is left.
 use Prim.Native.Nat.{ℕ, _≤_, _<_, _-_}
 use mathlib.Core.Path.{_≡_, refl, _∙_}
 use native.Mathlib.Omega.{arith}
@@ -9,9 +10,6 @@ use Rattle.whole.specs.laws.Put.{put-new}
 use Rattle.sample.specs.Compare.{valueAt}
 use Rattle.sample.proofs.stages.unpack.Statement.{statement}
 use Rattle.sample.proofs.stages.unpack.Tie as tie
-use Rattle.sample.proofs.stages.unpack.Reads as reads
-use Rattle.sample.proofs.stages.unpack.Lts as lts
-use Rattle.sample.proofs.stages.value_at.Reads as value-at-reads
 
 abbrev Inv-loop : tie.InvT-loop
 Inv-loop bytes list₀ i₀ list i = (i ≤ length list₀) × (length list ≡ length list₀) × ((n : ℕ) → n < i → getD list n (pos 0) ≡ valueAt bytes n)
@@ -21,9 +19,6 @@ abbrev μ-loop : tie.MeasureT-loop
 
 loop-holds : tie.Need-loop-holds Inv-loop μ-loop
 loop-holds c = (omega arith, refl, λ n k. absurd (omega arith))
-
-value-at-requires : tie.Need-value-at-requires Inv-loop μ-loop
-value-at-requires c κs = tt
 
 mul-t4 : tie.Need-mul-t4 Inv-loop μ-loop
 mul-t4 c = omega (arith, c .before .before .loop .inv .1, c .before .loop-test .taken)
@@ -38,7 +33,15 @@ loop-less : tie.Need-loop-less Inv-loop μ-loop
 loop-less c = omega (arith, c .before .before .loop .inv .1, c .before .loop-test .taken)
 
 loop-again : tie.Need-loop-again Inv-loop μ-loop
-loop-again c = (omega (arith, c .before .before .loop .inv .1, c .before .loop-test .taken), simp length-set (c .before .before .loop .inv .1), put-new (λ n. n) (valueAt _) (c .before .before .loop .list) (c .before .before .loop .i) _ (omega (arith, c .before .loop-test .taken)) (λ n k e. omega arith) (back-ok w32 (c .value-at .result) (c .value-at .ok) ∙ c .value-at .ensures) (c .before .before .loop .inv .2))
+loop-again c =
+    let s = c .before in
+    let t = s .before in (
+      omega (arith, t .loop .inv .1, s .loop-test .taken),
+      simp length-set (t .loop .inv .1),
+      put-new (λ n. n) (valueAt _) (t .loop .list) (t .loop .i)
+          _ (omega (arith, s .loop-test .taken)) (λ n k e. omega arith) (back-ok w32 (c .value-at .result) (c .value-at .ok) ∙ c .value-at .ensures)
+          (t .loop .inv .2),
+    )
 
 same-length : tie.Need-same-length Inv-loop μ-loop
 same-length c = c .before .loop .inv .1
@@ -47,17 +50,4 @@ returns : tie.Need-returns Inv-loop μ-loop
 returns c = record { long = c .before .loop .inv .1; each = λ n k. c .before .loop .inv .2 n (omega (arith, c .before .loop .inv .1)) }
 
 pub unpack-spec : {M : Type 1} → statement M
-unpack-spec =
-    tie.close
-    (tie.spec
-    Inv-loop
-    μ-loop
-    loop-holds
-    value-at-requires
-    mul-t4
-    slice-set-from-list
-    add-i
-    loop-less
-    loop-again
-    same-length
-    returns)
+unpack-spec = tie.close (tie.spec Inv-loop μ-loop loop-holds (λ c κs. tt) mul-t4 slice-set-from-list add-i loop-less loop-again same-length returns)

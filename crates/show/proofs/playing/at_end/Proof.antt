@@ -1,10 +1,8 @@
-use Prim.Native.Nat.{_-_}
+-- The definition itself.
 use mathlib.Core.Path.{refl}
 use Rattle.show.specs.Play.{endDesk}
 use Rattle.show.proofs.playing.at_end.Statement.{statement}
 use Rattle.show.proofs.playing.at_end.Tie as tie
-use Rattle.show.proofs.playing.at_end.Reads as reads
-use Rattle.show.proofs.playing.at_end.Lts as lts
 
 returns : tie.Need-returns
 unfolding endDesk

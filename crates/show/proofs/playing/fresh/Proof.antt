@@ -1,10 +1,8 @@
-use Prim.Native.Nat.{_-_}
+-- The definition itself.
 use mathlib.Core.Path.{refl}
 use Rattle.show.specs.Play.{freshDesk}
 use Rattle.show.proofs.playing.fresh.Statement.{statement}
 use Rattle.show.proofs.playing.fresh.Tie as tie
-use Rattle.show.proofs.playing.fresh.Reads as reads
-use Rattle.show.proofs.playing.fresh.Lts as lts
 
 returns : tie.Need-returns
 unfolding freshDesk
