@@ -1,3 +1,4 @@
+pub mod Collector
 pub mod Edge
 pub mod Panel
 pub mod laws

@@ -10,6 +10,8 @@ use code::read::Reading;
 use code_write::call::Writing;
 use session::Session;
 
+pub mod collector;
+
 pub mod edge;
 
 // What reading a header came to: the record after it, or 01's number.
