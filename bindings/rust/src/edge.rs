@@ -208,9 +208,8 @@ pub fn write_frame(
 #[inline]
 pub fn collect(c: &mut Collector, bytes: &[u8], store: &mut [u8]) -> (u8, u8, usize, usize) {
     let (mut call, mut size, mut taken) = (0, 0, 0);
-    let number = unsafe {
-        archive::xurbalenz_collect(c, bytes.as_ptr(), bytes.len(), store.as_mut_ptr(), store.len(), &mut call, &mut size, &mut taken)
-    };
+    let number =
+        unsafe { archive::xurbalenz_collect(c, bytes.as_ptr(), bytes.len(), store.as_mut_ptr(), store.len(), &mut call, &mut size, &mut taken) };
     (number, call, size, taken)
 }
 

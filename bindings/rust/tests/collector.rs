@@ -127,14 +127,8 @@ fn any_record_and_store() {
     let mut answers = [0; 14];
     for i in 0..200_000 {
         let mut near = |n: usize| *rng.pick(&[0, 1, 5, 6, 7, 12, n, n + 1, 1 << 32, (1 << 32) - 1, 0xCCC0, 0x0000_0006_CCC1, usize::MAX]);
-        let mut record = Record {
-            held: near(20),
-            end: near(30),
-            head: near(40),
-            refused: near(2) as u8,
-            part: (near(2) % 6) as u8,
-            seen: (near(3) % 8) as u8,
-        };
+        let mut record =
+            Record { held: near(20), end: near(30), head: near(40), refused: near(2) as u8, part: (near(2) % 6) as u8, seen: (near(3) % 8) as u8 };
         match i % 3 {
             0 => record = Record { refused: 0, head: 0, seen: 0, ..record }, // in a block, perhaps
             1 => record = Record { refused: 0, end: 0, head: 0, part: 3 * (record.part % 2), ..record }, // between blocks, perhaps
