@@ -1,6 +1,6 @@
 -- The collector's calls as a C program meets them (02, request One): 01's number is returned; to which call a part goes, how long it is and how many bytes
 -- were taken are stored behind references; the record is changed in place, and the store is lent. All by `collectOf`, the definition that the collector cites.
-use Prim.Native.Nat.{ℕ}
+use Prim.Native.Nat.{ℕ, zero, suc}
 use mathlib.Core.Path.{_≡_}
 use mathlib.Core.List.{List}
 use Rattle.collect.specs.declared.Collector.{Collector}
@@ -30,6 +30,13 @@ collectedSize More = 0
 collectedSize (Header n) = n
 collectedSize (Frame n) = n
 collectedSize (Refused n) = 0
+
+-- and the answer that three such numbers are
+abbrev pub answerOf : ℕ → ℕ → ℕ → Collected
+answerOf zero zero size = More
+answerOf zero (suc zero) size = Header size
+answerOf zero (suc (suc call)) size = Frame size
+answerOf (suc n) call size = Refused (suc n)
 
 -- ---- the call: c and store are the record and the store before it, c′ and store′ after it; n is what is returned
 

@@ -11,7 +11,6 @@ use code_write::call::Writing;
 use session::Session;
 
 pub mod collector;
-
 pub mod edge;
 
 // What reading a header came to: the record after it, or 01's number.

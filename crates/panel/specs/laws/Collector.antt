@@ -1,12 +1,17 @@
--- The collector's call for C is the collector's own: its promise follows from that call's answer. And it leaves one record, one store and one value of each
--- number.
-use Prim.Native.Nat.{ℕ}
-use mathlib.Core.Path.{_≡_, ap, _∙_, sym}
+-- The collector's call for C is the collector's own: its promise follows from that call's answer and gives it back, so what 02 says of the collector holds
+-- of it too. And it leaves one record, one store and one value of each number.
+use Prim.Native.Nat.{ℕ, zero, suc}
+use mathlib.Core.Path.{_≡_, refl, ap, _∙_, sym}
 use mathlib.Core.List.{List}
 use Rattle.collect.specs.declared.Collector.{Collector}
+use Rattle.collect.specs.declared.Collected.{Collected}
+use Rattle.collect.specs.declared.Collected.the-variants.{More, Header, Frame, Refused}
 use Rattle.collect.specs.declared.Took.{Took}
-use Rattle.collect.specs.Collect.{HandOver, said}
-use Rattle.panel.specs.Collector.{collectedNumber, collectedCall, collectedSize, handOver, CollectCall}
+use Rattle.collect.specs.Collect.{HandOver, state, step, took, said}
+use Rattle.collect.specs.Request.{Bytes}
+use Rattle.collect.specs.laws.Byte.{Says}
+use Rattle.collect.specs.laws.Cut.{call-front}
+use Rattle.panel.specs.Collector.{collectedNumber, collectedCall, collectedSize, answerOf, handOver, CollectCall}
 
 pub collect-call :
     (c : Collector) (bytes store store′ : List ℕ) (call size n : ℕ) (t : Took) → said t store′ ≡ handOver c bytes store →
@@ -21,6 +26,34 @@ collect-call c bytes store store′ call size n t e f g h =
       collector = ap (λ (x : HandOver). x .step .state .collector) e;
       left = ap (λ (x : HandOver). x .step .state .store) e;
     }
+
+-- the three numbers are one answer's: no refusal is 0
+told-by : (a : Collected) (fault : ℕ) → Says a fault → answerOf (collectedNumber a) (collectedCall a) (collectedSize a) ≡ a
+told-by More fault e = refl
+told-by (Header n) fault e = refl
+told-by (Frame n) fault e = refl
+told-by (Refused zero) fault e = absurd (e .1 refl)
+told-by (Refused (suc n)) fault e = refl
+
+pub told :
+    (c c′ : Collector) (bytes store store′ : List ℕ) (call size taken n : ℕ) → Bytes bytes → CollectCall c c′ bytes store store′ call size taken n →
+    answerOf n call size ≡ handOver c bytes store .step .answer
+told c c′ bytes store store′ call size taken n h p =
+    let a = handOver c bytes store .step .answer in
+    ap (λ (k : ℕ). answerOf k call size) (p .number) ∙
+    (ap (λ (k : ℕ). answerOf (collectedNumber a) k size) (p .goes) ∙
+    (ap (answerOf (collectedNumber a) (collectedCall a)) (p .long) ∙ told-by a _ (call-front (state c store) bytes h .says)))
+
+-- the collector's own answer, of bytes: by what C is told and what is left in memory
+pub as-collect :
+    (c c′ : Collector) (bytes store store′ : List ℕ) (call size taken n : ℕ) → Bytes bytes → CollectCall c c′ bytes store store′ call size taken n →
+    said (record { collector = c′; taken = taken; answer = answerOf n call size }) store′ ≡ handOver c bytes store
+as-collect c c′ bytes store store′ call size taken n h p =
+    let x = handOver c bytes store in
+    ap (λ (a : Collected). took taken (step c′ store′ a)) (told c c′ bytes store store′ call size taken n h p) ∙
+    (ap (λ (d : Collector). took taken (step d store′ (x .step .answer))) (p .collector) ∙
+    (ap (λ (l : List ℕ). took taken (step (x .step .state .collector) l (x .step .answer))) (p .left) ∙
+    ap (λ (k : ℕ). took k (x .step)) (p .took)))
 
 -- one answer
 pub record Same (c₁ c₂ : Collector) (store₁ store₂ : List ℕ) (call₁ call₂ size₁ size₂ taken₁ taken₂ n₁ n₂ : ℕ) : Type 0 where
