@@ -15,10 +15,12 @@ static uint8_t ground[1 << 16];
 static ucontext_t here, there;
 
 static XurbalenzSession session;
+static XurbalenzCollector collector;
 static XurbalenzWork work;
 static uint8_t pixels[3 * 70 * 40], headers[XURBALENZ_HEADERS_SIZE], frame[40000], code[XURBALENZ_MAX_COMPONENT];
 static uint16_t picture[70 * 40];
 static size_t size, frame_size, code_size, at;
+static uint8_t store[sizeof frame], call;
 static uint8_t number; /* the first refusal */
 
 static void judge(uint8_t answer) { number = number ? number : answer; }
@@ -45,6 +47,16 @@ static void write_component(void) { judge(xurbalenz_write_component(XURBALENZ_RL
 
 static void read_component(void) { judge(xurbalenz_read_component(XURBALENZ_RLGR1, code, code_size, work.y, XURBALENZ_LIST, &size)); }
 
+/* The frame in two pieces: a head in one of them is cut. */
+static void collect(void)
+{
+    judge(xurbalenz_collect(&collector, frame, 17, store, sizeof store, &call, &size, &at));
+    judge(xurbalenz_collect(&collector, frame + 17, frame_size - 17, store, sizeof store, &call, &size, &at));
+    judge(call == XURBALENZ_FRAME_CALL && size == frame_size ? 0 : 255);
+}
+
+static void collect_reset(void) { xurbalenz_collect_reset(&collector); }
+
 /* How deep a call goes. */
 static size_t depth(void (*call)(void))
 {
@@ -63,7 +75,8 @@ static size_t depth(void (*call)(void))
 int main(void)
 {
     static void (*const calls[])(void) = {write_headers, read_header,     read_header,    read_header, read_header,
-                                          write_frame,   write_component, read_component, read_frame};
+                                          write_frame,   write_component, read_component, read_frame,  collect,
+                                          collect_reset};
     size_t i, deepest = 0, bare = depth(nothing);
     for (i = 0; i < sizeof pixels; i++) pixels[i] = (uint8_t)(i * i >> 5);
     for (i = 0; i < XURBALENZ_LIST; i++) work.cb[i] = (int32_t)(i % 7) - 3;

@@ -1,16 +1,18 @@
 /*
- * xurbalenz.h - RemoteFX (MS-RDPRFX) pictures for the door glass: six calls, proved for every input.
+ * xurbalenz.h - RemoteFX (MS-RDPRFX) pictures for the door glass: eight calls, proved for every input.
  *
  * Link target/staticlib/libxurbalenz.a (made by `tools/archive`, x86-64). Its functions read four header blocks and whole frames into a
- * lent picture of 16-bit words, and write headers, components and frames.
+ * lent picture of 16-bit words, and write headers, components and frames; and they gather header blocks and frames from a network card's
+ * bytes, however these are cut.
  *
  * WHAT YOU CAN RELY ON
  *  - Every call takes any bytes whatever and comes back with a number: 0 done, 1 to 13 refused (below). Nothing has to be checked first.
  *  - A frame is drawn whole or not at all. After a refusal the picture and the record are what they were.
  *  - The number is that of the first fault, in the order given at each call.
- *  - What each lent region holds afterwards is said at each call, for every answer. The value behind the last pointer (tiles, bits, size) is
- *    always written.
- *  - Same memory in, same answer and same memory out. No state is kept between calls but what you hold: the record and the picture.
+ *  - What each lent region holds afterwards is said at each call, for every answer. The value behind the last pointer (tiles, bits, size), and
+ *    the three of the collector, are always written.
+ *  - Same memory in, same answer and same memory out. No state is kept between calls but what you hold: the record and the picture, the
+ *    collector and its store.
  *
  * WHAT YOU LEND
  *  - A slice is a pointer and a length in elements (not bytes): uint8_t, uint16_t or int32_t, each aligned as its type asks.
@@ -52,7 +54,8 @@ extern "C" {
 
 #define XURBALENZ_DONE 0
 #define XURBALENZ_CUT 1      /* a block, or the code being read, needs more than is there */
-#define XURBALENZ_BUFFER 2   /* a list is not 4,096 numbers, or a picture is too short, or pixels are not 3 x width x height bytes */
+#define XURBALENZ_BUFFER 2   /* a list is not 4,096 numbers, or a picture is too short, or pixels are not 3 x width x height bytes; or a store is
+                                shorter than what is gathered in it */
 #define XURBALENZ_KIND 3     /* a block type that the call does not take, or not the one due in a frame */
 #define XURBALENZ_LENGTH 4   /* blockLen or tilesDataSize disagrees with the layout, or bytes follow the last block */
 #define XURBALENZ_FIELD 5    /* a fixed field differs, or a size or mode is not allowed */
@@ -63,7 +66,7 @@ extern "C" {
 #define XURBALENZ_OVERRUN 10 /* a remainder run with no place left for its value, or a second value not zero with no place */
 #define XURBALENZ_TAIL 11    /* after the 4,096th value 8 or more bits remain, or one of them is 1 */
 #define XURBALENZ_ORDER 12   /* a known header that is not due, or a frame before all four headers */
-#define XURBALENZ_ROOM 13    /* the lent output is shorter than what is to be written */
+#define XURBALENZ_ROOM 13    /* the lent output is shorter than what is to be written, or the store than what is to be gathered */
 
 /* The word for a number, for a log line. A number that no call gives is "unknown". */
 static inline const char *xurbalenz_word(uint8_t number)
@@ -89,7 +92,7 @@ static inline const char *xurbalenz_says(uint8_t number)
                                             "a value with no place left for it",
                                             "more than filling follows the 4,096th value",
                                             "a header that is not due, or a frame before all four headers",
-                                            "the output is shorter than what is to be written"};
+                                            "the output or the store is shorter than what goes into it"};
     return number < sizeof sentences / sizeof sentences[0] ? sentences[number] : "a number that has no word here";
 }
 
@@ -131,6 +134,66 @@ static_assert(sizeof(XurbalenzSession) == 8, "the archive lays the record out in
 #elif defined(__STDC_VERSION__) && __STDC_VERSION__ >= 201112L
 _Static_assert(sizeof(XurbalenzSession) == 8, "the archive lays the record out in 8 bytes");
 #endif
+
+/* ---- bytes from the network: the collector ---- */
+
+/* What is kept from call to call beside the store. All 0 when fresh: XurbalenzCollector c = {0, 0, 0, 0, 0, 0}; Only xurbalenz_collect and
+   xurbalenz_collect_reset change it, and you need not look into it: held is how many of the store's bytes are gathered, refused the refusal
+   that is kept. One that no calls could have made is answered 12. */
+typedef struct XurbalenzCollector {
+    size_t held;
+    size_t end;
+    size_t head;
+    uint8_t refused;
+    uint8_t part;
+    uint8_t seen;
+} XurbalenzCollector;
+
+#if defined(__cplusplus) && __cplusplus >= 201103L
+static_assert(sizeof(XurbalenzCollector) == 32, "the archive lays the collector out in 32 bytes");
+#elif defined(__STDC_VERSION__) && __STDC_VERSION__ >= 201112L
+_Static_assert(sizeof(XurbalenzCollector) == 32, "the archive lays the collector out in 32 bytes");
+#endif
+
+#define XURBALENZ_NO_CALL 0     /* nothing is handed on */
+#define XURBALENZ_HEADER_CALL 1 /* store[0 .. size) is a message for xurbalenz_read_header */
+#define XURBALENZ_FRAME_CALL 2  /* store[0 .. size) is a message for xurbalenz_read_frame */
+
+/*
+ * Takes bytes of the stream as a network card gives them, any number at a time, and hands on one header block, or one frame from its begin
+ * block through its end block, whole. It stops at the end of what it hands on; give the rest again:
+ *
+ *     while (n > 0) {
+ *         uint8_t number = xurbalenz_collect(&c, bytes, n, store, sizeof store, &call, &size, &taken);
+ *         if (number != XURBALENZ_DONE) { log_line(xurbalenz_says(number)); drop_the_link(); break; }
+ *         if (call == XURBALENZ_HEADER_CALL) xurbalenz_read_header(&session, store, size);
+ *         if (call == XURBALENZ_FRAME_CALL) xurbalenz_read_frame_with(&session, store, size, picture, words, &work, &tiles);
+ *         bytes += taken;
+ *         n -= taken;
+ *     }
+ *
+ * Outside a frame any block but a begin (CCC4) is handed on alone: CCC0 to CCC3 to the header call, CCC5 to CCC7 to the frame call. Inside
+ * one, every block is gathered until the end block (CCC5). Those calls then judge the message, as if it had come in one piece.
+ *
+ * A LINK THAT STARTS ANEW NEEDS A RESET: call xurbalenz_collect_reset before the first byte of a new connection, and after every refusal but 2.
+ * Else what was gathered of the old one stays in front of the new bytes.
+ *
+ * Judged in this order: a collector that no calls could have made (12); a refusal that is kept (its number again); a store shorter than what
+ * is gathered, or than the end of the block under way (2, not kept: with the right store it goes on). Then the six bytes of each block's head,
+ * when the sixth is there: type not CCC0 to CCC7 (3), blockLen under 6 (4), the frame's earlier blocks and this one longer than the store (13).
+ * After 3, 4 and 13 every call answers the same until the reset.
+ *
+ * Lend the same store from call to call, at least as long as the longest frame. It need not be cleared.
+ *
+ * Afterwards: *taken is how many of the bytes were taken: all when it waits for more, those up to the end of what is handed on, those up to the
+ * end of a head that is refused, 0 on every later refusal. *call is one of the three numbers above, and *size how long the message is, else 0;
+ * it stands in the store until the next call. The collector is then fresh again. A call that takes nothing changes nothing.
+ */
+uint8_t xurbalenz_collect(XurbalenzCollector *c, const uint8_t *bytes, size_t bytes_len, uint8_t *store, size_t store_len, uint8_t *call,
+                          size_t *size, size_t *taken);
+
+/* Makes the collector fresh, whatever it was: what was gathered is thrown away, and a refusal forgotten. The next byte is the first of a block. */
+void xurbalenz_collect_reset(XurbalenzCollector *c);
 
 /* ---- reading ---- */
 

@@ -1,4 +1,4 @@
-//! The six calls as the archive has them, with slices for pointers and lengths: the answer is the number (0 done, 1 to 13 refused) and the
+//! The eight calls as the archive has them, with slices for pointers and lengths: the answer is the number (0 done, 1 to 13 refused) and the
 //! value that goes with it.
 //!
 //! Everything here is safe. A Rust slice has what the archive asks of a pointer (never null, aligned, all there, no overlap with what is
@@ -14,6 +14,7 @@ use crate::Session;
 
 /// The archive's own functions, as in `bindings/c/xurbalenz.h`. `tools/edge` holds them, and the safe calls below, to what the archive exports.
 mod archive {
+    use super::Collector;
     use crate::Session;
 
     extern "C" {
@@ -53,8 +54,40 @@ mod archive {
             out_len: usize,
             size: *mut usize,
         ) -> u8;
+        pub fn xurbalenz_collect(
+            c: *mut Collector,
+            bytes: *const u8,
+            bytes_len: usize,
+            store: *mut u8,
+            store_len: usize,
+            call: *mut u8,
+            size: *mut usize,
+            taken: *mut usize,
+        ) -> u8;
+        pub fn xurbalenz_collect_reset(c: *mut Collector);
     }
 }
+
+/// What the collector keeps from call to call beside its store, as C sees it; [`crate::Collector`] has both. Fresh by `Default`.
+#[repr(C)]
+#[derive(Clone, Copy, Debug, Default, PartialEq, Eq, Hash)]
+pub struct Collector {
+    /// How many bytes of the store are gathered.
+    pub held: usize,
+    /// Where the block under way ends; 0 between blocks.
+    pub end: usize,
+    /// The bytes of a head that waits, as one number, low byte first.
+    pub head: usize,
+    /// The refusal that is kept; 0 when none is.
+    pub refused: u8,
+    /// What is gathered: 0 nothing, 1 a header block, 2 a block alone for the frame call, 3 a frame, 4 a frame, in its end block.
+    pub part: u8,
+    /// How many bytes of the head are there.
+    pub seen: u8,
+}
+
+// The archive lays the record out as C does.
+const _: () = assert!(core::mem::size_of::<Collector>() == 32 && core::mem::align_of::<Collector>() == 8);
 
 // SAFETY, for every call below: each pointer and length come from one Rust reference or slice, so they are not null, aligned, valid for that
 // many elements, and what is `&mut` overlaps nothing else. The archive has no state of its own and keeps no pointer. Its functions have no
@@ -157,4 +190,31 @@ pub fn write_frame(
         )
     };
     (number, size)
+}
+
+/// Takes bytes of the stream, up to the end of the first message that is whole: the number; to which call the message goes (1 to the header call,
+/// 2 to the frame call, 0 none); how many of the store's first bytes it has; how many bytes were taken. See [`crate::Collector`].
+///
+/// ```
+/// use xurbalenz::edge::{collect, collect_reset, Collector};
+/// let (mut c, mut store) = (Collector::default(), [0; 100]);
+/// assert_eq!(collect(&mut c, &[0xC0, 0xCC, 7, 0], &mut store), (0, 0, 0, 4)); // waits
+/// assert_eq!(collect(&mut c, &[0, 0, 99, 1, 2], &mut store), (0, 1, 7, 3)); // a block for the header call
+/// assert_eq!((store[6], c), (99, Collector::default()));
+/// assert_eq!(collect(&mut c, &[1, 2, 0, 0, 0, 0], &mut store), (3, 0, 0, 6)); // no such type
+/// collect_reset(&mut c);
+/// assert_eq!(c, Collector::default());
+/// ```
+#[inline]
+pub fn collect(c: &mut Collector, bytes: &[u8], store: &mut [u8]) -> (u8, u8, usize, usize) {
+    let (mut call, mut size, mut taken) = (0, 0, 0);
+    let number =
+        unsafe { archive::xurbalenz_collect(c, bytes.as_ptr(), bytes.len(), store.as_mut_ptr(), store.len(), &mut call, &mut size, &mut taken) };
+    (number, call, size, taken)
+}
+
+/// Makes the collector fresh: what was gathered is thrown away, and a refusal forgotten.
+#[inline]
+pub fn collect_reset(c: &mut Collector) {
+    unsafe { archive::xurbalenz_collect_reset(c) }
 }

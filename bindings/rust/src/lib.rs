@@ -4,11 +4,12 @@
 //! session are what they were. Nothing here panics on what comes from the wire.
 //!
 //! - [`Screen`] owns a session with its picture and work lists: the simplest way to show a stream.
+//! - [`Collector`] gathers header blocks and frames from a network card's bytes, however these are cut, and hands each on whole.
 //! - [`read_header`], [`read_frame`], [`read_component`] work in memory that you lend; they allocate nothing.
 //! - [`write_headers`], [`write_component`], [`write_frame`] return what they wrote; `.._into` write into memory that you lend.
-//! - [`edge`] has the six calls with plain numbers, as C sees them.
+//! - [`edge`] has the eight calls with plain numbers, as C sees them.
 //!
-//! The crate needs neither std nor any other crate, but `alloc` for [`Screen`] and the writers that return a `Vec`. It links
+//! The crate needs neither std nor any other crate, but `alloc` for [`Screen`], [`Collector`] and the writers that return a `Vec`. It links
 //! `target/staticlib/libxurbalenz.a` of the repository (make it with `tools/archive`), or the one in the folder `XURBALENZ_LIB_DIR`. That archive is
 //! x86-64 code and needs `memset`, less than 1 KiB of stack, and nothing else.
 //!
@@ -31,12 +32,14 @@
 
 extern crate alloc;
 
+mod collector;
 pub mod edge;
 mod refusal;
 mod screen;
 
 use alloc::{vec, vec::Vec};
 
+pub use collector::{Collector, Message};
 pub use refusal::{CodeRefusal, Refusal};
 pub use screen::Screen;
 

@@ -27,7 +27,8 @@ use core::{error::Error, fmt};
 pub enum Refusal {
     /// 1: a block, or the code being read, needs more than is there.
     Cut,
-    /// 2: a list is not 4,096 numbers, a picture is too short, or pixels are not 3 x width x height bytes.
+    /// 2: a list is not 4,096 numbers, a picture is too short, or pixels are not 3 x width x height bytes; or a store is shorter than what is
+    /// gathered in it.
     Buffer,
     /// 3: a block type that the call does not take, or not the one due in a frame.
     Kind,
@@ -49,7 +50,7 @@ pub enum Refusal {
     Tail,
     /// 12: a known header that is not due, or a frame before all four headers.
     Order,
-    /// 13: the lent output is shorter than what is to be written.
+    /// 13: the lent output is shorter than what is to be written, or the store than what is to be gathered.
     Room,
     /// A number that this crate has no word for. The archive that this crate was written for never gives one: its answers are proved equal to
     /// definitions that have only the numbers above, and 0. A later archive might, and a refusal it is then too.
@@ -120,7 +121,7 @@ impl Refusal {
             Refusal::Overrun => ("overrun", "a value with no place left for it"),
             Refusal::Tail => ("tail", "more than filling follows the 4,096th value"),
             Refusal::Order => ("order", "a header that is not due, or a frame before all four headers"),
-            Refusal::Room => ("room", "the output is shorter than what is to be written"),
+            Refusal::Room => ("room", "the output or the store is shorter than what goes into it"),
             Refusal::Unknown(_) => ("unknown", "a number that has no word here"),
         }
     }

@@ -2,7 +2,7 @@
 
 use alloc::{boxed::Box, vec, vec::Vec};
 
-use crate::{read_frame, read_header, Refusal, Session, LIST};
+use crate::{read_frame, read_header, Message, Refusal, Session, LIST};
 
 /// A session, the picture it draws into, and the work lists that frames need.
 ///
@@ -65,6 +65,14 @@ impl Screen {
     /// Reads one frame and draws it: how many tiles it lists. See [`read_frame`].
     pub fn frame(&mut self, message: &[u8]) -> Result<usize, Refusal> {
         read_frame(&mut self.session, message, &mut self.picture, &mut self.y, &mut self.cb, &mut self.cr, &mut self.scratch)
+    }
+
+    /// Reads a message that a [`Collector`](crate::Collector) handed on, by the call that it is for.
+    pub fn message(&mut self, message: Message<'_>) -> Result<(), Refusal> {
+        match message {
+            Message::Header(block) => self.header(block),
+            Message::Frame(frame) => self.frame(frame).map(|_| ()),
+        }
     }
 
     /// The picture: 5-6-5 words row by row, [`width`](Screen::width) words a row.

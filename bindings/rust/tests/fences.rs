@@ -151,3 +151,30 @@ fn components_and_writers() {
     }
     println!("{calls} component and writer calls between fences, none read past them");
 }
+
+#[test]
+fn hand_overs() {
+    let mut rng = Rng::new(23);
+    let frame = [0xC4, 0xCC, 9, 0, 0, 0, 1, 2, 3, 0xC7, 0xCC, 8, 0, 0, 0, 4, 5, 0xC5, 0xCC, 7, 0, 0, 0, 6, 0xC0];
+    let mut calls = 0;
+    for i in 0..4000 {
+        let (behind, room) = (i % 2 == 0, *rng.pick(&[0, 5, 6, 9, 16, 17, 23, 24, 25]));
+        let mut c = Fenced::of(&[edge::Collector::default()], behind);
+        let mut store = Fenced::of(&vec![0xA5; room], behind);
+        let (mut at, mut taken) = (0, 1);
+        while at < frame.len() && 0 < taken {
+            let n = 1 + rng.below(frame.len() - at);
+            let given = Fenced::of(&frame[at..at + n], behind);
+            let (number, call, size, took) = edge::collect(&mut c.part_mut()[0], given.part(), store.part_mut());
+            let whole = number == 0 && at + took == 24;
+            assert!(number == 0 || (number == 13 && room < 24));
+            assert_eq!((call, size), if whole { (2, 24) } else { (0, 0) });
+            assert!(number != 0 || store.part()[..size] == frame[..size]);
+            (at, taken) = (at + took, took);
+            calls += 1;
+        }
+        edge::collect_reset(&mut c.part_mut()[0]);
+        assert_eq!(c.part()[0], edge::Collector::default());
+    }
+    println!("{calls} hand-overs between fences, none read past them");
+}

@@ -4,7 +4,7 @@ mod common;
 
 use common::*;
 use std::{fmt::Write, fs, path::Path};
-use xurbalenz::{Session, LIST};
+use xurbalenz::{edge, edge::Collector, Session, LIST};
 
 fn fnv(bytes: impl IntoIterator<Item = u8>) -> String {
     let hash = bytes.into_iter().fold(0xCBF2_9CE4_8422_2325_u64, |h, b| (h ^ b as u64).wrapping_mul(0x100_0000_01B3));
@@ -72,6 +72,9 @@ struct Case {
     headers: Vec<u8>,
     component: Vec<u8>,
     frame: Vec<u8>,
+    collector: Collector,
+    memory: Vec<u8>,
+    lent: usize,
 }
 
 fn record(s: Session) -> String {
@@ -92,6 +95,20 @@ impl Case {
     fn read(mode: u8, code: &[u8], length: usize) -> String {
         let (number, bits, list) = read_component(mode, code, length);
         format!("{number} {bits} {}", fnv(list.iter().flat_map(|v| v.to_le_bytes())))
+    }
+
+    /// What the collector has, as a line ends.
+    fn gathered(&self) -> String {
+        format!("{} {} {}", self.collector.held, self.collector.seen, fnv(self.memory[..self.lent].iter().copied()))
+    }
+
+    fn take(&mut self, given: &[u8]) -> String {
+        let took = collect(self.collector, given, &self.memory[..self.lent]);
+        self.collector = took.collector;
+        self.memory[..self.lent].copy_from_slice(&took.store);
+        let answer = if took.number == 0 { ["w", "h", "f"][usize::from(took.call)].into() } else { took.number.to_string() };
+        let part = if took.call == 0 { "-".into() } else { fnv(took.store[..took.size].iter().copied()) };
+        format!("{answer} {} {} {part} {}", took.taken, took.size, self.gathered())
     }
 
     /// Makes the call of a line's left side; what comes out, as the right side has it.
@@ -148,6 +165,11 @@ impl Case {
                 let work = if matches!(number, 5 | 7 | 2) { 'u' } else { 'z' };
                 format!("{number} {size} {work} {}", fnv(out))
             }
+            ["take", given] => self.take(&bytes(given)),
+            ["reset"] => {
+                edge::collect_reset(&mut self.collector);
+                self.gathered()
+            }
             _ => panic!("no such call: {words:?}"),
         }
     }
@@ -161,6 +183,15 @@ impl Case {
             ["pic", length, seed] => {
                 let (length, seed): (usize, usize) = (number(length), number(seed));
                 self.picture = (0..length).map(|i| (i * 25_173 + seed * 13_849 + 1) as u16).collect();
+            }
+            ["opt", "one"] => {}
+            ["col", room] => {
+                self.lent = number(room);
+                self.memory = vec![0xA5; self.lent];
+            }
+            ["store", room] => {
+                self.lent = number(room);
+                self.memory.resize(self.memory.len().max(self.lent), 0xA5);
             }
             _ => panic!("no such setting: {words:?}"),
         }
@@ -238,4 +269,10 @@ fn rectangles_and_rounding() {
 #[test]
 fn the_worked_sample() {
     assert_eq!(run("sample001.vec"), (21, 27));
+}
+
+#[test]
+fn hand_overs() {
+    assert_eq!(run("request_one.vec"), (521, 2304));
+    assert_eq!(run("request_one_store.vec"), (129, 645));
 }

@@ -14,6 +14,7 @@ use session::HeaderReading;
 use session::Session;
 use wire::Writing;
 
+pub mod collector;
 pub mod edge;
 
 // Reads one header block, which is the whole message.

@@ -1,9 +1,9 @@
-//! What the tests share: lent memory with guard words, the six calls made with the sentences on memory checked, frames put together by hand,
+//! What the tests share: lent memory with guard words, the calls made with the sentences on memory checked, frames put together by hand,
 //! pictures, and seeded numbers.
 #![allow(dead_code)] // no test uses all of it
 
 use std::fmt::Debug;
-use xurbalenz::{edge, Session, LIST};
+use xurbalenz::{edge, edge::Collector, Session, LIST};
 
 // ---- seeded numbers
 
@@ -102,20 +102,20 @@ impl<T: Guard> Lent<T> {
 
 /// A record with guard bytes on both sides.
 #[repr(C)]
-struct LentSession {
+struct LentRecord<R> {
     before: [u8; 16],
-    session: Session,
+    record: R,
     behind: [u8; 16],
 }
 
-impl LentSession {
-    fn of(session: Session) -> LentSession {
-        LentSession { before: [0xC3; 16], session, behind: [0xC3; 16] }
+impl<R> LentRecord<R> {
+    fn of(record: R) -> LentRecord<R> {
+        LentRecord { before: [0xC3; 16], record, behind: [0xC3; 16] }
     }
 
-    fn taken(self) -> Session {
+    fn taken(self) -> R {
         assert_eq!((self.before, self.behind), ([0xC3; 16], [0xC3; 16]), "a byte beside the record was changed");
-        self.session
+        self.record
     }
 }
 
@@ -131,19 +131,51 @@ fn kept<T: Guard>(lent: Lent<T>, before: &[T]) {
     assert_eq!(lent.taken(), before, "what is only read was changed");
 }
 
-// ---- the six calls, with what the scope document says of memory checked after every one: lists are filled with 7, outputs with A5 before
+// ---- the calls, with what the scope document says of memory checked after every one: lists are filled with 7, outputs with A5 before
 
 /// The header call: the number and the record.
 pub fn header(session: Session, message: &[u8]) -> (u8, Session) {
-    let mut s = LentSession::of(session);
+    let mut s = LentRecord::of(session);
     let m = Lent::of(message);
-    let number = edge::read_header(&mut s.session, m.part());
+    let number = edge::read_header(&mut s.record, m.part());
     let after = s.taken();
     kept(m, message);
     assert!(number <= 13, "number {number}");
     // "A refused header or frame changes neither record nor picture."
     assert!(number == 0 || after == session, "refused {number}, and the record changed");
     (number, after)
+}
+
+/// What the collector's call came to.
+#[derive(Clone, Debug, PartialEq)]
+pub struct Collected {
+    pub number: u8,
+    pub call: u8,
+    pub size: usize,
+    pub taken: usize,
+    pub collector: Collector,
+    pub store: Vec<u8>,
+}
+
+/// The collector's call.
+pub fn collect(collector: Collector, given: &[u8], store: &[u8]) -> Collected {
+    let mut c = LentRecord::of(collector);
+    let (b, mut s) = (Lent::of(given), Lent::of(store));
+    let (number, call, size, taken) = edge::collect(&mut c.record, b.part(), s.part_mut());
+    kept(b, given);
+    let (after, left) = (c.taken(), s.taken());
+    assert!(matches!(number, 0 | 2 | 3 | 4 | 12 | 13), "number {number}");
+    assert!(taken <= given.len() && size <= store.len());
+    match (number, call) {
+        // "A call stops at the end of what it hands on"; then it is fresh
+        (0, 1 | 2) => assert!(6 <= size && 0 < taken && after == Collector::default(), "handed on, and not fresh"),
+        (0, 0) => assert!(size == 0 && taken == given.len(), "it waits, and did not take all"),
+        // a refusal that takes nothing changes nothing; any other is kept
+        (_, 0) if taken == 0 => assert!(size == 0 && (after, left.as_slice()) == (collector, store), "refused {number}, and something changed"),
+        (_, 0) => assert!(size == 0 && after.refused == number && after.seen == 6, "refused {number}, and not kept"),
+        _ => panic!("number {number}, call {call}"),
+    }
+    Collected { number, call, size, taken, collector: after, store: left }
 }
 
 /// What a frame call came to.
@@ -158,11 +190,11 @@ pub struct Shown {
 
 /// The frame call with work lists of these lengths.
 pub fn frame_with(session: Session, message: &[u8], picture: &[u16], lengths: [usize; 4]) -> Shown {
-    let mut s = LentSession::of(session);
+    let mut s = LentRecord::of(session);
     let m = Lent::of(message);
     let mut p = Lent::of(picture);
     let [mut y, mut cb, mut cr, mut scratch] = lengths.map(|n| Lent::filled(7, n));
-    let (number, tiles) = edge::read_frame(&mut s.session, m.part(), p.part_mut(), y.part_mut(), cb.part_mut(), cr.part_mut(), scratch.part_mut());
+    let (number, tiles) = edge::read_frame(&mut s.record, m.part(), p.part_mut(), y.part_mut(), cb.part_mut(), cr.part_mut(), scratch.part_mut());
     kept(m, message);
     let after = p.taken();
     let lists = [y, cb, cr, scratch].map(Lent::taken);
