@@ -1,0 +1,6 @@
+pub mod Tiles
+pub mod Pic
+pub mod Counts
+pub mod Mark
+pub mod Request
+pub mod laws
