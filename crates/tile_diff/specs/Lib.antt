@@ -3,4 +3,5 @@ pub mod Pic
 pub mod Counts
 pub mod Mark
 pub mod Request
+pub mod Cases
 pub mod laws

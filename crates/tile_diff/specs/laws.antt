@@ -1,4 +1,6 @@
 pub mod Words
 pub mod Count
-pub mod List
 pub mod Mark
+pub mod Picture
+pub mod Listed
+pub mod Request
