@@ -72,15 +72,22 @@ pub fn start(bytes: &[u8], n: usize) -> &[u8] {
     &bytes[a..n]
 }
 
+// A row that nothing is done with.
+fn pass_row(fd: i32, width: u16) -> usize
+    ensures { λ r. ⌜ r ≤ 131070 ⌝ }
+{
+    let mut row = [0u8; 8192];
+    read_row(fd, &mut row, width)
+}
+
 // The rows of one file by itself, up to the first that is short, and whether a byte follows: how many bytes came behind the head.
 fn read_through(fd: i32, width: u16, height: u16) -> usize
     ensures { λ r. ⌜ r ≤ 8589803521 ⌝ }
 {
-    let mut row = [0u8; 8192];
     let mut got: usize = 0;
     let mut y: u16 = 0;
     while y < height {
-        let n = read_row(fd, &mut row, width);
+        let n = pass_row(fd, width);
         got += n;
         if n < 2 * (width as usize) {
             return got;
@@ -102,6 +109,13 @@ fn count_both(a: i32, b: i32, width: u16, y: u16, counts: &mut [u32]) -> Came
     Came { a: n, b: m }
 }
 
+fn is_short(c: Came, width: u16) -> bool {
+    if c.a < 2 * (width as usize) {
+        return true;
+    }
+    c.b < 2 * (width as usize)
+}
+
 // The rows of two files of one size, up to the first that is short, and whether a byte follows either.
 fn count_through(a: i32, b: i32, width: u16, height: u16, counts: &mut [u32]) -> Came
     ensures { λ r. ⌜ (r .a ≤ 8589803521) × (r .b ≤ 8589803521) ⌝ }
@@ -113,7 +127,7 @@ fn count_through(a: i32, b: i32, width: u16, height: u16, counts: &mut [u32]) ->
         let c = count_both(a, b, width, y, counts);
         first += c.a;
         second += c.b;
-        if c.a + c.b < 4 * (width as usize) {
+        if is_short(c, width) {
             return Came {
                 a: first,
                 b: second,

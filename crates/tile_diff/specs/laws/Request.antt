@@ -165,7 +165,7 @@ listed-once ps qs w h x y p q =
     let m = mul-comm c (tilesOver h) in
     times-once (λ k. differs ps qs w h (k % c) (k / c)) c x y p (c * tilesOver h) 0 (omega arith) (omega arith)
     ∙ ap (λ (n : ℕ). ltb 0 n ⇒ 1 ∣ 0)
-      (ap (λ (u : ℕ). differs ps qs w h u ((y * c + x) / c)) (digits-mod y p) ∙ ap (differs ps qs w h x) (digits-div y p))
+    (ap (λ (u : ℕ). differs ps qs w h u ((y * c + x) / c)) (digits-mod y p) ∙ ap (differs ps qs w h x) (digits-div y p))
 
 listed-only : (ps qs : List ℕ) (w h : ℕ) (l : Line) → List·Memᴰ l (listed ps qs w h) → Right ps qs w h l
 unfolding listed
@@ -195,9 +195,10 @@ listed-equal ps w h = lines-none _ (tilesOver w) (tilesOver w * tilesOver h) 0 (
 pub requestSeven : RequestSeven
 unfolding listed
 requestSeven =
-    record
-    { lines = λ a b ls e r. lines-are a b (picOf a .width) (picOf a .height) (both-are a b e .first) (both-are a b e .second) ls r
-    ; once = listed-once
-    ; only = listed-only
-    ; row-by-row = λ ps qs w h. rising (λ k. differs ps qs w h (k % tilesOver w) (k / tilesOver w)) (tilesOver w) (tilesOver w * tilesOver h) 0
-    ; equal = listed-equal }
+    record {
+      lines = λ a b ls e r. lines-are a b (picOf a .width) (picOf a .height) (both-are a b e .first) (both-are a b e .second) ls r;
+      once = listed-once;
+      only = listed-only;
+      row-by-row = λ ps qs w h. rising (λ k. differs ps qs w h (k % tilesOver w) (k / tilesOver w)) (tilesOver w) (tilesOver w * tilesOver h) 0;
+      equal = listed-equal;
+    }
