@@ -1,11 +1,10 @@
 -- Document 01, "Cases on both sides": those of the bands, proved of the definitions.
 -- Assumes nothing.
+use Prim.Native.Nat.{ℕ}
 use mathlib.Core.Path.{_≡_}
 use mathlib.Core.List.{[], _∷_, map}
 use lib.IntN.{pos, negsuc}
-use lib.ListN.{replicate}
-use Rattle.whole.specs.Tab.{at}
-use Rattle.bands.specs.Bands.{quantOf, scaledBy}
+use Rattle.bands.specs.Bands.{quantOf, scaleAt}
 use Rattle.bands.specs.Rounding.{roundZ}
 
 pub record BandCases : Type 0 where
@@ -16,9 +15,9 @@ pub record BandCases : Type 0 where
   pub half : roundZ 6 (pos 16) ≡ pos 1
   pub minusHalf : roundZ 6 (negsuc 15) ≡ pos 0
   pub minusMore : roundZ 6 (negsuc 16) ≡ negsuc 0
-  -- "Pairing quantisers with bands in list order (HL stands first there, LH in the set)" is a slip: with the set 6 to 15 a list of ones has, at the first
+  -- "Pairing quantisers with bands in list order (HL stands first there, LH in the set)" is a slip: with the set 6 to 15 ones are scaled, at the first
   -- place of HL1, LH1, HH1, HL2, LH2, HH2, HL3, LH3, HH3 and LL3, times 2^(q-1) with q = 14 13 15 11 10 12 8 7 9 6
   pub factors :
-      map (at (scaledBy (6 ∷ 7 ∷ 8 ∷ 9 ∷ 10 ∷ 11 ∷ 12 ∷ 13 ∷ 14 ∷ 15 ∷ []) (replicate 4096 (pos 1))))
+      map (scaleAt (6 ∷ 7 ∷ 8 ∷ 9 ∷ 10 ∷ 11 ∷ 12 ∷ 13 ∷ 14 ∷ 15 ∷ []) (λ (k : ℕ). pos 1))
       (0 ∷ 1024 ∷ 2048 ∷ 3072 ∷ 3328 ∷ 3584 ∷ 3840 ∷ 3904 ∷ 3968 ∷ 4032 ∷ [])
       ≡ pos 8192 ∷ pos 4096 ∷ pos 16384 ∷ pos 1024 ∷ pos 512 ∷ pos 2048 ∷ pos 128 ∷ pos 64 ∷ pos 256 ∷ pos 32 ∷ []

@@ -1,0 +1,8 @@
+pub mod Ack
+pub mod AckCap
+pub mod Calls
+pub mod Caps
+pub mod Edge
+pub mod Step
+pub mod Walk
+pub mod laws

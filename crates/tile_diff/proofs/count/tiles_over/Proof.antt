@@ -1,0 +1,17 @@
+-- `tile_diff::count::tiles_over` meets its contract.
+use mathlib.Core.Path.{refl}
+use native.Mathlib.Omega.{arith}
+use Rattle.tile_diff.specs.Tiles.{tilesOver}
+use borrow.Author.Needs.{needs}
+use Rattle.tile_diff.proofs.count.tiles_over.Statement.{statement}
+use Rattle.tile_diff.proofs.count.tiles_over.Tie as tie
+
+add-result : tie.Need-add-result
+add-result c = search needs
+
+returns : tie.Need-returns
+unfolding tilesOver
+returns c = (refl, omega arith)
+
+pub tiles-over-spec : {M : Type 1} → statement M
+tiles-over-spec = tie.close (tie.spec add-result returns)

@@ -1,0 +1,7 @@
+pub mod Tiles
+pub mod Pic
+pub mod Counts
+pub mod Mark
+pub mod Request
+pub mod Cases
+pub mod laws

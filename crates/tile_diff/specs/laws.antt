@@ -1,0 +1,6 @@
+pub mod Words
+pub mod Count
+pub mod Mark
+pub mod Picture
+pub mod Listed
+pub mod Request
