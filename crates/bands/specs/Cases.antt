@@ -1,5 +1,6 @@
 -- Document 01, "Cases on both sides": those of the bands, proved of the definitions.
 -- Assumes nothing.
+-- (01 is this project's scope document, 02 its change requests, 001 is MS-RDPRFX: README, "What 01 is".)
 use Prim.Native.Nat.{ℕ}
 use mathlib.Core.Path.{_≡_}
 use mathlib.Core.List.{[], _∷_, map}

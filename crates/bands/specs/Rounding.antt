@@ -1,5 +1,6 @@
 -- Document 01, "Bands and the wavelet": what the writer makes of the wavelet's values.
 -- Assumes nothing.
+-- (01 is this project's scope document, 02 its change requests, 001 is MS-RDPRFX: README, "What 01 is".)
 use Prim.Native.Nat.{ℕ, zero, suc, _+_, _-_, _^_}
 use mathlib.Core.List.{List, _++_}
 use lib.IntN.{ℤ, pos, _+ℤ_, _-ℤ_}

@@ -6,7 +6,7 @@ ghost use Prim.Native.Nat.{ℕ, _+_, _<_, _≤_, _^_};
 ghost use lib.IntN.{pos, _+ℤ_, _-ℤ_, _*ℤ_};
 ghost use lib.Signed.{shrZ};
 ghost use lib.ListN.{length, getD, take, drop};
-ghost use Rattle.whole.specs.Near.{Near};
+ghost use Rattle.whole.specs.laws.Near.{Near};
 ghost use Rattle.whole.specs.Tab.{at, tab};
 ghost use Rattle.whole.specs.laws.Tab.{AllNear};
 ghost use Rattle.bands.specs.Bands.{quantOf, QuantGood, isGood, bandAt, sumTo, summed, scaledBy, coefficientsFault};

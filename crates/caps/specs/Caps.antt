@@ -1,5 +1,6 @@
 -- The client capability container of 001, 2.2.1.1 to 2.2.1.1.1.1.1: its four layouts, each as a table that is walked and as bytes.
 -- 02, Twelve: "Each layout's fixed fields refuse with 5, lengths with 4, missing bytes with 1, in wire order; at most two entries, else 6."
+-- (01 is this project's scope document, 02 its change requests, 001 is MS-RDPRFX: README, "What 01 is".)
 use Prim.Native.Nat.{ℕ, _+_, _*_, _<_}
 use mathlib.Core.Path.{_≡_}
 use mathlib.Core.Bool.{Bool, true, false}

@@ -1,5 +1,6 @@
 -- How a layout is read: one walk along the wire, field by field. 02, Twelve: "fixed fields refuse with 5, lengths with 4, missing bytes with 1, in wire
 -- order".
+-- (01 is this project's scope document, 02 its change requests, 001 is MS-RDPRFX: README, "What 01 is".)
 use Prim.Native.Nat.{ℕ, _<_}
 use mathlib.Core.Path.{_≡_}
 use mathlib.Core.List.{List, [], _∷_, _++_}

@@ -1,5 +1,6 @@
 -- The code of a list, defined from the list alone: 01, "The component code" (001, 3.1.8.1.7).
 -- Values are folded numbers (Fold.antt). The mode is a Bool: `two` says RLGR3, else it is RLGR1.
+-- (01 is this project's scope document, 02 its change requests, 001 is MS-RDPRFX: README, "What 01 is".)
 use Prim.Native.Nat.{ℕ, zero, suc, _+_, _-_, _/_, _^_, _≤_, min}
 use mathlib.Core.Bool.{Bool, true, false}
 use mathlib.Core.List.{List, [], _∷_, _++_}

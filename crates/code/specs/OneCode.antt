@@ -1,4 +1,5 @@
 -- One code for one list: 01's demands on the component reader, for both modes and every input. `code mode zs` is the code of the list zs.
+-- (01 is this project's scope document, 02 its change requests, 001 is MS-RDPRFX: README, "What 01 is".)
 use Prim.Native.Nat.{ℕ, _≤_}
 use mathlib.Core.Path.{_≡_}
 use mathlib.Core.Bool.{Bool, true}

@@ -1,4 +1,5 @@
 -- The component reader: what it answers and what it leaves, for every input. 01, "Numbers the fitter sees".
+-- (01 is this project's scope document, 02 its change requests, 001 is MS-RDPRFX: README, "What 01 is".)
 use Prim.Native.Nat.{ℕ, zero, suc}
 use mathlib.Core.Path.{_≡_}
 use mathlib.Core.Bool.{Bool, true, false}

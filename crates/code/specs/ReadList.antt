@@ -1,4 +1,5 @@
 -- What reading a code finds: 01, "The component code", with the numbers 1, 9 and 10 and "each code element is read in full (1) before it is judged, 9 before 10".
+-- (01 is this project's scope document, 02 its change requests, 001 is MS-RDPRFX: README, "What 01 is".)
 use Prim.Native.Nat.{ℕ, zero, suc, _+_, _*_, _-_, _/_, _^_, min}
 use mathlib.Core.Bool.{Bool, true, false}
 use mathlib.Core.List.{List, [], _∷_, _++_}

@@ -1,4 +1,5 @@
 -- 01's (p) cases of the component code, on the writer's side, in one statement: the bytes written, 0 where they have room, 13 with one byte less.
+-- (01 is this project's scope document, 02 its change requests, 001 is MS-RDPRFX: README, "What 01 is".)
 use Prim.Native.Nat.{ℕ, _<_}
 use mathlib.Core.Path.{_≡_}
 use mathlib.Core.List.{List, [], _∷_}

@@ -1,4 +1,5 @@
 -- Bits as bytes, computed: filled up with zero bits to a whole byte, then taken by eights. 01, "Bits go high bit first."
+-- (01 is this project's scope document, 02 its change requests, 001 is MS-RDPRFX: README, "What 01 is".)
 use Prim.Native.Nat.{ℕ, zero, suc, _+_, _*_, _-_, _/_, _%_}
 use mathlib.Core.Bool.{Bool, false}
 use mathlib.Core.List.{List, [], _∷_, _++_}

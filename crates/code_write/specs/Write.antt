@@ -1,4 +1,5 @@
 -- The component writer: what it answers and what it leaves, for every input. 01, "Numbers the fitter sees" and "Component writer: 2, 9, 6, 13."
+-- (01 is this project's scope document, 02 its change requests, 001 is MS-RDPRFX: README, "What 01 is".)
 use Prim.Native.Nat.{ℕ}
 use mathlib.Core.Path.{_≡_}
 use mathlib.Core.Bool.{Bool, true, false}

@@ -1,5 +1,6 @@
 -- Request One of 02: "a collector with a lent store that gathers one header block, or one frame from its begin block through its end block, and hands it on
 -- whole". What it keeps beside the store, how a head is judged, what a byte makes of it, what a call answers, and what bytes come to one after the other.
+-- (01 is this project's scope document, 02 its change requests, 001 is MS-RDPRFX: README, "What 01 is".)
 use Prim.Native.Nat.{ℕ, zero, suc, _+_, _-_, _*_, _/_, _%_, _^_}
 use mathlib.Core.List.{List, [], _∷_, _++_}
 use mathlib.Core.Bool.{Bool, true, false}

@@ -1,5 +1,6 @@
 -- 02's request One over the calls: what a caller does with the bytes that the card gives him, and what he can rely on, sentence by sentence.
 -- `requestOne` (specs/RequestLaws) proves all of it.
+-- (01 is this project's scope document, 02 its change requests, 001 is MS-RDPRFX: README, "What 01 is".)
 use Prim.Native.Nat.{ℕ, _+_, _≤_, _<_}
 use mathlib.Core.Path.{_≡_}
 use mathlib.Core.Bool.{true}

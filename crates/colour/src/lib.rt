@@ -2,7 +2,7 @@
 // All in 32 bits (document 02, "No 64-bit products on the small door panel"): on the way back a sample is split at 65,536, and with it its products.
 ghost use mathlib.Core.Path.{_≡_};
 ghost use lib.IntN.{pos, _+ℤ_, _*ℤ_};
-ghost use Rattle.whole.specs.Near.{Near, Upto};
+ghost use Rattle.whole.specs.laws.Near.{Near, Upto};
 ghost use Rattle.colour.specs.Colour.{clampByte, cut21, lumaOf, cbOf, crOf, rgbOf, pack565, wordOf};
 ghost use Rattle.colour.specs.laws.Steps.{weighed, mix, joined, Small};
 

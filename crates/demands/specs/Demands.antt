@@ -1,6 +1,7 @@
 -- THE DEMANDS, on one page: over the calls (specs/Calls), and so over the very definitions that their promises cite. Each field is a
 -- sentence of the demands or of document 01; proofs/Demands proves `demands : Demands`. That no bytes can trap a call needs no sentence
 -- here: every function is proved, and none of the six has a `requires`.
+-- (01 is this project's scope document, 02 its change requests, 001 is MS-RDPRFX: README, "What 01 is".)
 use Prim.Native.Nat.{ℕ, _+_, _*_, _%_, _≤_, _<_}
 use mathlib.Core.Path.{_≡_}
 use mathlib.Core.Bool.{Bool}

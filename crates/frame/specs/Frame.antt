@@ -1,5 +1,6 @@
 -- What a frame call answers and leaves, for every record, message, picture and lists: document 01, "Order. Frame call", and the
 -- paragraph under the table of numbers.
+-- (01 is this project's scope document, 02 its change requests, 001 is MS-RDPRFX: README, "What 01 is".)
 use Prim.Native.Nat.{ℕ, _*_}
 use mathlib.Core.Path.{_≡_}
 use mathlib.Core.Bool.{Bool, false}

@@ -1,5 +1,6 @@
 -- Document 02, request Three: "Add a case with count 0 and one with a single rectangle of width 0, which still draws nothing." Both on a
 -- channel of 64 x 64 and its one tile, whatever the tile's words and the picture.
+-- (01 is this project's scope document, 02 its change requests, 001 is MS-RDPRFX: README, "What 01 is".)
 use Prim.Native.Nat.{ℕ, zero, suc, _+_, _*_, _/_, _≤_, _<_}
 use mathlib.Core.Path.{_≡_, refl, ap, sym, _∙_}
 use mathlib.Core.Bool.{true, false}

@@ -1,5 +1,6 @@
 -- Drawing a tile into the picture: document 01, "A picture word is changed exactly if it lies in the channel, in some rectangle
 -- of the region, and in some listed tile"; its sentence on no rectangles as document 02's request Three mends it.
+-- (01 is this project's scope document, 02 its change requests, 001 is MS-RDPRFX: README, "What 01 is".)
 use Prim.Native.Nat.{ℕ, zero, suc, _+_, _*_, _/_}
 use mathlib.Core.List.{List}
 use mathlib.Core.Bool.{Bool, true, false}

@@ -1,6 +1,7 @@
 -- The tiles of a frame drawn one after the other, and the same said of a pixel: document 01, "A picture word is changed exactly if
 -- it lies in the channel, in some rectangle of the region, and in some listed tile; the last such tile in message order decides".
 -- words gives the word of each place of a tile.
+-- (01 is this project's scope document, 02 its change requests, 001 is MS-RDPRFX: README, "What 01 is".)
 use Prim.Native.Nat.{ℕ, _+_, _*_, _/_, _%_}
 use mathlib.Core.List.{List, [], _∷_}
 use mathlib.Core.Bool.{Bool, false}

@@ -1,4 +1,3 @@
 pub mod Bytes
 pub mod Reader
-pub mod Tiles
 pub mod laws

@@ -1,6 +1,7 @@
 -- A frame as its reader takes it: the first fault, in 01's order, and the tiles. Numbers are 01's; 0 is none.
 -- 01, Order: "Frame call: .. the blocks in wire order: head (1), kind (3), blockLen against its fixed or least size (4), whole block present (1),
 -- fixed fields (5), counts (6), blockLen against counts (4), then the contents."
+-- (01 is this project's scope document, 02 its change requests, 001 is MS-RDPRFX: README, "What 01 is".)
 use Prim.Native.Nat.{ℕ, zero, suc, _+_, _*_, _-_, _/_, _%_}
 use mathlib.Core.Bool.{Bool, false}
 use mathlib.Core.List.{List, [], _∷_}

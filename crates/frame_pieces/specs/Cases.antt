@@ -1,4 +1,5 @@
 -- Cases of 01 on the tileset as it is written: quantisers, and how many tiles.
+-- (01 is this project's scope document, 02 its change requests, 001 is MS-RDPRFX: README, "What 01 is".)
 use mathlib.Core.Path.{_≡_}
 use mathlib.Core.List.{[], _∷_}
 use Rattle.frame_layout.specs.Bytes.{quantBytes}

@@ -1,4 +1,5 @@
 -- What the frame writer is to write, and what it refuses. 01, last paragraph of "Colour".
+-- (01 is this project's scope document, 02 its change requests, 001 is MS-RDPRFX: README, "What 01 is".)
 use Prim.Native.Nat.{ℕ, zero, suc, _+_, _*_, _/_, _%_, _≤_}
 use mathlib.Core.Path.{_≡_}
 use mathlib.Core.List.{List}

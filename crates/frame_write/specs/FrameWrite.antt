@@ -1,4 +1,5 @@
 -- The frame writer: what it answers and what it leaves, for every input. 01, last paragraph of "Colour", and "Numbers the fitter sees".
+-- (01 is this project's scope document, 02 its change requests, 001 is MS-RDPRFX: README, "What 01 is".)
 use Prim.Native.Nat.{ℕ, zero, suc, _*_}
 use mathlib.Core.Path.{_≡_}
 use mathlib.Core.Bool.{Bool}

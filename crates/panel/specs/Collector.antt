@@ -1,5 +1,6 @@
 -- The collector's calls as a C program meets them (02, request One): 01's number is returned; to which call a part goes, how long it is and how many bytes
 -- were taken are stored behind references; the record is changed in place, and the store is lent. All by `collectOf`, the definition that the collector cites.
+-- (01 is this project's scope document, 02 its change requests, 001 is MS-RDPRFX: README, "What 01 is".)
 use Prim.Native.Nat.{ℕ, zero, suc}
 use mathlib.Core.Path.{_≡_}
 use mathlib.Core.List.{List}

@@ -1,5 +1,6 @@
 -- The six calls as a C program meets them: 01's number is returned, 01's value is stored behind the last reference, lists are lent, the record is
 -- changed in place. Each promise is of the number, the value and every list at exit, by the definitions that the panel's own calls cite.
+-- (01 is this project's scope document, 02 its change requests, 001 is MS-RDPRFX: README, "What 01 is".)
 use Prim.Native.Nat.{ℕ}
 use mathlib.Core.Path.{_≡_}
 use mathlib.Core.List.{List}

@@ -4,7 +4,7 @@ use mathlib.Core.Path.{_≡_, sym, subst}
 use Prim.Native.Nat.{ℕ, _<_}
 use native.Mathlib.Omega.{arith}
 use lib.IntN.{ℤ, pos}
-use Rattle.whole.specs.Near.{Near}
+use Rattle.whole.specs.laws.Near.{Near}
 use Rattle.sample.specs.Compare.{numberOf}
 
 pub byte-near : {z : ℤ} (n : ℕ) → n < 256 → z ≡ pos n → Near 255 z

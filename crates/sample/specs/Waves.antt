@@ -1,4 +1,5 @@
 -- A level of the wavelet's way back on a work list (01, "Bands and the wavelet"), where it can be made; else the list stays as it was.
+-- (01 is this project's scope document, 02 its change requests, 001 is MS-RDPRFX: README, "What 01 is".)
 use Prim.Native.Nat.{ℕ, _*_, _-_}
 use mathlib.Core.Bool.{Bool, false}
 use mathlib.Core.List.{List}

@@ -5,7 +5,7 @@ ghost use mathlib.Core.Path.{_≡_};
 ghost use Prim.Native.Nat.{_+_, _/_};
 ghost use lib.IntN.{pos};
 ghost use lib.ListN.{length};
-ghost use Rattle.whole.specs.Near.{Near};
+ghost use Rattle.whole.specs.laws.Near.{Near};
 ghost use Rattle.io.specs.Counts.{Counts};
 ghost use Rattle.sample.specs.Compare.{partOf, numberOf, valueAt, Unpacked, Loaded, oneIf, holdsAt, agreeing, placeOf, rowSame, rowsSame};
 use app_text::lines::OUT;

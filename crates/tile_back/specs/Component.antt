@@ -1,4 +1,5 @@
 -- One component of a tile, from its code to its 64 x 64 samples (01, "Order": "then Y, Cb, Cr: code, then LL3 sums and scaling (9)").
+-- (01 is this project's scope document, 02 its change requests, 001 is MS-RDPRFX: README, "What 01 is".)
 use Prim.Native.Nat.{ℕ}
 use mathlib.Core.Path.{_≡_}
 use mathlib.Core.List.{List}

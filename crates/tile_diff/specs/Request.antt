@@ -1,5 +1,6 @@
 -- 02's request Seven over the calls: two files whose rows were counted one after the other, and the lines that were then asked for. `requestSeven`
 -- (specs/laws/Request) proves all of it.
+-- (01 is this project's scope document, 02 its change requests, 001 is MS-RDPRFX: README, "What 01 is".)
 use Prim.Native.Nat.{ℕ, zero, suc, _+_, _*_, _<_, _≤_}
 use mathlib.Core.Path.{_≡_}
 use mathlib.Core.List.{List, [], _∷_, List·Memᴰ}

@@ -1,5 +1,6 @@
 -- A tile of the frame writer, from the picture's bytes to the list that one component's code is of (01, "The frame writer", "Colour", "Bands and the wavelet").
 -- Assumes nothing.
+-- (01 is this project's scope document, 02 its change requests, 001 is MS-RDPRFX: README, "What 01 is".)
 use Prim.Native.Nat.{ℕ, _+_, _*_, _-_, _/_, _%_, min}
 use mathlib.Core.List.{List}
 use lib.Dec.{eqb}

@@ -4,7 +4,7 @@ use bands::Quant;
 ghost use mathlib.Core.Path.{_≡_};
 ghost use Prim.Native.Nat.{_+_, _-_, _*_, _<_, _≤_};
 ghost use lib.ListN.{length};
-ghost use Rattle.whole.specs.Near.{Near};
+ghost use Rattle.whole.specs.laws.Near.{Near};
 ghost use Rattle.whole.specs.Tab.{tab};
 ghost use Rattle.whole.specs.laws.Tab.{AllNear};
 ghost use Rattle.bands.specs.Bands.{QuantGood};

@@ -3,7 +3,7 @@
 ghost use mathlib.Core.Path.{_≡_};
 ghost use Prim.Native.Nat.{_+_, _-_, _*_, _<_, _≤_};
 ghost use lib.ListN.{length};
-ghost use Rattle.whole.specs.Near.{Near};
+ghost use Rattle.whole.specs.laws.Near.{Near};
 ghost use Rattle.whole.specs.Tab.{at, tab, grid};
 ghost use Rattle.whole.specs.laws.Tab.{AllNear};
 ghost use Rattle.wave_back.specs.Line.{rowAvg, colAvg, evenZ, oddZ, lineAt, rowAt};

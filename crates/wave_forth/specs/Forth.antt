@@ -1,4 +1,5 @@
 -- The way forth of one component's tile (01, "Bands and the wavelet"; 001, 3.1.8.1.4).
+-- (01 is this project's scope document, 02 its change requests, 001 is MS-RDPRFX: README, "What 01 is".)
 use mathlib.Core.List.{List, _++_}
 use Prim.Native.Nat.{ℕ, _+_, _*_}
 use lib.IntN.{ℤ}

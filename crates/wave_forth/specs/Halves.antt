@@ -1,4 +1,5 @@
 -- One line of the way forth (01, "Bands and the wavelet"; 001, 3.1.8.1.4), with floors: the two halves of 2N numbers.
+-- (01 is this project's scope document, 02 its change requests, 001 is MS-RDPRFX: README, "What 01 is".)
 use Prim.Native.Nat.{ℕ, _+_, _*_, _-_, min}
 use lib.IntN.{ℤ, _+ℤ_, _-ℤ_}
 use Rattle.wave_back.specs.Line.{halfZ}

@@ -1,4 +1,5 @@
 -- "One of these numbers", as a test that computes: what 01 says of some answers ("untouched on 12 and 2") and of every other.
+-- (01 is this project's scope document, 02 its change requests, 001 is MS-RDPRFX: README, "What 01 is".)
 use Prim.Native.Nat.{ℕ}
 use mathlib.Core.Path.{_≡_}
 use mathlib.Core.Bool.{Bool, true, false, _||_}

@@ -3,8 +3,10 @@ pub mod Fill
 pub mod Floor
 pub mod Holds
 pub mod More
+pub mod Near
 pub mod Part
 pub mod Put
 pub mod Row
+pub mod Sums
 pub mod Tab
 pub mod Test

@@ -1,5 +1,6 @@
 -- What a writer says and leaves, whatever its first fault is and whatever bytes it has to write. 01, "Numbers the fitter sees": "Writers leave their
 -- output untouched on every refusal; when done they say the length in bytes, refused 0, and bytes past it are untouched."
+-- (01 is this project's scope document, 02 its change requests, 001 is MS-RDPRFX: README, "What 01 is".)
 use Prim.Native.Nat.{ℕ, zero, suc}
 use mathlib.Core.Path.{_≡_}
 use mathlib.Core.List.{List}

@@ -5,7 +5,7 @@ use native.Mathlib.Omega.{arith}
 use lib.ListN.{length}
 use denote.Ref.{now}
 use mir.Syntax.{w32}
-use Rattle.whole.specs.Near.{back-ok}
+use Rattle.whole.specs.laws.Near.{back-ok}
 use Rattle.whole.specs.Tab.{at}
 use Rattle.bands.specs.laws.Steps.{overOf, overs}
 use Rattle.bands.specs.laws.Range.{count-turn}

@@ -6,7 +6,7 @@ use lib.ListN.{length}
 use denote.Ref.{now}
 use mir.Syntax.{w32}
 use mir.Val.{toZ, ofZ}
-use Rattle.whole.specs.Near.{Near, back, back-near, back-ok}
+use Rattle.whole.specs.laws.Near.{Near, back, back-near, back-ok}
 use Rattle.whole.specs.Tab.{at}
 use Rattle.bands.specs.Bands.{sumTo}
 use Rattle.bands.specs.laws.Steps.{overOf, overs}

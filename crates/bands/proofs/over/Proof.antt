@@ -8,7 +8,7 @@ use lib.IntN.{ℤ, pos, negℤ, natAbs, _-ℤ_, +ℤ-idl}
 use mir.Syntax.{w32}
 use mir.Val.{toZ, ofZ, SFits}
 use mir.Facts.{toZ-ofZ, toZ-pos}
-use Rattle.whole.specs.Near.{op, near--}
+use Rattle.whole.specs.laws.Near.{op, near--}
 use Rattle.whole.specs.laws.Test.{test-l, test-r}
 use Rattle.bands.specs.laws.Range.{over-high, over-low, over-mid}
 use Rattle.bands.proofs.over.Statement.{statement}

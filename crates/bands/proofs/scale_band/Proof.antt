@@ -7,7 +7,7 @@ use lib.ListN.{length}
 use denote.Ref.{now}
 use mir.Syntax.{w32}
 use mir.Val.{toZ, ofZ}
-use Rattle.whole.specs.Near.{Near, back, back-near, back-ok}
+use Rattle.whole.specs.laws.Near.{Near, back, back-near, back-ok}
 use Rattle.whole.specs.Tab.{at, tab}
 use Rattle.bands.specs.laws.Part.{Done, done-none, done-put, done-all}
 use Rattle.bands.proofs.scale_band.Statement.{statement}

@@ -8,7 +8,7 @@ use lib.ListN.{length}
 use denote.Ref.{now}
 use mir.Syntax.{w32}
 use mir.Val.{toZ, ofZ}
-use Rattle.whole.specs.Near.{Near, back-ok}
+use Rattle.whole.specs.laws.Near.{Near, back-ok}
 use Rattle.whole.specs.Tab.{at}
 use Rattle.bands.specs.declared.Band.{Band}
 use Rattle.bands.specs.Bands.{scaleAt, scaledBy, quantAt}

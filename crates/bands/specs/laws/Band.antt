@@ -16,7 +16,7 @@ use native.Mathlib.Numerals.{add-one}
 use lib.Pow.{pow-mono, pow-lt, shl-exact}
 use Rattle.whole.specs.Row.{_⇒_∣_}
 use Rattle.whole.specs.laws.Row.{case-yes, case-no}
-use Rattle.whole.specs.Near.{Near}
+use Rattle.whole.specs.laws.Near.{Near}
 use Rattle.bands.specs.declared.Band.{Band}
 use Rattle.bands.specs.Bands.{bands, firstBand, bandAt, bandOf, quantAt, goodTo, isGood, QuantGood}
 

@@ -10,7 +10,7 @@ use lib.IntN.{ℤ, pos}
 use lib.ListN.{length, getD, take, drop, List·getD-eq-default}
 use Rattle.whole.specs.Row.{_!_⨾_, _⇒_∣_, _⨟_}
 use Rattle.whole.specs.laws.Row.{held, both, passes, goes-on}
-use Rattle.whole.specs.Near.{Near}
+use Rattle.whole.specs.laws.Near.{Near}
 use Rattle.whole.specs.Tab.{at, tab}
 use Rattle.whole.specs.laws.Tab.{AllNear, at-tab}
 use Rattle.whole.specs.laws.Part.{part-length, part-at}

@@ -10,7 +10,7 @@ use lib.ListN.{length, getD, set, length-set, take, drop, length-append, length-
 use lib.Seq.{getD-set-other, getD-take, getD-append-add, length-take-le}
 use borrow.Rule.Slice.PartMut.{putMid}
 use Rattle.whole.specs.laws.Row.{held}
-use Rattle.whole.specs.Near.{Near}
+use Rattle.whole.specs.laws.Near.{Near}
 use Rattle.whole.specs.Tab.{at, tab}
 use Rattle.whole.specs.laws.Tab.{AllNear, at-tab, length-tab, is-tab}
 use Rattle.whole.specs.laws.Put.{put-new}

@@ -13,7 +13,7 @@ use lib.IntN.{ℤ, pos, negsuc, negℤ, natAbs, _+ℤ_, _*ℤ_}
 use lib.Pow.{pow-pos}
 use lib.Signed.{ltZ}
 use Rattle.whole.specs.Row.{_⇒_∣_}
-use Rattle.whole.specs.Near.{Near, add-near, near-*, wide-near}
+use Rattle.whole.specs.laws.Near.{Near, add-near, near-*, wide-near}
 use Rattle.bands.specs.Bands.{inRange, allIn, sumTo}
 use Rattle.bands.specs.laws.Steps.{overOf, overs, limitOf}
 

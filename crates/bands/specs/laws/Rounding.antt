@@ -10,7 +10,7 @@ use lib.Signed.{shrZ}
 use lib.ListN.{length, getD, take, drop}
 use lib.Pow.{pow-mono}
 use borrow.Rule.Slice.PartMut.{putMid}
-use Rattle.whole.specs.Near.{Near, add-near, near-shr}
+use Rattle.whole.specs.laws.Near.{Near, add-near, near-shr}
 use Rattle.whole.specs.Tab.{at, tab}
 use Rattle.whole.specs.laws.Tab.{AllNear, at-tab, length-tab, is-tab, tab-near}
 use Rattle.whole.specs.laws.Part.{part-at}

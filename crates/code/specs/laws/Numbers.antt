@@ -1,6 +1,7 @@
 -- Which numbers the component reader answers, and what its list holds on each: 01, "The component reader leaves its output list untouched on 5, 2 and 6
 -- and fills it with zeros on 1, 9, 10, 11."
 -- Assumes nothing.
+-- (01 is this project's scope document, 02 its change requests, 001 is MS-RDPRFX: README, "What 01 is".)
 use Prim.Native.Nat.{ℕ, zero, suc}
 use mathlib.Core.Path.{_≡_, refl, sym, ap, _∙_, subst}
 use mathlib.Core.Bool.{Bool, true, false}

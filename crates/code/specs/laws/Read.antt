@@ -1,4 +1,5 @@
 -- Laws of the component reader: its tail, its ways out, and what an answer 0 gives.
+-- (01 is this project's scope document, 02 its change requests, 001 is MS-RDPRFX: README, "What 01 is".)
 use Prim.Native.Nat.{ℕ, zero, suc, _+_, _*_, _-_, _≤_}
 use mathlib.Core.Path.{_≡_, refl, sym, ap, subst, _∙_}
 use mathlib.Core.Bool.{Bool, true, false, _&&_}
@@ -8,7 +9,7 @@ use lib.Dec.{leb, eqb}
 use borrow.Author.Tests.{lt-ltb, le-ltb, eqb-true, leb-true, eq-eqb, ne-eqb}
 use lib.IntN.{ℤ, pos}
 use lib.ListN.{length, drop, getD, replicate, length-drop, length-append, length-map, List·getD-map}
-use Rattle.whole.specs.Near.{Near}
+use Rattle.whole.specs.laws.Near.{Near}
 use Rattle.whole.specs.laws.Tab.{AllNear}
 use Rattle.whole.specs.Row.{_!_⨾_}
 use Rattle.whole.specs.laws.Row.{held, passes, fails}

@@ -6,7 +6,7 @@ use mir.Syntax.{w32}
 use lib.IntN.{ℤ, _+ℤ_, _*ℤ_}
 use lib.Signed.{shrZ}
 use borrow.Author.Needs.{needs}
-use Rattle.whole.specs.Near.{mul-upto, apart-near}
+use Rattle.whole.specs.laws.Near.{mul-upto, apart-near}
 use Rattle.whole.specs.Calc.{Calc, fits, val, arg, add, sub, sub-to, mul, shr, floor}
 use Rattle.colour.specs.Colour.{clampByte}
 use Rattle.colour.specs.laws.Steps.{mix}

@@ -6,7 +6,7 @@ use mir.Syntax.{w32}
 use mir.Facts.{toZ-ofZ}
 use lib.IntN.{pos, _+ℤ_, _-ℤ_, _*ℤ_}
 use borrow.Author.Needs.{needs}
-use Rattle.whole.specs.Near.{near-le, lit-upto}
+use Rattle.whole.specs.laws.Near.{near-le, lit-upto}
 use Rattle.whole.specs.Calc.{Calc, fits, val, near, arg, lit, add, sub, mul}
 use Rattle.colour.specs.Colour.{redOf, greenOf, blueOf}
 use Rattle.colour.specs.laws.Step.{red-sum, green-sum, blue-sum}

@@ -1,4 +1,5 @@
 -- 01's cases of the colour, in one statement: white, black and red, forth and back.
+-- (01 is this project's scope document, 02 its change requests, 001 is MS-RDPRFX: README, "What 01 is".)
 use mathlib.Core.Path.{refl}
 use Rattle.colour.specs.Colour.{lumaZ, cbZ, crZ, clampByte, redOf, greenOf, blueOf}
 use Rattle.colour.specs.Cases.{Cases}

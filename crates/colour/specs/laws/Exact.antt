@@ -8,7 +8,7 @@ use native.Mathlib.Omega.{arith}
 use lib.Dec.{lit<}
 use lib.IntN.{ℤ, pos, negℤ, _+ℤ_, _-ℤ_, _*ℤ_, +ℤ-assoc, +ℤ-comm, +ℤ-negℤ-cancel, -ℤ-+ℤ-cancel, negℤ-+ℤ, negℤ-negℤ, pos-+ℤ-pos, pos-*ℤ-pos}
 use lib.Signed.{shrZ}
-use Rattle.whole.specs.Sums.{swap, distrib-l, neg-mul, mul-neg}
+use Rattle.whole.specs.laws.Sums.{swap, distrib-l, neg-mul, mul-neg}
 use Rattle.whole.specs.laws.Floor.{shr-sum}
 use Rattle.colour.specs.Colour.{cut11, cut21, lumaZ, cbZ, crZ, lumaOf, cbOf, crOf, clampByte, redOf, greenOf, blueOf}
 use Rattle.colour.specs.Cases.{Back}

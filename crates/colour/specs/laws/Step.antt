@@ -1,14 +1,15 @@
 -- 01's sums are those of the code. Forth: a weight that 01 takes away is one below 0. Back: 65,536 times a base, and two products whose
 -- factors fit 15 bits.
 -- Assumes nothing.
+-- (01 is this project's scope document, 02 its change requests, 001 is MS-RDPRFX: README, "What 01 is".)
 use mathlib.Core.Path.{_≡_, sym, _∙_, ap, subst}
 use Prim.Native.Nat.{ℕ}
 use native.Mathlib.Omega.{arith}
 use lib.Dec.{lit<}
 use lib.IntN.{ℤ, pos, negℤ, _+ℤ_, _-ℤ_, _*ℤ_, +ℤ-assoc, +ℤ-idl, *ℤ-comm, *ℤ-zero}
 use lib.Signed.{shrZ}
-use Rattle.whole.specs.Near.{Near, Upto, floor-near, pos-upto}
-use Rattle.whole.specs.Sums.{sums, swap, distrib, less-mul, neg-mul, mul-assoc}
+use Rattle.whole.specs.laws.Near.{Near, Upto, floor-near, pos-upto}
+use Rattle.whole.specs.laws.Sums.{sums, swap, distrib, less-mul, neg-mul, mul-assoc}
 use Rattle.whole.specs.laws.Floor.{shr-shr, shr-sum, rest, rest-below, rest-is, floor-is}
 use Rattle.colour.specs.declared.Parts.{Parts}
 use Rattle.colour.specs.Colour.{cbZ, crZ, cbOf, crOf, cut21, scaled}

@@ -1,8 +1,9 @@
 -- What the steps between 01's sums and the code give. Forth: one weighed sum serves Y, Cb and Cr. Back: a sample is split in two parts
 -- (02, request Two: "split the product elsewhere").
+-- (01 is this project's scope document, 02 its change requests, 001 is MS-RDPRFX: README, "What 01 is".)
 use Prim.Native.Nat.{ℕ}
 use lib.IntN.{ℤ, pos, _+ℤ_, _-ℤ_, _*ℤ_}
-use Rattle.whole.specs.Near.{Near, Upto}
+use Rattle.whole.specs.laws.Near.{Near, Upto}
 use Rattle.colour.specs.Colour.{cut11}
 use Rattle.colour.specs.declared.Parts.{Parts}
 

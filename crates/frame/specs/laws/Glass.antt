@@ -1,6 +1,7 @@
 -- What the glass shows after a frame call, said of the promise alone (no code in it): document 01, "A refused header or frame changes
 -- neither record nor picture", "A picture word is changed exactly if ..", "words past width x height are never changed", "A done frame
 -- reports numTiles, a refused one 0"; and that one answer alone meets the promise.
+-- (01 is this project's scope document, 02 its change requests, 001 is MS-RDPRFX: README, "What 01 is".)
 use Prim.Native.Nat.{ℕ, _+_, _*_, _≤_, _<_}
 use mathlib.Core.Path.{_≡_, refl, sym, ap, _∙_}
 use mathlib.Core.Bool.{Bool, true, false}

@@ -3,6 +3,7 @@
 -- Said of the frame call's promise alone (no code in it): where the call answers 0, no component of a listed tile is refused. The drawing pass is
 -- entered only then (`draw_frame` asks for a message without a fault); each component that it decodes is one of these (`tile_back::samples` asks that its
 -- number is 0), and decoding for drawing has no answer to give.
+-- (01 is this project's scope document, 02 its change requests, 001 is MS-RDPRFX: README, "What 01 is".)
 use Prim.Native.Nat.{ℕ, zero, suc, _+_, _≤_, _<_}
 use mathlib.Core.Path.{_≡_, sym, subst}
 use mathlib.Core.Logic.{_⊎_, ⊎-elim}

@@ -1,4 +1,5 @@
 -- Document 01, "Cases on both sides": "tileset 5051 .. RLGR3; .. 4451 .. RLGR1", and "quantiser 5 and 16 never pass".
+-- (01 is this project's scope document, 02 its change requests, 001 is MS-RDPRFX: README, "What 01 is".)
 use Prim.Native.Nat.{ℕ, _/_, _%_, _≤_, _<_}
 use mathlib.Core.Path.{_≡_, refl}
 use native.Mathlib.Omega.{arith}

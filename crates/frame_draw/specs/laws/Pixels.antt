@@ -1,5 +1,6 @@
 -- The picture after a tile, by coordinates: document 01, "A picture word is changed exactly if it lies in the channel, in some
 -- rectangle of the region, and in some listed tile"; "words past width x height are never changed".
+-- (01 is this project's scope document, 02 its change requests, 001 is MS-RDPRFX: README, "What 01 is".)
 use Prim.Native.Nat.{ℕ, suc, zero, _+_, _*_, _-_, _/_, _%_, _≤_, _<_}
 use mathlib.Core.Path.{_≡_, refl, ap, sym, _∙_, subst, subst⁻¹}
 use mathlib.Core.Bool.{Bool, true, false, true≢false, false≢true}

@@ -13,7 +13,7 @@ use Rattle.whole.specs.laws.Row.{passes}
 use Rattle.frame_layout.specs.Bytes.{Tile, tileOf, tilesOf, beginOf, regionOf, propsOf, quantBytes, setHead, endOf, frontOf, frameOf}
 use Rattle.frame_layout.specs.Reader.{sizeAt, codesFault, codecJudge, codecFault, beginJudge, beginFault, rectCount, regionJudge, lastJudge, regionFault, propsGood, setJudge, halvesFault, quantsFault, quantCount, tileCount, dataSize, quantAt, dataOf, tilesIn, setFault, endFault, setPlace, endPlace, frameFault, frameTiles}
 use Rattle.frame_layout.specs.laws.Here.{tile-length, tile-least, two-bytes, four-bytes, past, byte-in, le16-in, le32-in}
-use Rattle.frame_layout.specs.Tiles.{none, least-none, fixed-none, Good, listed, tiles-walked}
+use Rattle.frame_layout.specs.laws.Tiles.{none, least-none, fixed-none, Good, listed, tiles-walked}
 
 -- the fields of a frame's front, behind which anything may stand
 pub record Front (m : List ℕ) (w h et : ℕ) (q : List ℕ) (n size : ℕ) (rest : List ℕ) : Type 0 where

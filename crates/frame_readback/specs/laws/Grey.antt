@@ -10,7 +10,7 @@ use lib.Seq.{ext-getD}
 use borrow.Author.Tests.{le-leb}
 use Rattle.whole.specs.Row.{_⇒_∣_}
 use Rattle.whole.specs.laws.Row.{passes, goes-on}
-use Rattle.whole.specs.Near.{Near, sub-near, wide-near}
+use Rattle.whole.specs.laws.Near.{Near, sub-near, wide-near}
 use Rattle.whole.specs.Tab.{at, tab}
 use Rattle.whole.specs.laws.Tab.{AllNear, tab-near, length-tab, at-tab}
 use Rattle.bands.specs.Bands.{QuantGood, bandOf, ll3, sumsOf, sumsFault, summed, scaleAt, scaleFault, rangeFault, coefficientsFault}

@@ -1,6 +1,7 @@
 -- Our own frames read back, over the calls: 01's demand 2, the other way. The calls appear as their promises, over any values that meet
 -- them; no code is mentioned.
 -- Assumes nothing.
+-- (01 is this project's scope document, 02 its change requests, 001 is MS-RDPRFX: README, "What 01 is".)
 use Prim.Native.Nat.{ℕ, _+_, _*_, _/_, _%_, _≤_, _<_}
 use mathlib.Core.Path.{_≡_, refl, ap, ap₂, sym, _∙_, subst}
 use mathlib.Core.Bool.{true, false}
@@ -20,7 +21,7 @@ use Rattle.whole.specs.Row.{_⇒_∣_}
 use Rattle.whole.specs.laws.Row.{passes, fails, both, held, goes-on, case-is, case-no}
 use Rattle.frame_layout.specs.Bytes.{Tile, quantBytes, tilesOf, frameOf, endOf}
 use Rattle.frame_layout.specs.Reader.{sizeAt, setPlace, rectCount, quantAt, frameTiles}
-use Rattle.frame_layout.specs.Tiles.{listed}
+use Rattle.frame_layout.specs.laws.Tiles.{listed}
 use Rattle.frame_layout.specs.laws.ReadBack.{front, sent-small, Taken}
 use Rattle.frame_blocks.specs.Blocks.{rectsOf}
 use Rattle.bands.specs.Bands.{quantOf, summed, scaledBy}

@@ -12,7 +12,7 @@ use lib.ListN.{length, getD}
 use Rattle.whole.specs.laws.Row.{both, goes-on}
 use Rattle.frame_layout.specs.Bytes.{quantBytes}
 use Rattle.frame_layout.specs.Reader.{codesFault}
-use Rattle.frame_layout.specs.Tiles.{Good}
+use Rattle.frame_layout.specs.laws.Tiles.{Good}
 use Rattle.frame_layout.specs.laws.ReadBack.{Sent, Taken, read-back}
 use Rattle.bands.specs.Bands.{QuantGood, quantOf, summed, scaledBy, coefficientsFault}
 use Rattle.wire.specs.Mode.{isMode}

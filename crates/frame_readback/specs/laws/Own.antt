@@ -14,7 +14,7 @@ use lib.Seq.{getD-take, getD-drop}
 use Rattle.wire.specs.Le.{le16}
 use Rattle.whole.specs.laws.Row.{passes, case-yes, case-no}
 use Rattle.frame_layout.specs.Bytes.{Tile}
-use Rattle.frame_layout.specs.Tiles.{listed}
+use Rattle.frame_layout.specs.laws.Tiles.{listed}
 use Rattle.frame_draw.specs.Draw.{inside, holds, some, inRegion}
 use Rattle.frame_draw.specs.laws.Draw.{region-is}
 use Rattle.frame_draw.specs.Shown.{inTile, found, none, orElse, lastTile}

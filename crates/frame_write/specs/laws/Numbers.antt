@@ -1,6 +1,7 @@
 -- Which numbers the frame writer answers, and what its work lists hold on each: 01, "The frame writer's work lists are untouched on 5, 7 and 2 and hold
 -- only zeros after every other answer."
 -- Assumes nothing.
+-- (01 is this project's scope document, 02 its change requests, 001 is MS-RDPRFX: README, "What 01 is".)
 use Prim.Native.Nat.{ℕ, zero, suc, _+_}
 use mathlib.Core.Path.{_≡_, refl, sym, _∙_, subst}
 use mathlib.Core.List.{List, [], _∷_}

@@ -1,4 +1,5 @@
 -- Our own headers read back: from any record whatever, the four header calls on the four blocks answer 0 and end in (4, w, h, et).
+-- (01 is this project's scope document, 02 its change requests, 001 is MS-RDPRFX: README, "What 01 is".)
 use Prim.Native.Nat.{ℕ, _+_, _*_, _%_, _/_, _<_}
 use mathlib.Core.Path.{_≡_, refl, sym, _∙_}
 use mathlib.Core.Bool.{true}

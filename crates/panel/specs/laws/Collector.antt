@@ -1,5 +1,6 @@
 -- The collector's call for C is the collector's own: its promise follows from that call's answer and gives it back, so what 02 says of the collector holds
 -- of it too. And it leaves one record, one store and one value of each number.
+-- (01 is this project's scope document, 02 its change requests, 001 is MS-RDPRFX: README, "What 01 is".)
 use Prim.Native.Nat.{ℕ, zero, suc}
 use mathlib.Core.Path.{_≡_, refl, ap, _∙_, sym}
 use mathlib.Core.List.{List}

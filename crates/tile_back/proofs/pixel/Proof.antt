@@ -1,7 +1,7 @@
 -- `tile::pixel` meets its contract: three samples of planes are near enough for the colour step, and the word is theirs. Assumes nothing.
 use mir.Syntax.{w32}
 use borrow.Author.Needs.{needs}
-use Rattle.whole.specs.Near.{back, back-near, near-le}
+use Rattle.whole.specs.laws.Near.{back, back-near, near-le}
 use Rattle.tile_back.specs.Word.{wordAt}
 use Rattle.tile_back.proofs.pixel.Statement.{statement}
 use Rattle.tile_back.proofs.pixel.Tie as tie

@@ -1,7 +1,7 @@
 use Prim.Native.Nat.{_-_}
 use mathlib.Core.Path.{_∙_, sym, subst}
 use mir.Syntax.{w32}
-use Rattle.whole.specs.Near.{Near, back-ok}
+use Rattle.whole.specs.laws.Near.{Near, back-ok}
 use Rattle.tile_forth.specs.TileForth.{bytesAt}
 use borrow.Author.Needs.{needs}
 use Rattle.tile_forth.proofs.bytes_at.Statement.{statement}

@@ -5,7 +5,7 @@ use borrow.Author.Tests.{eq-eqb, ne-eqb}
 use mir.Syntax.{w32}
 use mir.Val.{toZ, ofZ}
 use Rattle.whole.specs.laws.Row.{case-yes, case-no}
-use Rattle.whole.specs.Near.{Near, back-ok}
+use Rattle.whole.specs.laws.Near.{Near, back-ok}
 use Rattle.tile_forth.specs.TileForth.{componentOf}
 use Rattle.tile_forth.specs.laws.TileForth.{component-near}
 use borrow.Author.Needs.{needs}

@@ -3,7 +3,7 @@ use mathlib.Core.Path.{_≡_, _∙_, ap, sym, subst}
 use native.Mathlib.Omega.{arith}
 use denote.Ref.{now}
 use mir.Syntax.{w32}
-use Rattle.whole.specs.Near.{Near, back-ok}
+use Rattle.whole.specs.laws.Near.{Near, back-ok}
 use Rattle.tile_forth.specs.TileForth.{edge, pixelPlace, bytesAt, sampleAt}
 use Rattle.tile_forth.specs.laws.TileForth.{edge-in, pixel-in}
 use borrow.Author.Needs.{needs}

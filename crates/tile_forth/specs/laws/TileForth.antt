@@ -11,7 +11,7 @@ use lib.IntN.{ℤ, pos}
 use lib.ListN.{length, set, length-set, List·getD-eq-default}
 use borrow.Author.Count.{below-more}
 use Rattle.whole.specs.Row.{_⇒_∣_}
-use Rattle.whole.specs.Near.{Near}
+use Rattle.whole.specs.laws.Near.{Near}
 use Rattle.whole.specs.Tab.{at, tab}
 use Rattle.whole.specs.laws.Tab.{AllNear, row-in, is-tab}
 use Rattle.whole.specs.laws.Put.{put-new}

@@ -1,4 +1,5 @@
 -- 01's case of this layer, by computation: the line of 001, 4.2.4.3.1.
+-- (01 is this project's scope document, 02 its change requests, 001 is MS-RDPRFX: README, "What 01 is".)
 use mathlib.Core.Path.{refl}
 use Rattle.whole.specs.Tab.{tab}
 use Rattle.wave_back.specs.Line.{evenAt, oddAt, lineAt}

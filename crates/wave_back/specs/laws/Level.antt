@@ -10,7 +10,7 @@ use lib.Dec.{lit≤}
 use lib.ListN.{length, take, drop, length-take, length-drop, length-append, List·getD-append, drop-of-length-le}
 use lib.Seq.{take-at, drop-at, getD-append-add, length-take-le, getD-take, getD-drop}
 use borrow.Rule.Slice.PartMut.{putMid}
-use Rattle.whole.specs.Near.{Near, wide-near}
+use Rattle.whole.specs.laws.Near.{Near, wide-near}
 use Rattle.whole.specs.Tab.{at, grid}
 use Rattle.whole.specs.laws.Tab.{at-grid, length-grid, row-in, AllNear}
 use Rattle.whole.specs.laws.Part.{part-at}

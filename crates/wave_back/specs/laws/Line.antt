@@ -6,7 +6,7 @@ use native.Mathlib.Omega.{arith}
 use lib.IntN.{ℤ, pos}
 use lib.ListN.{length, set, length-set}
 use Rattle.whole.specs.laws.Put.{put-new, put-old}
-use Rattle.whole.specs.Near.{Near, add-near, sub-near, half-near, cut-near, lit-near, mul-near, wide-near, ap3}
+use Rattle.whole.specs.laws.Near.{Near, add-near, sub-near, half-near, cut-near, lit-near, mul-near, wide-near, ap3}
 use Rattle.whole.specs.Tab.{at, tab}
 use Rattle.whole.specs.laws.Tab.{is-tab}
 use Rattle.wave_back.specs.Line.{rowAvg, colAvg, evenZ, oddZ, evenAt, oddAt, lineAt, byParity}

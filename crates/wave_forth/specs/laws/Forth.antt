@@ -6,7 +6,7 @@ use native.Mathlib.Omega.{arith}
 use lib.IntN.{ℤ, pos}
 use lib.ListN.{length, take, drop, length-append}
 use lib.Seq.{length-take-le, getD-drop}
-use Rattle.whole.specs.Near.{Near, wide-near}
+use Rattle.whole.specs.laws.Near.{Near, wide-near}
 use Rattle.whole.specs.Tab.{at, grid}
 use Rattle.whole.specs.laws.Tab.{length-grid, grid-near, AllNear}
 use Rattle.whole.specs.laws.Part.{part-near}

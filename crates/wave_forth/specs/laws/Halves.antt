@@ -3,7 +3,7 @@ use mathlib.Core.Path.{_≡_, _∙_}
 use Prim.Native.Nat.{ℕ, _+_, _*_, _-_, min, _<_}
 use native.Mathlib.Omega.{arith}
 use lib.IntN.{ℤ}
-use Rattle.whole.specs.Near.{Near, add-near, sub-near, half-near, wide-near, ap3}
+use Rattle.whole.specs.laws.Near.{Near, add-near, sub-near, half-near, wide-near, ap3}
 use Rattle.wave_forth.specs.Halves.{highZ, lowZ, highAt, lowAt}
 
 -- what a turn stores, from the numbers that it read

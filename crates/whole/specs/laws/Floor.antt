@@ -8,8 +8,8 @@ use lib.Arith.{digits-div}
 use lib.Dec.{ltb, ltb→lt, nltb→le}
 use lib.IntN.{ℤ, pos, negsuc, negℤ, subℕ, _+ℤ_, _-ℤ_, _*ℤ_, +ℤ-assoc, +ℤ-comm, +ℤ-negℤ-cancel}
 use lib.Signed.{shrZ}
-use Rattle.whole.specs.Near.{cond-ind}
-use Rattle.whole.specs.Sums.{distrib}
+use Rattle.whole.specs.laws.Near.{cond-ind}
+use Rattle.whole.specs.laws.Sums.{distrib}
 
 -- a - b: by cases, with the fact that omega wants
 pub sub-cases : (a b : ℕ) (P : ℤ → Type 0) → ((n : ℕ) → a + suc n ≡ b → P (negsuc n)) → ((n : ℕ) → a ≡ b + n → P (pos n)) → P (subℕ a b)

@@ -9,7 +9,7 @@ use lib.IntN.{ℤ, pos}
 use lib.ListN.{length, take, drop, length-take, length-drop, drop-of-length-le, List·getD-eq-default}
 use lib.Seq.{take-at, drop-at, take-all, take-add, length-take-le}
 use borrow.Rule.Slice.PartMut.{putMid}
-use Rattle.whole.specs.Near.{Near, wide-near}
+use Rattle.whole.specs.laws.Near.{Near, wide-near}
 use Rattle.whole.specs.Tab.{at, tab, grid}
 use Rattle.whole.specs.laws.Tab.{at-tab, length-tab, at-grid, is-grid, length-grid, AllNear}
 

@@ -11,7 +11,7 @@ use native.Mathlib.Omega.{arith}
 use lib.IntN.{ℤ, pos}
 use lib.ListN.{length, List·getD-eq-default}
 use lib.Seq.{ext-getD}
-use Rattle.whole.specs.Near.{Near}
+use Rattle.whole.specs.laws.Near.{Near}
 use Rattle.whole.specs.Tab.{at, tab, grid}
 
 pub length-tab : (n : ℕ) (f : ℕ → ℤ) → length (tab n f) ≡ n

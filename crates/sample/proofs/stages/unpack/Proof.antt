@@ -5,7 +5,7 @@ use native.Mathlib.Omega.{arith}
 use lib.IntN.{pos}
 use lib.ListN.{length, length-set, getD}
 use mir.Syntax.{w32}
-use Rattle.whole.specs.Near.{back-ok}
+use Rattle.whole.specs.laws.Near.{back-ok}
 use Rattle.whole.specs.laws.Put.{put-new}
 use Rattle.sample.specs.Compare.{valueAt}
 use Rattle.sample.proofs.stages.unpack.Statement.{statement}

@@ -1,5 +1,5 @@
 -- Two bytes are within 255, and their number is `numberOf`.
-use Rattle.whole.specs.Near.{back-ok, back-near}
+use Rattle.whole.specs.laws.Near.{back-ok, back-near}
 use mathlib.Core.Path.{_∙_}
 use mir.Syntax.{w32}
 use native.Mathlib.Omega.{arith}

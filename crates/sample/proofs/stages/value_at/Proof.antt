@@ -3,7 +3,7 @@ use mathlib.Core.Path.{refl, _∙_}
 use mir.Syntax.{w32}
 use native.Mathlib.Omega.{arith}
 use borrow.Author.Tests.{le-leb, lt-leb}
-use Rattle.whole.specs.Near.{back-ok}
+use Rattle.whole.specs.laws.Near.{back-ok}
 use Rattle.whole.specs.laws.Row.{case-yes, case-no}
 use Rattle.sample.specs.Compare.{valueAt}
 use borrow.Author.Needs.{needs}

@@ -6,7 +6,7 @@ use native.Mathlib.Omega.{arith}
 use lib.ListN.{length, length-set}
 use mir.Syntax.{w32}
 use mir.Val.{toZ}
-use Rattle.whole.specs.Near.{Near, back, back-near, back-ok}
+use Rattle.whole.specs.laws.Near.{Near, back, back-near, back-ok}
 use Rattle.whole.specs.Tab.{at}
 use Rattle.wave_back.specs.Line.{rowAvg, evenAt, oddAt}
 use Rattle.wave_back.specs.laws.Line.{Pairs, pair-put, line-is, odd-step, even-step, even-near}

@@ -4,7 +4,7 @@ use mathlib.Core.Path.{_≡_, _∙_, ap, sym, subst}
 use native.Mathlib.Omega.{arith}
 use lib.ListN.{length-set}
 use mir.Syntax.{w32}
-use Rattle.whole.specs.Near.{Near, back, back-near, back-ok}
+use Rattle.whole.specs.laws.Near.{Near, back, back-near, back-ok}
 use Rattle.whole.specs.Tab.{at}
 use Rattle.wave_back.specs.Line.{colAvg, evenAt}
 use Rattle.wave_back.specs.laws.Line.{odd-step, even-step, even-near}

@@ -5,7 +5,7 @@ use native.Mathlib.Omega.{arith}
 use lib.ListN.{length-set}
 use mir.Syntax.{w32}
 use mir.Val.{toZ}
-use Rattle.whole.specs.Near.{Near, back, back-near, back-ok}
+use Rattle.whole.specs.laws.Near.{Near, back, back-near, back-ok}
 use Rattle.whole.specs.Tab.{at}
 use Rattle.wave_forth.specs.Halves.{highAt}
 use Rattle.wave_forth.specs.laws.Halves.{high-step, low-step, high-near}

@@ -4,7 +4,7 @@ use mathlib.Core.Path.{_≡_, _∙_, ap, sym, subst}
 use native.Mathlib.Omega.{arith}
 use lib.ListN.{length-set}
 use mir.Syntax.{w32}
-use Rattle.whole.specs.Near.{Near, back, back-near, back-ok}
+use Rattle.whole.specs.laws.Near.{Near, back, back-near, back-ok}
 use Rattle.wave_forth.specs.Halves.{highAt}
 use Rattle.wave_forth.specs.laws.Halves.{high-step, low-step, high-near}
 use Rattle.wave_forth.specs.laws.Column.{colOf, High, Two, two-start, two-put, two-whole, Room, room}
