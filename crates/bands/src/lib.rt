@@ -6,6 +6,7 @@ ghost use Prim.Native.Nat.{ℕ, _+_, _<_, _≤_, _^_};
 ghost use lib.IntN.{pos, _+ℤ_, _-ℤ_, _*ℤ_};
 ghost use lib.Signed.{shrZ};
 ghost use lib.ListN.{length, getD, take, drop};
+ghost use Rattle.whole.specs.Row.{_⇒_∣_};
 ghost use Rattle.whole.specs.laws.Near.{Near};
 ghost use Rattle.whole.specs.Tab.{at, tab};
 ghost use Rattle.whole.specs.laws.Tab.{AllNear};
@@ -181,18 +182,21 @@ fn limit(n: u32) -> u16
     32767u16 >> (n - 1)
 }
 
-// 1 where v is above m in size, else 0.
+fn one(b: bool) -> u32
+    ensures { λ r. ⌜ r ≡ (b ⇒ 1 ∣ 0) ⌝ }
+{
+    if b {
+        return 1;
+    }
+    0
+}
+
+// 1 where v is above m in size, else 0: a sum of two tests, so that a loop over a band has no branch.
 fn over(v: i32, m: u16) -> u32
     ensures { λ r. ⌜ r ≡ overOf m v ⌝ }
 {
     let most = m as i32;
-    if v > most {
-        return 1;
-    }
-    if v < 0 - most {
-        return 1;
-    }
-    0
+    one(v > most) + one(v < 0 - most)
 }
 
 // How many of a band are above a limit in size.

@@ -112,6 +112,15 @@ fn fill(s: &[u8], two: bool, list: &mut [i32]) -> Filled
     Filled::Whole(at)
 }
 
+// A list cleared and filled from a code: for the component call and for drawing. (One caller of the loop, so that it is compiled with its slices at hand.)
+fn decode(s: &[u8], two: bool, list: &mut [i32]) -> Filled
+    requires { ⌜ (length (now s) ≤ 65535) × (length (now list) ≡ 4096) ⌝ }
+    ensures { λ r. ⌜ Fills (readList two 4096 (bitsOf (now (s .entry)))) (now (list .exit)) r ⌝ }
+{
+    whole::clear(list);
+    fill(s, two, list)
+}
+
 // Whether fewer than 8 bits stand from a place on, and none of them is 1.
 fn clean_tail(s: &[u8], at: usize) -> bool
     requires { ⌜ (length (now s) ≤ 65535) × (at ≤ length (now s) * 8) ⌝ }
@@ -143,12 +152,12 @@ fn shell_judge(mode: u8, n: usize, len: usize) -> u8
     0
 }
 
-// A code and its tail, into a list of 4,096 zeros.
+// A code and its tail, into a list of 4,096.
 fn read_code(two: bool, s: &[u8], list: &mut [i32]) -> Reading
-    requires { ⌜ (length (now s) ≤ 65535) × (length (now list) ≡ 4096) × (now list ≡ replicate 4096 (pos 0)) ⌝ }
+    requires { ⌜ (length (now s) ≤ 65535) × (length (now list) ≡ 4096) ⌝ }
     ensures { λ r. ⌜ CodeRead two (now (s .entry)) (now (list .exit)) r ⌝ }
 {
-    match fill(s, two, list) {
+    match decode(s, two, list) {
         Filled::Bad(r) => Reading::Refused(crate::element::refusal_number(r)),
         Filled::Whole(at) => {
             if clean_tail(s, at) {
@@ -167,7 +176,6 @@ pub fn read_component(mode: u8, s: &[u8], list: &mut [i32]) -> Reading
     if fault != 0 {
         return Reading::Refused(fault);
     }
-    whole::clear(list);
     let r = read_code(mode == 4, s, list);
     let number = reading_number(r);
     if number != 0 {
@@ -177,12 +185,11 @@ pub fn read_component(mode: u8, s: &[u8], list: &mut [i32]) -> Reading
     r
 }
 
-// A code that was read without a fault, once more, to draw from: nothing is judged, and nothing is answered. What `fill` answers is not asked
+// A code that was read without a fault, once more, to draw from: nothing is judged, and nothing is answered. What `decode` answers is not asked
 // for: it keeps its refusal for the component call, and of such a code it is `Whole` (law `checked-whole`).
 pub fn read_checked(mode: u8, s: &[u8], list: &mut [i32])
     requires { ⌜ (length (now list) ≡ 4096) × (0 ≡ readFault mode 4096 (now s)) ⌝ }
     ensures { λ _. ⌜ now (list .exit) ≡ decoded mode (now (s .entry)) ⌝ }
 {
-    whole::clear(list);
-    fill(s, mode == 4, list);
+    decode(s, mode == 4, list);
 }

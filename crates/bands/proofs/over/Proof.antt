@@ -1,6 +1,5 @@
--- `bands::over` meets its contract: v is above the limit, below its opposite, or between. Assumes nothing.
+-- `bands::over` meets its contract: the two tests are those of `over-is`, once the machine's readings are off. Assumes nothing.
 use mathlib.Core.Path.{_≡_, refl, ap, _∙_}
-use mathlib.Core.Bool.{true, false}
 use Prim.Native.Nat.{ℕ, _<_}
 use native.Mathlib.Omega.{arith}
 use borrow.Author.Needs.{needs}
@@ -9,8 +8,7 @@ use mir.Syntax.{w32}
 use mir.Val.{toZ, ofZ, SFits}
 use mir.Facts.{toZ-ofZ, toZ-pos}
 use Rattle.whole.specs.laws.Near.{op, near--}
-use Rattle.whole.specs.laws.Test.{test-l, test-r}
-use Rattle.bands.specs.laws.Range.{over-high, over-low, over-mid}
+use Rattle.bands.specs.laws.Range.{one-le, over-is}
 use Rattle.bands.proofs.over.Statement.{statement}
 use Rattle.bands.proofs.over.Tie as tie
 
@@ -24,29 +22,16 @@ down-fits m h = op {w = w32} {B = 65535} {s = pos 0 -ℤ toZ w32 m} refl (omega 
 down : (m : ℕ) → m < 65536 → toZ w32 (ofZ w32 (pos 0 -ℤ toZ w32 m)) ≡ negℤ (pos m)
 down m h = toZ-ofZ (down-fits m h) ∙ (ap (λ (z : ℤ). pos 0 -ℤ z) (most m h) ∙ +ℤ-idl (negℤ (pos m)))
 
-cast-most : tie.Need-cast-most
-cast-most c = search needs
-
 returns : tie.Need-returns
 returns c =
-    let s = c .before in
-    over-high (s .args .m) (s .args .v) (test-r (pos (s .args .m)) true (s .fits .v) (rw (most (s .args .m) (omega arith)) at (c .if1 .taken)))
-
-sub-if2 : tie.Need-sub-if2
-sub-if2 c = down-fits (c .before .args .m) (omega arith)
-
-returns-2 : tie.Need-returns-2
-returns-2 c =
     let s = c .before .before in
     let m : s .args .m < 65536 = omega arith in
-    over-low (s .args .m) (s .args .v) (test-l (negℤ (pos (s .args .m))) true (s .fits .v) (rw (down (s .args .m) m) at (c .if2 .taken)))
-
-returns-3 : tie.Need-returns-3
-returns-3 c =
-    let s = c .before .before in
-    let m : s .args .m < 65536 = omega arith in
-    over-mid (s .args .m) (s .args .v) (test-r (pos (s .args .m)) false (s .fits .v) (rw (most (s .args .m) m) at (c .before .if1 .left)))
-    (test-l (negℤ (pos (s .args .m))) false (s .fits .v) (rw (down (s .args .m) m) at (c .if2 .left)))
+    let a = rw (most (s .args .m) m, toZ-ofZ (s .fits .v)) at (c .before .one .ensures) in
+    let b = rw (down (s .args .m) m, toZ-ofZ (s .fits .v)) at (c .one2 .ensures) in
+    rw (a, b) (over-is (s .args .m) (s .args .v))
 
 pub over-spec : {M : Type 1} → statement M
-over-spec = tie.close (tie.spec cast-most returns sub-if2 returns-2 returns-3)
+over-spec =
+    tie.close
+    (tie.spec (λ c. search needs) (λ c κs. search needs) (λ c. down-fits (c .before .args .m) (omega arith)) (λ c κs. search needs)
+    (λ c. omega (arith, one-le _ _ (c .before .one .ensures), one-le _ _ (c .one2 .ensures))) returns)

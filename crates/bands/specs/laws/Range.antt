@@ -7,8 +7,8 @@ use native.Mathlib.Nat.{not-suc-le-zero, add-zero, add-suc, le-div-iff-mul-le, d
 use native.Mathlib.Numerals.{add-one}
 use native.Mathlib.Decide.{ℕ-discrete}
 use native.Mathlib.Omega.{arith}
-use borrow.Author.Tests.{leb-true, ltb-true, ltb-false, le-leb, lt-leb}
-use lib.Dec.{leb}
+use borrow.Author.Tests.{leb-true, ltb-true, ltb-false, le-leb, lt-leb, le-ltb}
+use lib.Dec.{leb, ltb}
 use lib.IntN.{ℤ, pos, negsuc, negℤ, natAbs, _+ℤ_, _*ℤ_}
 use lib.Pow.{pow-pos}
 use lib.Signed.{ltZ}
@@ -25,7 +25,7 @@ pub near-in : (z : ℤ) → Near 32767 z → inRange z ≡ true
 unfolding inRange
 near-in z h = le-leb (natAbs z) 32767 (h .near)
 
--- ---- the test's three answers
+-- ---- the two tests
 
 over-yes : (m : ℕ) (z : ℤ) → m < natAbs z → 1 ≡ overOf m z
 unfolding overOf _⇒_∣_
@@ -35,20 +35,28 @@ over-no : (m : ℕ) (z : ℤ) → natAbs z ≤ m → 0 ≡ overOf m z
 unfolding overOf _⇒_∣_
 over-no m z h = sym (ap (λ (b : Bool). b ⇒ 0 ∣ 1) (le-leb (natAbs z) m h))
 
-pub over-high : (m : ℕ) (z : ℤ) → ltZ (pos m) z ≡ true → 1 ≡ overOf m z
-over-high m (pos n) h = over-yes m (pos n) (ltb-true m n h)
-over-high m (negsuc n) h = absurd (let z : _≡_ {A = ℕ} 0 1 = cc in omega arith)
+pub one-le : (b : Bool) (n : ℕ) → n ≡ (b ⇒ 1 ∣ 0) → n ≤ 1
+unfolding _⇒_∣_
+one-le true n e = omega arith
+one-le false n e = omega arith
 
-pub over-low : (m : ℕ) (z : ℤ) → ltZ z (negℤ (pos m)) ≡ true → 1 ≡ overOf m z
-over-low zero (pos n) h = absurd (omega (arith, ltb-true n 0 h))
-over-low zero (negsuc n) h = over-yes 0 (negsuc n) (omega arith)
-over-low (suc m) (pos n) h = absurd (let z : _≡_ {A = ℕ} 0 1 = cc in omega arith)
-over-low (suc m) (negsuc n) h = over-yes (suc m) (negsuc n) (omega (arith, ltb-true m n h))
+high : (m n : ℕ) (b : Bool) → ltb m n ≡ b → _≡_ {A = ℕ} ((b ⇒ 1 ∣ 0) + 0) (overOf m (pos n))
+unfolding _⇒_∣_
+high m n true e = over-yes m (pos n) (ltb-true m n e)
+high m n false e = over-no m (pos n) (ltb-false m n e)
 
-pub over-mid : (m : ℕ) (z : ℤ) → ltZ (pos m) z ≡ false → ltZ z (negℤ (pos m)) ≡ false → 0 ≡ overOf m z
-over-mid m (pos n) g h = over-no m (pos n) (ltb-false m n g)
-over-mid zero (negsuc n) g h = absurd (let z : _≡_ {A = ℕ} 0 1 = cc in omega arith)
-over-mid (suc m) (negsuc n) g h = over-no (suc m) (negsuc n) (omega (arith, ltb-false m n h))
+low : (m n : ℕ) (b : Bool) → ltb m n ≡ b → _≡_ {A = ℕ} (0 + (b ⇒ 1 ∣ 0)) (overOf (suc m) (negsuc n))
+unfolding _⇒_∣_
+low m n true e = over-yes (suc m) (negsuc n) (omega (arith, ltb-true m n e))
+low m n false e = over-no (suc m) (negsuc n) (omega (arith, ltb-false m n e))
+
+-- above the limit, or below its opposite
+pub over-is : (m : ℕ) (z : ℤ) → _≡_ {A = ℕ} ((ltZ (pos m) z ⇒ 1 ∣ 0) + (ltZ z (negℤ (pos m)) ⇒ 1 ∣ 0)) (overOf m z)
+unfolding _⇒_∣_
+over-is zero (pos n) = rw (le-ltb n 0 (omega arith)) (high zero n (ltb zero n) refl)
+over-is (suc m) (pos n) = high (suc m) n (ltb (suc m) n) refl
+over-is zero (negsuc n) = over-yes zero (negsuc n) (omega arith)
+over-is (suc m) (negsuc n) = low m n (ltb m n) refl
 
 -- ---- counting
 

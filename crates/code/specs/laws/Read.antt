@@ -94,12 +94,12 @@ refusal-some Short e = omega arith
 refusal-some Range e = omega arith
 refusal-some Overrun e = omega arith
 
-module _ (two : Bool) (s : List ℕ) (n : ℕ) (len : n ≡ 4096) (out : List ℤ) (f : Filled) (h : Fills (readList two n (bitsOf s)) out f) where
+module _ (two : Bool) (s : List ℕ) (out : List ℤ) (f : Filled) (h : Fills (readList two 4096 (bitsOf s)) out f) where
   bad-is : (q : Refusal) → f ≡ Bad q → readList two 4096 (bitsOf s) ≡ bad q
-  bad-is q g = ap (λ (k : ℕ). readList two k (bitsOf s)) (sym len) ∙ filled-bad (readList two n (bitsOf s)) out f q h g
+  bad-is q g = filled-bad (readList two 4096 (bitsOf s)) out f q h g
 
   whole-is : (at : ℕ) → f ≡ Whole at → (xs : List ℕ) × (readList two 4096 (bitsOf s) ≡ whole xs at) × (out ≡ map unfoldZ xs)
-  whole-is at g = let w = filled-whole (readList two n (bitsOf s)) out f at h g in (w .0, ap (λ (k : ℕ). readList two k (bitsOf s)) (sym len) ∙ w .1, w .2)
+  whole-is at g = filled-whole (readList two 4096 (bitsOf s)) out f at h g
 
   pub whole-fits : (at : ℕ) → f ≡ Whole at → at ≤ length s * 8
   whole-fits at g =
@@ -278,10 +278,9 @@ into-decoded mode s before e = sym (passes _ _ _ _ (eq-eqb _ 0 (sym (accepted mo
 
 -- 02, request Eight: "Show that after a passed check it can't be taken"
 pub checked-whole :
-    (mode : ℕ) (s : List ℕ) (n : ℕ) (out : List ℤ) (f : Filled) → 0 ≡ readFault mode 4096 s → n ≡ 4096 → Fills (readList (eqb mode 4) n (bitsOf s)) out f →
+    (mode : ℕ) (s : List ℕ) (out : List ℤ) (f : Filled) → 0 ≡ readFault mode 4096 s → Fills (readList (eqb mode 4) 4096 (bitsOf s)) out f →
     (at : ℕ) × (f ≡ Whole at) × (out ≡ decoded mode s)
-checked-whole mode s n out f e len h =
+checked-whole mode s out f e h =
     let a = accepted mode 4096 s e in
-    let w : readList (eqb mode 4) n (bitsOf s) ≡ whole (a .xs) (a .at) = ap (λ (k : ℕ). readList (eqb mode 4) k (bitsOf s)) len ∙ a .walked in
-    let p = subst (λ (x : Walked). Fills x out f) w h in
+    let p = subst (λ (x : Walked). Fills x out f) (a .walked) h in
     (a .at, p .1, p .0 ∙ sym (accepted-list mode 4096 s a))

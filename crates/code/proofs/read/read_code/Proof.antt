@@ -1,64 +1,40 @@
-use denote.Ref.{now}
-use lib.IntN.{pos}
-use lib.ListN.{length, replicate}
-use Prim.Native.Nat.{ℕ}
-use native.Mathlib.Omega.{arith}
-use mathlib.Core.Path.{sym, ap, _∙_}
-use Rattle.code.specs.laws.Read.{whole-fits, code-bad, code-done, code-tail}
+-- `code_read::read_code` meets its contract: one law for each way out, by what decoding and the tail say. Assumes nothing.
+use mathlib.Core.Path.{sym, _∙_}
 use borrow.Author.Needs.{needs}
+use denote.Ref.{now}
+use Rattle.code.specs.laws.Read.{whole-fits, code-bad, code-done, code-tail}
 use Rattle.code.proofs.read.read_code.Statement.{statement}
 use Rattle.code.proofs.read.read_code.Tie as tie
-use Rattle.code.proofs.read.read_code.Reads as reads
-use Rattle.code.proofs.read.read_code.Lts as lts
-use Rattle.code.proofs.element.refusal_number.Reads as refusal-number-reads
-use Rattle.code.proofs.read.clean_tail.Reads as clean-tail-reads
-use Rattle.code.proofs.read.fill.Reads as fill-reads
-
-fill-requires : tie.Need-fill-requires
-fill-requires c κs = (c .before .before .pre .0, omega arith, c .before .before .pre .2 ∙ ap (λ (k : ℕ). replicate k (pos 0)) (sym (c .before .before .pre .1)))
-
-enum-known-r : tie.Need-enum-known-r
-enum-known-r c = search needs
-
-refusal-number-requires : tie.Need-refusal-number-requires
-refusal-number-requires c κs = search needs
-
-enum-known-at : tie.Need-enum-known-at
-enum-known-at c = search needs
 
 clean-tail-requires : tie.Need-clean-tail-requires
-clean-tail-requires c κs = (c .before .before .before .before .before .before .before .pre .0, whole-fits (c .before .before .before .before .before .before .before .args .two) (now (c .before .before .before .before .before .before .before .args .s)) (length (now (c .before .before .before .before .before .before .before .args .list))) (c .before .before .before .before .before .before .before .pre .1) (c .before .before .before .before .fill .last .1 .1 .0) (c .before .before .before .before .fill .result) (c .before .before .before .before .fill .ensures) _ (c .before .at .given .1))
-
-same-length : tie.Need-same-length
-same-length c = search needs
+clean-tail-requires c κs =
+    let f = c .before .before .before .before .decode in
+    let s = c .before .before .before .before .before .before .before in
+    (s .pre .0, whole-fits (s .args .two) (now (s .args .s)) (f .last .1 .1 .0) (f .result) (f .ensures) _ (c .before .at .given .1))
 
 returns : tie.Need-returns
-returns c = code-done (c .before .before .before .before .before .before .before .before .before .args .two) (now (c .before .before .before .before .before .before .before .before .before .args .s)) (length (now (c .before .before .before .before .before .before .before .before .before .args .list))) (c .before .before .before .before .before .before .before .before .before .pre .1) (c .before .before .before .before .before .before .fill .last .1 .1 .0) (c .before .before .before .before .before .before .fill .result) (c .before .before .before .before .before .before .fill .ensures) _ (c .before .before .before .at .given .1) (sym (c .before .clean-tail .ensures) ∙ c .if1 .taken)
-
-same-length-2 : tie.Need-same-length-2
-same-length-2 c = search needs
+returns c =
+    let a = c .before .before .before in
+    let f = a .before .before .before .decode in
+    let s = a .before .before .before .before .before .before in
+    code-done (s .args .two) (now (s .args .s)) (f .last .1 .1 .0) (f .result) (f .ensures) _ (a .at .given .1) (sym (c .before .clean-tail .ensures) ∙ c .if1 .taken)
 
 returns-2 : tie.Need-returns-2
-returns-2 c = code-bad (c .before .before .before .before .before .before .before .before .args .two) (now (c .before .before .before .before .before .before .before .before .args .s)) (length (now (c .before .before .before .before .before .before .before .before .args .list))) (c .before .before .before .before .before .before .before .before .pre .1) (c .before .before .before .before .before .fill .last .1 .1 .0) (c .before .before .before .before .before .fill .result) (c .before .before .before .before .before .fill .ensures) _ _ (c .before .before .r .given .1) (c .refusal-number .ensures)
-
-same-length-3 : tie.Need-same-length-3
-same-length-3 c = search needs
+returns-2 c =
+    let a = c .before .before in
+    let f = a .before .before .before .decode in
+    let s = a .before .before .before .before .before .before in
+    code-bad (s .args .two) (now (s .args .s)) (f .last .1 .1 .0) (f .result) (f .ensures) _ _ (a .r .given .1) (c .refusal-number .ensures)
 
 returns-3 : tie.Need-returns-3
-returns-3 c = code-tail (c .before .before .before .before .before .before .before .before .before .args .two) (now (c .before .before .before .before .before .before .before .before .before .args .s)) (length (now (c .before .before .before .before .before .before .before .before .before .args .list))) (c .before .before .before .before .before .before .before .before .before .pre .1) (c .before .before .before .before .before .before .fill .last .1 .1 .0) (c .before .before .before .before .before .before .fill .result) (c .before .before .before .before .before .before .fill .ensures) _ (c .before .before .before .at .given .1) (sym (c .before .clean-tail .ensures) ∙ c .if1 .left)
+returns-3 c =
+    let a = c .before .before .before in
+    let f = a .before .before .before .decode in
+    let s = a .before .before .before .before .before .before in
+    code-tail (s .args .two) (now (s .args .s)) (f .last .1 .1 .0) (f .result) (f .ensures) _ (a .at .given .1) (sym (c .before .clean-tail .ensures) ∙ c .if1 .left)
 
 pub read-code-spec : {M : Type 1} → statement M
 read-code-spec =
     tie.close
-    (tie.spec
-    fill-requires
-    enum-known-r
-    refusal-number-requires
-    enum-known-at
-    clean-tail-requires
-    same-length
-    returns
-    same-length-2
-    returns-2
-    same-length-3
-    returns-3)
+    (tie.spec (λ c κs. search needs) (λ c. search needs) (λ c κs. search needs) (λ c. search needs) clean-tail-requires
+    (λ c. search needs) returns (λ c. search needs) returns-2 (λ c. search needs) returns-3)
