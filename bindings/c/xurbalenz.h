@@ -30,9 +30,9 @@
  * WHAT THE ARCHIVE NEEDS
  *  - Any x86-64 processor (SSE2 and nothing newer) and the System V calling convention, as on Linux. It is position independent: programs and
  *    shared objects may hold it.
- *  - memset, and nothing else, of a C library.
+ *  - memcpy and memset, and nothing else, of a C library.
  *  - 1,024 bytes of stack (XURBALENZ_STACK), whatever the input: no function calls itself. Measured were 889 for a frame written and 760 for one
- *    read (docs/BENCH.md). A dynamic linker that looks memset up at its first call takes more of its own then.
+ *    read (docs/BENCH.md). A dynamic linker that looks them up at their first call takes more of its own then.
  *
  * The numbers, and the rules behind every sentence here, are the project's requirements; docs/PROMISES.md names the theorem for each.
  */

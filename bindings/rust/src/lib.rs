@@ -11,7 +11,7 @@
 //!
 //! The crate needs neither std nor any other crate, but `alloc` for [`Screen`], [`Collector`] and the writers that return a `Vec`. It links
 //! `target/staticlib/libxurbalenz.a` of the repository (make it with `tools/archive`), or the one in the folder `XURBALENZ_LIB_DIR`. That archive is
-//! x86-64 code and needs `memset`, less than 1 KiB of stack, and nothing else.
+//! x86-64 code and needs `memcpy` and `memset`, less than 1 KiB of stack, and nothing else.
 //!
 //! ```
 //! use xurbalenz::{read_component, write_component, Mode};

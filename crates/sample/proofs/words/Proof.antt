@@ -10,7 +10,7 @@ fill-words-requires c κs =
     let z = c .before in
     let y = z .before .before in
     let x = y .before .before in
-    let s = x .before .before in
+    let s = x .before .before .before in
     let a = s .before .before .before .args in (
       plane-of (a .ys .now) _ (s .before .if1 .left) (x .before .in-range .ensures) (not-false (x .before .in-range .result) (x .if4 .left)),
       plane-of (a .cbs .now) _ (s .if2 .left) (y .before .in-range2 .ensures) (not-false (y .before .in-range2 .result) (y .if5 .left)),
