@@ -1,0 +1,5 @@
+pub mod Gap
+pub mod Lines
+pub mod Samples
+pub mod Twice
+pub mod Coefficients
