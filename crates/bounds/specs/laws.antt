@@ -3,3 +3,4 @@ pub mod Lines
 pub mod Samples
 pub mod Twice
 pub mod Coefficients
+pub mod Rounded

@@ -11,11 +11,11 @@ use Rattle.whole.specs.laws.Near.{Near}
 use Rattle.whole.specs.laws.Floor.{sub-cases}
 
 -- how far above 0, and how far below
-pub over : ℤ → ℕ
+unfoldable pub over : ℤ → ℕ
 over (pos n) = n
 over (negsuc n) = 0
 
-pub under : ℤ → ℕ
+unfoldable pub under : ℤ → ℕ
 under (pos n) = 0
 under (negsuc n) = suc n
 
