@@ -4,3 +4,4 @@ pub mod Samples
 pub mod Twice
 pub mod Coefficients
 pub mod Rounded
+pub mod Length
