@@ -5,3 +5,4 @@ pub mod Twice
 pub mod Coefficients
 pub mod Rounded
 pub mod Length
+pub mod Refuses
