@@ -1,12 +1,12 @@
--- How big the wavelet's values of a tile can be, band by band, where its samples are within 4,096: 16,237 before LL3 (which HL3 and LH3 could have), and
--- 24,356 in LL3. What 9 asks is 24,576: at q = 15 that rounds to two times 16,384.
+-- How big the wavelet's values of a tile can be, where its samples are within 4,096: 6,145 in the bands of level 1, 13,828 in those of level 2, 16,237 in
+-- those of level 3 before LL3, and 24,356 in LL3. 9 would begin at 24,576, which at q = 15 is rounded to 32,768.
 -- Assumes nothing.
-use mathlib.Core.Path.{_≡_, refl, sym, _∙_, ap, subst}
+use mathlib.Core.Path.{_≡_, sym, _∙_, ap, subst}
 use mathlib.Core.List.{List, _++_, append-assoc}
-use Prim.Native.Nat.{ℕ, _+_, _*_, _-_, _/_, _≤_, _<_}
+use Prim.Native.Nat.{ℕ, _+_, _*_, _/_, _<_}
 use native.Mathlib.Omega.{arith}
 use lib.IntN.{ℤ, pos}
-use lib.ListN.{length, take, drop, length-append, List·getD-append}
+use lib.ListN.{length, length-append, List·getD-append}
 use lib.Seq.{take-at, drop-at}
 use Rattle.whole.specs.laws.Near.{Near, wide-near}
 use Rattle.whole.specs.Tab.{at, grid}
@@ -16,14 +16,16 @@ use Rattle.wave_forth.specs.Halves.{highAt, lowAt}
 use Rattle.wave_forth.specs.laws.Halves.{low-cong}
 use Rattle.wave_forth.specs.Forth.{lowRow, highRow, levelForth, forthFrom, tileForth}
 use Rattle.bounds.specs.laws.Lines.{low-tight, high-tight}
-use Rattle.bounds.specs.laws.Twice.{both1, both2, both2-near}
+use Rattle.bounds.specs.laws.Twice.{both1, both2-near}
 
 -- ---- one level: HL, LH and HH, and then LL
 
 module _ (N : ℕ) (xs : List ℤ) where
   details : List ℤ
   details =
-      grid N N (λ r c. highAt N (lowRow N (at xs) r) c) ++ (grid N N (λ r c. lowAt N (highRow N (at xs) r) c) ++ grid N N (λ r c. highAt N (highRow N (at xs) r) c))
+      grid N N (λ r c. highAt N (lowRow N (at xs) r) c)
+      ++ (grid N N (λ r c. lowAt N (highRow N (at xs) r) c)
+      ++ grid N N (λ r c. highAt N (highRow N (at xs) r) c))
 
   lows : List ℤ
   lows = grid N N (λ r c. lowAt N (lowRow N (at xs) r) c)
@@ -122,12 +124,14 @@ module _ (xs : List ℤ) (p : AllNear 4096 xs) where
   before-near : AllNear 16237 before3
   unfolding before1 before2 before3
   before-near =
-      append-near before2 _ (append-near before1 _ (all-wide (omega arith) (details-near 32 xs (omega arith) p)) (all-wide (omega arith) (details-near 16 low1 (omega arith) near1)))
-      (details-near 8 low2 (omega arith) near2)
+      let one = details-near 32 xs (omega arith) p in
+      let two = details-near 16 low1 (omega arith) near1 in
+      append-near before2 _ (append-near before1 _ (all-wide (omega arith) one) (all-wide (omega arith) two)) (details-near 8 low2 (omega arith) near2)
 
   pub all-near : AllNear 24356 (tileForth xs)
   all-near = subst (AllNear 24356) (sym tile-split) (append-near before3 _ (all-wide (omega arith) before-near) (lows-near 8 low2 (omega arith) near2))
 
   pub front-near : (k : ℕ) → k < 4032 → Near 16237 (at (tileForth xs) k)
   front-near k h =
-      subst (Near 16237) (sym (ap (λ (l : List ℤ). at l k) tile-split ∙ List·getD-append before3 (lows 8 low2) (pos 0) k (omega (arith, length3)))) (before-near .all k)
+      let e = ap (λ (l : List ℤ). at l k) tile-split ∙ List·getD-append before3 (lows 8 low2) (pos 0) k (omega (arith, length3)) in
+      subst (Near 16237) (sym e) (before-near .all k)

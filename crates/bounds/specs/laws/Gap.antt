@@ -2,7 +2,7 @@
 -- numbers. The number is in the type; the two are fields.
 -- Assumes nothing.
 use mathlib.Core.Path.{_≡_, refl, sym, _∙_, ap}
-use Prim.Native.Nat.{ℕ, zero, suc, _+_, _*_, _-_, _/_, _≤_, _<_}
+use Prim.Native.Nat.{ℕ, zero, suc, _+_, _*_, _≤_, _<_}
 use native.Mathlib.Nat.{mul-add, div-add-mod', mod-lt}
 use native.Mathlib.Omega.{arith}
 use lib.IntN.{ℤ, pos, negsuc, negℤ, natAbs, subℕ, _+ℤ_, _-ℤ_, _*ℤ_}
@@ -27,6 +27,9 @@ parts-abs (negsuc n) = omega arith
 pub pos-parts : (n : ℕ) → over (pos n) + 0 ≡ under (pos n) + n
 unfolding over under
 pos-parts n = omega arith
+
+pub near-parts : {B : ℕ} {z : ℤ} → Near B z → over z + under z ≤ B
+near-parts {B} {z} p = omega (arith, parts-abs z, p .near)
 
 sub-parts : (a b : ℕ) → over (subℕ a b) + b ≡ under (subℕ a b) + a
 unfolding over under
@@ -80,9 +83,14 @@ minus {x} {y} p q = record {
 }
 
 abbrev pub times : {x : ℤ} (k : ℕ) (p : Gap x) → Gap (pos k *ℤ x)
-times {x} k p = record { up = k * p .up; down = k * p .down; is = times-is k (over (pos k *ℤ x)) (under (pos k *ℤ x)) (over x) (under x) (p .up) (p .down) (times-parts k x) (p .is) }
+times {x} k p = record {
+  up = k * p .up;
+  down = k * p .down;
+  is = times-is k (over (pos k *ℤ x)) (under (pos k *ℤ x)) (over x) (under x) (p .up) (p .down) (times-parts k x) (p .is);
+}
 
-shr-parts : (m : ℕ) (x : ℤ) → 0 < m → (m * over (shrZ x m) + under x ≤ over x + m * under (shrZ x m)) × (over x + m * under (shrZ x m) < m * over (shrZ x m) + under x + m)
+shr-parts : (m : ℕ) (x : ℤ) → 0 < m →
+    (m * over (shrZ x m) + under x ≤ over x + m * under (shrZ x m)) × (over x + m * under (shrZ x m) < m * over (shrZ x m) + under x + m)
 unfolding over under
 shr-parts m (pos a) h = (omega (arith, div-add-mod' a m, mod-lt a h), omega (arith, div-add-mod' a m, mod-lt a h))
 shr-parts m (negsuc a) h = (omega (arith, div-add-mod' a m, mod-lt a h), omega (arith, div-add-mod' a m, mod-lt a h))
@@ -92,7 +100,8 @@ pub floored : {x : ℤ} (m : ℕ) (p : Gap x) → 0 < m →
     (m * over (shrZ x m) + p .down ≤ p .up + m * under (shrZ x m)) × (p .up + m * under (shrZ x m) < m * over (shrZ x m) + p .down + m)
 floored {x} m p h = let f = shr-parts m x h in (omega (arith, f .0, p .is), omega (arith, f .1, p .is))
 
-pub halved : {x : ℤ} (p : Gap x) → (2 * over (shrZ x 2) + p .down ≤ p .up + 2 * under (shrZ x 2)) × (p .up + 2 * under (shrZ x 2) < 2 * over (shrZ x 2) + p .down + 2)
+pub halved : {x : ℤ} (p : Gap x) →
+    (2 * over (shrZ x 2) + p .down ≤ p .up + 2 * under (shrZ x 2)) × (p .up + 2 * under (shrZ x 2) < 2 * over (shrZ x 2) + p .down + 2)
 halved p = floored 2 p (omega arith)
 
 -- at most K from 0

@@ -115,7 +115,9 @@ module _ (f : ℕ) (two : Bool) (kp krp : ℕ) (l : List ℕ) (some : 0 < length
 
     run-fits : (z v : ℕ) → 12 + grLen (krp / 8) ((v - 1) / 2) + m (krAfter krp ((v - 1) / 2)) (suc z) ≤ most → Fits (Run z v)
     unfolding itemKp itemKrp itemUsed
-    run-fits z v h = omega (arith, size-run kp krp (Run z v) z v refl, h, rest (kp - 6) (krAfter krp ((v - 1) / 2)) (suc z) (omega arith) (kr-le krp ((v - 1) / 2) hr))
+    run-fits z v h =
+        let g = (v - 1) / 2 in
+        omega (arith, size-run kp krp (Run z v) z v refl, h, rest (kp - 6) (krAfter krp g) (suc z) (omega arith) (kr-le krp g hr))
 
     single-fits : (v : ℕ) → grLen (krp / 8) v + m (krAfter krp v) 1 ≤ most → Fits (Single v)
     unfolding itemKp itemKrp itemUsed
@@ -209,11 +211,15 @@ module _ (f : ℕ) (two : Bool) (kp krp : ℕ) (l : List ℕ) (some : 0 < length
         item-fits f two kp krp l some most (item-is two kp l (Fits f two kp krp l some most)
         (full-fits f two kp krp l some most hp hr m rest (λ u h. omega (arith, shared-more n u more h)))
         (λ h. run-fits f two kp krp l some most hp hr m rest (zerosOf l) value (run h (decLt (zerosOf l + 64) n)))
-        (single-fits f two kp krp l some most hp hr m rest a0 (let e = c 0 (omega arith) in omega (arith, gr-paid krp a0 hr (omega arith), shared-more n 1 more (omega arith))))
+        (single-fits f two kp krp l some most hp hr m rest a0 single)
         (pair (decLt 65 n)))
       where
+        single : grLen (krp / 8) a0 + (shared (length l - 1) + store (krAfter krp a0)) ≤ shared (length l) + store krp
+        single = let e = c 0 (omega arith) in omega (arith, gr-paid krp a0 hr (omega arith), shared-more (length l) 1 more (omega arith))
+
         run : zerosOf l < length l → Dec (zerosOf l + 64 < length l) →
-            12 + grLen (krp / 8) ((value - 1) / 2) + (shared (length l - suc (zerosOf l)) + store (krAfter krp ((value - 1) / 2))) ≤ shared (length l) + store krp
+            12 + grLen (krp / 8) ((value - 1) / 2) + (shared (length l - suc (zerosOf l)) + store (krAfter krp ((value - 1) / 2)))
+            ≤ shared (length l) + store krp
         run h (yes d) =
             let e = c (zerosOf l) d in
             omega (arith, gr-paid krp ((value - 1) / 2) hr (omega arith), shared-more (length l) (suc (zerosOf l)) more (omega arith))
@@ -265,7 +271,8 @@ unfolding foldZ
 fold-few (pos n) = omega arith
 fold-few (negsuc n) = omega arith
 
-module _ (mode : ℕ) (zs : List ℤ) (len : length zs ≡ 4096) (front : (k : ℕ) → k < 4032 → Near 512 (at zs k)) (last : (i : ℕ) → i < 64 → Near 1536 (ll3 zs i)) where
+module _ (mode : ℕ) (zs : List ℤ) (len : length zs ≡ 4096) (front : (k : ℕ) → k < 4032 → Near 512 (at zs k))
+    (last : (i : ℕ) → i < 64 → Near 1536 (ll3 zs i)) where
   front-folded : (k : ℕ) → k < 4032 → getD (map foldZ zs) k 0 ≤ 1024
   front-folded k h = omega (arith, fold-at zs k, fold-few (at zs k), front k h .near)
 
@@ -278,8 +285,8 @@ module _ (mode : ℕ) (zs : List ℤ) (len : length zs ≡ 4096) (front : (k : �
       let n : 4032 + (k - 4032) ≡ k = omega arith in
       subst (λ (i : ℕ). getD (map foldZ zs) i 0 ≤ 3072) n (last-folded (k - 4032) (omega arith))
 
-  -- 6 does not happen
-  pub no-six : length (bytesOf mode zs) ≤ 65535
+  -- 6, which begins at 65,536, does not happen
+  pub no-six : length (bytesOf mode zs) ≤ 64964
   no-six =
       let n = length-map zs foldZ in
       let c = code-few (eqb mode 4) (map foldZ zs) (n ∙ len) (λ i h. folded i (decLt i 4032) (omega arith)) (λ i h. front-folded i (omega arith)) in

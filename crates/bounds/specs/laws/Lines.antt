@@ -1,21 +1,22 @@
 -- One line of the way forth against its linear form. Eight times the low half is the form, but for what four floors take: 8 at most.
 -- Assumes nothing.
-use mathlib.Core.Path.{_≡_, refl, sym, _∙_, ap, subst}
-use Prim.Native.Nat.{ℕ, zero, suc, _+_, _*_, _-_, _/_, _≤_, _<_, min}
+use mathlib.Core.Path.{_≡_, sym, _∙_, ap, subst}
+use Prim.Native.Nat.{ℕ, zero, suc, _+_, _*_, _-_, _/_, _<_, min}
 use native.Mathlib.Omega.{arith}
-use lib.IntN.{ℤ, pos, natAbs, negℤ, _+ℤ_, _-ℤ_, _*ℤ_, +ℤ-comm, -ℤ-+ℤ-cancel}
+use lib.IntN.{ℤ, pos, negℤ, _+ℤ_, _-ℤ_, _*ℤ_, +ℤ-comm, -ℤ-+ℤ-cancel}
 use Rattle.whole.specs.laws.Near.{Near, near-*, add-near, sub-near, half-near, mul-near, lit-near, wide-near}
 use Rattle.whole.specs.laws.Sums.{sums, mul-assoc, distrib-l, mul-neg}
 use Rattle.wave_back.specs.Line.{halfZ}
 use Rattle.wave_forth.specs.Halves.{highZ, lowZ, highAt, lowAt}
-use Rattle.bounds.specs.laws.Gap.{over, under, parts-abs, halved, Gap, atom, plus, minus, times, bounded, same}
+use Rattle.bounds.specs.laws.Gap.{over, under, near-parts, halved, Gap, atom, plus, minus, times, bounded, same}
 
 -- five numbers in a row, with the weights -1 2 6 2 -1
 unfoldable pub five : ℤ → ℤ → ℤ → ℤ → ℤ → ℤ
 five a b c d e = pos 2 *ℤ b +ℤ pos 6 *ℤ c +ℤ pos 2 *ℤ d -ℤ a -ℤ e
 
 pub five-parts : {a b c d e : ℤ} (p : Gap a) (q : Gap b) (r : Gap c) (s : Gap d) (t : Gap e) →
-    over (five a b c d e) + (2 * q .down + 6 * r .down + 2 * s .down + p .up + t .up) ≡ under (five a b c d e) + (2 * q .up + 6 * r .up + 2 * s .up + p .down + t .down)
+    over (five a b c d e) + (2 * q .down + 6 * r .down + 2 * s .down + p .up + t .up)
+    ≡ under (five a b c d e) + (2 * q .up + 6 * r .up + 2 * s .up + p .down + t .down)
 unfolding five
 five-parts p q r s t = let g = minus (minus (plus (plus (times 2 q) (times 6 r)) (times 2 s)) p) t in omega (arith, g .is)
 
@@ -26,21 +27,32 @@ five-gap p q r s t = record {
   is = five-parts p q r s t;
 }
 
--- eight times L[n] without its floors: before the first place stand the second and the third again, past the last even place stands that place
+-- the places that L[n] looks at beside 2n and 2n + 1: before the first place the line stands mirrored, past the last even place stands that place
+abbrev pub back2 : ℕ → ℕ
+back2 n = 2 * n - 2 + (2 - 2 * n)
+
+abbrev pub back1 : ℕ → ℕ
+back1 n = 2 * n - 1 + (1 - 2 * n)
+
+abbrev pub ahead : ℕ → ℕ → ℕ
+ahead N n = 2 * min (n + 1) (N - 1)
+
+-- eight times L[n], without its floors
 unfoldable pub low5 : ℕ → (ℕ → ℤ) → ℕ → ℤ
-low5 N x n = five (x (2 * n - 2 + (2 - 2 * n))) (x (2 * n - 1 + (1 - 2 * n))) (x (2 * n)) (x (2 * n + 1)) (x (2 * min (n + 1) (N - 1)))
+low5 N x n = five (x (back2 n)) (x (back1 n)) (x (2 * n)) (x (2 * n + 1)) (x (ahead N n))
 
 pub five-is : {a b c d e a′ b′ c′ d′ e′ : ℤ} → a ≡ a′ → b ≡ b′ → c ≡ c′ → d ≡ d′ → e ≡ e′ → five a b c d e ≡ five a′ b′ c′ d′ e′
 five-is p q r s t = cc
 
-abbrev abs : (z : ℤ) → over z + under z ≡ natAbs z
-abs z = parts-abs z
-
 five-near : {B : ℕ} {a b c d e : ℤ} → Near B a → Near B b → Near B c → Near B d → Near B e → Near (12 * B) (five a b c d e)
 five-near {B} {a} {b} {c} {d} {e} p q r s t =
     let g = five-gap (atom a) (atom b) (atom c) (atom d) (atom e) in
-    bounded g (omega (arith, abs a, abs b, abs c, abs d, abs e, p .near, q .near, r .near, s .near, t .near))
-    (omega (arith, abs a, abs b, abs c, abs d, abs e, p .near, q .near, r .near, s .near, t .near))
+    let pa = near-parts p in
+    let pb = near-parts q in
+    let pc = near-parts r in
+    let pd = near-parts s in
+    let pe = near-parts t in
+    bounded g (omega (arith, pa, pb, pc, pd, pe)) (omega (arith, pa, pb, pc, pd, pe))
 
 -- ---- a line
 
@@ -66,14 +78,15 @@ line-first c d e =
 
 pub low-line : (N : ℕ) (x : ℕ → ℤ) (n : ℕ) → 1 < N → n < N → Near 8 (pos 8 *ℤ lowAt N x n -ℤ low5 N x n)
 unfolding lowAt highAt low5
-low-line N x zero o l = subst (λ (k : ℕ). Near 8 (pos 8 *ℤ lowZ (x 0) (highZ (x 1) (x 0) (x k)) (highZ (x 1) (x 0) (x k)) -ℤ five (x 2) (x 1) (x 0) (x 1) (x k)))
+low-line N x zero o l =
+    subst (λ (k : ℕ). Near 8 (pos 8 *ℤ lowZ (x 0) (highZ (x 1) (x 0) (x k)) (highZ (x 1) (x 0) (x k)) -ℤ five (x 2) (x 1) (x 0) (x 1) (x k)))
     (omega arith) (line-first (x 0) (x 1) (x 2))
 low-line N x (suc n) o l =
-    let a = x (2 * suc n - 2 + (2 - 2 * suc n)) in
-    let b = x (2 * suc n - 1 + (1 - 2 * suc n)) in
+    let a = x (back2 (suc n)) in
+    let b = x (back1 (suc n)) in
     let c = x (2 * suc n) in
     let d = x (2 * suc n + 1) in
-    let e = x (2 * min (suc n + 1) (N - 1)) in
+    let e = x (ahead N (suc n)) in
     let same-low : lowAt N x (suc n) ≡ lowOf a b c d e = low-is (highAt N x (suc n)) (ap x (omega arith)) (ap x (omega arith)) (ap x (omega arith)) in
     subst (λ (z : ℤ). Near 8 (pos 8 *ℤ z -ℤ five a b c d e)) (sym same-low) (line a b c d e)
   where
@@ -141,7 +154,8 @@ low-tight {B} N x n o l p =
 pub high-tight : {B : ℕ} (N : ℕ) (x : ℕ → ℤ) (n : ℕ) → n < N → ((k : ℕ) → k < 2 * N → Near B (x k)) → Near B (highAt N x n)
 unfolding highAt
 high-tight {B} N x n l p =
-    wide-near (omega arith) (half-near (sub-near (p (2 * n + 1) (omega arith)) (half-near (add-near (p (2 * n) (omega arith)) (p (2 * min (n + 1) (N - 1)) (omega arith))))))
+    let around = half-near (add-near (p (2 * n) (omega arith)) (p (ahead N n) (omega arith))) in
+    wide-near (omega arith) (half-near (sub-near (p (2 * n + 1) (omega arith)) around))
 
 times-less : (k : ℕ) (a b : ℤ) → pos k *ℤ (a -ℤ b) ≡ pos k *ℤ a -ℤ pos k *ℤ b
 times-less k a b = distrib-l (pos k) a (negℤ b) ∙ ap (λ (z : ℤ). pos k *ℤ a +ℤ z) (mul-neg (pos k) b)

@@ -1,28 +1,35 @@
 -- The frame writer never refuses a picture: its number is 5, 7, 2, 13 or 0. 9 and 6 cannot happen, for any picture, size, mode and good quantisers.
 -- Assumes nothing.
 -- (01 is this project's scope document, 02 its change requests, 001 is MS-RDPRFX: README, "What 01 is".)
-use Prim.Native.Nat.{ℕ, zero, suc, _+_, _≤_}
+use Prim.Native.Nat.{ℕ, zero, suc, _+_, _*_, _/_, _%_, _≤_}
 use mathlib.Core.Path.{_≡_, refl, sym, _∙_}
 use mathlib.Core.List.{List, [], _∷_}
+use native.Mathlib.Omega.{arith}
 use borrow.Author.Tests.{le-leb}
 use lib.Dec.{leb}
 use lib.IntN.{ℤ}
-use lib.ListN.{length}
+use lib.ListN.{length, length-append}
 use Rattle.whole.specs.Row.{_!_⨾_, _⨟_}
 use Rattle.whole.specs.laws.Row.{passes, goes-on}
 use Rattle.whole.specs.Among.{among, Among}
 use Rattle.whole.specs.laws.Among.{numbers, each, among-then, among-all}
 use Rattle.whole.specs.Tab.{tab}
+use Rattle.whole.specs.laws.Tab.{AllNear}
 use Rattle.wire.specs.Wrote.{writingNumber}
 use Rattle.wire.specs.declared.Writing.{Writing}
 use Rattle.bits.specs.laws.Bytes.{Bytes}
 use Rattle.bands.specs.Bands.{QuantGood}
+use Rattle.bands.specs.Rounding.{roundedBy}
 use Rattle.bands.specs.laws.Rounding.{rounded-length}
 use Rattle.wave_forth.specs.Forth.{tileForth}
 use Rattle.tile_forth.specs.TileForth.{sampleAt, roundedOf}
 use Rattle.code_write.specs.Write.{bytesOf}
+use Rattle.frame_layout.specs.Bytes.{tileLen, tileOf, tilesOf}
+use Rattle.frame_layout.specs.laws.Here.{tile-length}
 use Rattle.frame_pieces.specs.Parts.{tilesNo, colsOf}
-use Rattle.frame_write.specs.Encode.{listOf, partRefusal, tileRefusal, refusals, frameP}
+use Rattle.frame_pieces.specs.laws.Parts.{frame-long}
+use Rattle.frame_write.specs.Encode.{listOf, partOf, tileP, partRefusal, tileRefusal, refusals, frameP}
+use Rattle.frame_write.specs.laws.Encode.{tile-long}
 use Rattle.frame_write.specs.FrameWrite.{argFault, sendFault, FrameWritten}
 use Rattle.frame_write.specs.laws.FrameWrite.{args-good}
 use Rattle.frame_write.specs.laws.Numbers.{arg-among}
@@ -34,49 +41,90 @@ use Rattle.bounds.specs.laws.Length.{no-six}
 -- ---- no component is refused
 
 module _ (p : List ℕ) (w h mode : ℕ) (q : List ℕ) (bytes : Bytes p) (good : QuantGood q) where
-  part-none : (tx ty c : ℕ) → 0 ≡ partRefusal mode q (roundedOf p w h q tx ty c)
-  unfolding partRefusal roundedOf
-  part-none tx ty c =
-      let xs = tileForth (tab 4096 (sampleAt p w h tx ty c)) in
-      let s = samples-near p w h tx ty c bytes in
-      let n = all-near (tab 4096 (sampleAt p w h tx ty c)) s in
-      let l = no-six mode _ (rounded-length q xs) (λ k i. front-small q xs good (n .all) k i (front-near _ s k i)) (last-small q xs good (n .all)) in
-      goes-on _ _ _ (sym (no-nine q xs good (n .all))) (passes _ _ _ _ (le-leb _ 65535 l) refl)
+  -- any component of any tile
+  module _ (tx ty c : ℕ) where
+    samples : List ℤ
+    samples = tab 4096 (sampleAt p w h tx ty c)
 
-  list-none : (k c : ℕ) → 0 ≡ partRefusal mode q (listOf p w h q k c)
-  unfolding listOf
-  list-none k c = part-none _ _ c
+    near : AllNear 4096 samples
+    unfolding samples
+    near = samples-near p w h tx ty c bytes
+
+    pub part-few : length (bytesOf mode (roundedOf p w h q tx ty c)) ≤ 64964
+    unfolding roundedOf samples
+    part-few =
+        let xs = tileForth samples in
+        let n = all-near samples near .all in
+        no-six mode (roundedBy q xs) (rounded-length q xs) (λ k i. front-small q xs good n k i (front-near samples near k i)) (last-small q xs good n)
+
+    pub part-none : 0 ≡ partRefusal mode q (roundedOf p w h q tx ty c)
+    unfolding partRefusal roundedOf samples
+    part-none =
+        let zs = roundedBy q (tileForth samples) in
+        let few : length (bytesOf mode zs) ≤ 65535 = omega (arith, part-few) in
+        goes-on _ _ _ (sym (no-nine q (tileForth samples) good (all-near samples near .all)))
+        (passes _ _ _ _ (le-leb (length (bytesOf mode zs)) 65535 few) refl)
+
+  pub tile-none : (k : ℕ) → 0 ≡ tileRefusal p w h mode q k
+  unfolding tileRefusal listOf
+  tile-none k = goes-on _ _ _ (sym (part-none _ _ 0)) (goes-on _ _ _ (sym (part-none _ _ 1)) (part-none _ _ 2))
 
   pub none-refused : (n i : ℕ) → 0 ≡ refusals p w h mode q n i
-  unfolding refusals tileRefusal
+  unfolding refusals
   none-refused zero i = refl
-  none-refused (suc n) i =
-      goes-on _ _ _ (sym (goes-on _ _ _ (sym (list-none i 0)) (goes-on _ _ _ (sym (list-none i 1)) (list-none i 2)))) (none-refused n (i + 1))
+  none-refused (suc n) i = goes-on _ _ _ (sym (tile-none i)) (none-refused n (i + 1))
+
+  -- ---- and a tile has at most 194,911 bytes
+
+  tile-few : (k : ℕ) → tileLen (tileP p w h mode q k) ≤ 194911
+  unfolding partOf listOf
+  tile-few k =
+      let x = k % colsOf w in
+      let y = k / colsOf w in
+      omega (arith, tile-long p w h mode q k, part-few x y 0, part-few x y 1, part-few x y 2)
+
+  tiles-few : (n i : ℕ) → length (tilesOf (tileP p w h mode q) n i) ≤ 194911 * n
+  unfolding tilesOf
+  tiles-few zero i = omega arith
+  tiles-few (suc n) i =
+      let t = tileP p w h mode q in
+      omega (arith, length-append (tileOf (t i)) (tilesOf t n (i + 1)), tile-length (t i), tile-few i, tiles-few n (i + 1))
+
+  pub frame-few : (index : ℕ) → length (frameP index w h mode q p) ≤ 72 + 194911 * tilesNo w h
+  unfolding frameP
+  frame-few index =
+      let t = tileP p w h mode q in
+      omega (arith, frame-long index w h mode q (tilesNo w h) t, tiles-few (tilesNo w h) 0)
 
 -- ---- the call
 
--- what is judged after the arguments: the room alone
-abbrev pub roomFault : ℕ → ℕ → ℕ → ℕ → List ℕ → List ℕ → ℕ → ℕ
-roomFault index w h mode q p room = leb (length (frameP index w h mode q p)) room ! 13 ⨾ 0
-
-module _ (w h mode : ℕ) (q : List ℕ) (index : ℕ) (p : List ℕ) (list list′ scratch scratch′ : List ℤ) (out out′ : List ℕ) (r : Writing)
+module _ {w h mode : ℕ} {q : List ℕ} {index : ℕ} {p : List ℕ} {list list′ scratch scratch′ : List ℤ} {out out′ : List ℕ} {r : Writing}
     (bytes : Bytes p) (x : FrameWritten w h mode q index p list list′ scratch scratch′ out out′ r) where
-  abbrev arguments : ℕ
+  abbrev pub arguments : ℕ
   arguments = argFault w h mode q (length p) (length list) (length scratch)
 
-  -- the number: 5, 7 or 2 by the arguments, then 13 by the room, and no other
-  pub only-room : writingNumber r ≡ arguments ⨟ roomFault index w h mode q p (length out)
+  -- what is judged after the arguments: the room alone
+  abbrev pub room : ℕ
+  room = leb (length (frameP index w h mode q p)) (length out) ! 13 ⨾ 0
+
+  quants : 0 ≡ arguments → QuantGood q
+  quants e = args-good w h mode q p (length list) (length scratch) e .picture .quants
+
+  pub only-room : writingNumber r ≡ arguments ⨟ room
   unfolding _⨟_ sendFault
   only-room = x .wrote .number ∙ by arguments refl
     where
-      by : (f : ℕ) → f ≡ arguments → (f ⨟ sendFault index w h mode q p (length out)) ≡ (f ⨟ roomFault index w h mode q p (length out))
-      by zero e = sym (goes-on _ _ _ (sym (none-refused p w h mode q bytes (args-good w h mode q p (length list) (length scratch) e .picture .quants) (tilesNo w h) 0)) refl)
+      by : (f : ℕ) → f ≡ arguments → (f ⨟ sendFault index w h mode q p (length out)) ≡ (f ⨟ room)
+      by zero e = sym (goes-on _ _ _ (sym (none-refused p w h mode q bytes (quants e) (tilesNo w h) 0)) refl)
       by (suc f) e = refl
 
+  -- "5, 7, 2, 13": no other number
   pub writer-refuses : Among (0 ∷ 5 ∷ 7 ∷ 2 ∷ 13 ∷ []) (writingNumber r)
   unfolding each among
   writer-refuses = rw only-room (among-then _ _ (among-all _ (arg-among w h mode q (length p) (length list) (length scratch)) refl) (search numbers))
 
-  -- given good arguments and room, every picture is written
-  pub writer-done : 0 ≡ arguments → length (frameP index w h mode q p) ≤ length out → writingNumber r ≡ 0
-  writer-done e l = only-room ∙ sym (goes-on _ _ _ (sym e) (passes _ _ _ _ (le-leb _ (length out) l) refl))
+  -- given good arguments and this much room, every picture is written
+  pub writer-done : 0 ≡ arguments → 72 + 194911 * tilesNo w h ≤ length out → writingNumber r ≡ 0
+  writer-done e l =
+      let f : length (frameP index w h mode q p) ≤ length out = omega (arith, frame-few p w h mode q bytes (quants e) index) in
+      only-room ∙ sym (goes-on _ _ _ (sym e) (passes _ _ _ _ (le-leb (length (frameP index w h mode q p)) (length out) f) refl))

@@ -1,21 +1,20 @@
 -- What the writer makes of wavelet values that are within 24,356: rounded, and LL3 as differences, it is a list in which the reader finds no 9; and with
 -- no value above 512 before LL3, and none above 1,536 in it, since no quantiser is below 6.
 -- Assumes nothing.
-use mathlib.Core.Path.{_≡_, refl, sym, _∙_, ap, subst}
+use mathlib.Core.Path.{_≡_, sym, _∙_, ap, subst}
 use mathlib.Core.List.{List}
-use Prim.Native.Nat.{ℕ, zero, suc, _+_, _*_, _-_, _/_, _^_, _≤_, _<_}
+use Prim.Native.Nat.{ℕ, zero, suc, _+_, _*_, _-_, _^_, _≤_, _<_}
 use native.Mathlib.Nat.{pow-suc, mul-le-mul-left, mul-le-mul-right}
 use native.Mathlib.Decide.{decLt}
 use native.Mathlib.Omega.{arith}
 use lib.IntN.{ℤ, pos, negsuc, natAbs, _+ℤ_}
-use lib.ListN.{length, getD}
 use lib.Pow.{pow-mono}
 use lib.Signed.{shrZ}
 use Rattle.whole.specs.laws.Near.{Near, near-*, sub-near, wide-near}
 use Rattle.whole.specs.Row.{_⇒_∣_}
 use Rattle.whole.specs.Tab.{at, tab}
 use Rattle.whole.specs.laws.Tab.{at-tab, length-tab}
-use Rattle.bands.specs.Bands.{bandAt, bands, firstBand, quantAt, ll3, sumTo, sumsOf, QuantGood, coefficientsFault}
+use Rattle.bands.specs.Bands.{bandAt, bands, firstBand, quantAt, ll3, sumsOf, QuantGood, coefficientsFault}
 use Rattle.bands.specs.Rounding.{roundZ, roundAt, diffAt, differences, roundedBy}
 use Rattle.bands.specs.laws.Steps.{limitOf, limitAt}
 use Rattle.bands.specs.laws.Band.{same-band, quant-low, quant-high}
@@ -32,7 +31,8 @@ half-more : (m h : ℕ) (v : ℤ) → 0 < h → m ≡ 2 * h → m * natAbs (shrZ
 unfolding over under
 half-more m h v l e = let f = floored m (plus (atom v) (whole h)) (omega arith) in go (shrZ (v +ℤ pos h) m) (f .0) (f .1)
   where
-    go : (r : ℤ) → m * over r + (under v + 0) ≤ over v + h + m * under r → over v + h + m * under r < m * over r + (under v + 0) + m → m * natAbs r ≤ natAbs v + h
+    go : (r : ℤ) → m * over r + (under v + 0) ≤ over v + h + m * under r → over v + h + m * under r < m * over r + (under v + 0) + m →
+        m * natAbs r ≤ natAbs v + h
     go (pos n) a b = omega (arith, parts-abs v)
     go (negsuc n) a b = omega (arith, parts-abs v)
 
@@ -78,7 +78,7 @@ module _ (e : ℕ) (v : ℤ) (low : 6 ≤ e) (high : e ≤ 15) where
 
 module _ (q : List ℕ) (xs : List ℤ) (good : QuantGood q) (all : (k : ℕ) → Near 24356 (at xs k)) where
   -- what is rounded, by its places
-  pub rounds : List ℤ
+  rounds : List ℤ
   rounds = tab 4096 (roundAt q (at xs))
 
   front-is : (k : ℕ) → k < 4032 → at (roundedBy q xs) k ≡ roundAt q (at xs) k
@@ -98,12 +98,14 @@ module _ (q : List ℕ) (xs : List ℤ) (good : QuantGood q) (all : (k : ℕ) �
   unfolding sumsOf
   sums-are i h = sum-cong (ll3 (roundedBy q xs)) (diffAt (ll3 rounds)) (i + 1) (λ k l. last-is k (omega arith)) ∙ (sum-diff (ll3 rounds) i ∙ ll3-is i h)
 
+  small : (k M K : ℕ) → M < 16 * (2 * K + 1) → Near M (at xs k) → Near K (roundAt q (at xs) k)
+  small k M K = round-small (quantAt q k) (at xs k) (quant-low q k good) (quant-high q k good) M K
+
   in-limit : (k : ℕ) → Near (limitAt q k) (roundAt q (at xs) k)
   in-limit k = round-limit (quantAt q k) (at xs k) (quant-low q k good) (quant-high q k good) (all k)
 
   ll3-small : (i : ℕ) → i < 64 → Near 768 (ll3 rounds i)
-  ll3-small i h = subst (Near 768) (sym (ll3-is i h))
-      (round-small (quantAt q (4032 + i)) (at xs (4032 + i)) (quant-low q (4032 + i) good) (quant-high q (4032 + i) good) 24356 768 (omega arith) (all (4032 + i)))
+  ll3-small i h = subst (Near 768) (sym (ll3-is i h)) (small (4032 + i) 24356 768 (omega arith) (all (4032 + i)))
 
   diff-small : (i : ℕ) → i < 64 → Near 1536 (diffAt (ll3 rounds) i)
   unfolding diffAt
@@ -114,8 +116,7 @@ module _ (q : List ℕ) (xs : List ℤ) (good : QuantGood q) (all : (k : ℕ) �
   last-small i h = subst (Near 1536) (sym (last-is i h)) (diff-small i h)
 
   pub front-small : (k : ℕ) → k < 4032 → Near 16237 (at xs k) → Near 512 (at (roundedBy q xs) k)
-  front-small k h p = subst (Near 512) (sym (front-is k h))
-      (round-small (quantAt q k) (at xs k) (quant-low q k good) (quant-high q k good) 16237 512 (omega arith) p)
+  front-small k h p = subst (Near 512) (sym (front-is k h)) (small k 16237 512 (omega arith) p)
 
   last-quant : (i : ℕ) → i < 64 → quantAt q (4032 + i) ≡ quantAt q 4032
   unfolding bandAt bands firstBand _⇒_∣_

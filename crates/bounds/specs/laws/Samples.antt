@@ -1,12 +1,11 @@
 -- The samples of a pixel are within 4,096, and so are all of a tile.
 -- Assumes nothing.
-use mathlib.Core.Path.{_≡_, refl, sym, _∙_, subst}
 use mathlib.Core.Bool.{Bool, true, false}
 use mathlib.Core.List.{List}
-use Prim.Native.Nat.{ℕ, _+_, _*_, _≤_, _<_}
+use Prim.Native.Nat.{ℕ, _<_}
 use native.Mathlib.Omega.{arith}
 use lib.Dec.{eqb}
-use lib.IntN.{ℤ, pos, negℤ, _+ℤ_, _-ℤ_, _*ℤ_}
+use lib.IntN.{pos, negℤ, _+ℤ_, _-ℤ_, _*ℤ_}
 use Rattle.whole.specs.Row.{_⇒_∣_}
 use Rattle.whole.specs.laws.Near.{Near}
 use Rattle.whole.specs.Tab.{tab}
@@ -14,7 +13,7 @@ use Rattle.whole.specs.laws.Tab.{AllNear, tab-near}
 use Rattle.bits.specs.laws.Bytes.{Bytes}
 use Rattle.colour.specs.Colour.{lumaZ, cbZ, crZ, lumaOf, cbOf, crOf, cut11}
 use Rattle.tile_forth.specs.TileForth.{componentOf, bytesAt, sampleAt}
-use Rattle.bounds.specs.laws.Gap.{Gap, whole, less, atom, plus, minus, times, floored, bounded}
+use Rattle.bounds.specs.laws.Gap.{whole, less, atom, plus, minus, times, floored, bounded}
 
 module _ (r g b : ℕ) (hr : r < 256) (hg : g < 256) (hb : b < 256) where
   luma-size : Near 4096 (lumaOf r g b)

@@ -1,19 +1,19 @@
 -- Two levels of the low half taken together, and so LL2. One level makes a line half as big again, which three times over is more than 9 allows; but
 -- two of them, without their floors, have the weights 1 2 8 2 7 16 32 16 7 2 8 2 1 over 64: 104, where twice one level would be 144.
 -- Assumes nothing.
-use mathlib.Core.Path.{_≡_, refl, sym, _∙_, ap, subst}
-use Prim.Native.Nat.{ℕ, zero, suc, _+_, _*_, _-_, _≤_, _<_, min}
+use mathlib.Core.Path.{_≡_, refl, sym, ap, subst}
+use Prim.Native.Nat.{ℕ, zero, suc, _+_, _*_, _-_, _≤_, _<_}
 use native.Mathlib.Decide.{ℕ-discrete}
 use native.Mathlib.Omega.{arith}
-use lib.IntN.{ℤ, pos, natAbs, _-ℤ_, _*ℤ_}
+use lib.IntN.{ℤ, pos, _-ℤ_, _*ℤ_}
 use Rattle.whole.specs.laws.Near.{Near, near-*}
 use Rattle.wave_forth.specs.Halves.{lowAt}
-use Rattle.bounds.specs.laws.Gap.{over, under, parts-abs, Gap, atom, bounded}
-use Rattle.bounds.specs.laws.Lines.{five, five-gap, five-is, low5, low5-cong, low5-swap, low-line, from-near, step}
+use Rattle.bounds.specs.laws.Gap.{over, under, near-parts, Gap, atom, bounded}
+use Rattle.bounds.specs.laws.Lines.{five, five-gap, five-is, back2, back1, ahead, low5, low5-cong, low5-swap, low-line, from-near, step}
 
 module _ {B : ℕ} (y : ℕ → ℤ) (p : (k : ℕ) → Near B (y k)) where
   within : (k : ℕ) → over (y k) + under (y k) ≤ B
-  within k = omega (arith, parts-abs (y k), p k .near)
+  within k = near-parts (p k)
 
   abbrev row : (a b c d e : ℕ) → Gap (five (y a) (y b) (y c) (y d) (y e))
   row a b c d e = five-gap (atom (y a)) (atom (y b)) (atom (y c)) (atom (y d)) (atom (y e))
@@ -46,7 +46,7 @@ module _ {B : ℕ} (y : ℕ → ℤ) (p : (k : ℕ) → Near B (y k)) where
 -- a line of 4N numbers, twice forth
 module _ {B : ℕ} (N : ℕ) (x : ℕ → ℤ) (p : (k : ℕ) → Near B (x k)) (big : 2 < N) where
   -- one of the five numbers that the second level looks at: where its own five stand
-  at-places : (m a b c d e : ℕ) → a ≡ 2 * m - 2 + (2 - 2 * m) → b ≡ 2 * m - 1 + (1 - 2 * m) → c ≡ 2 * m → d ≡ 2 * m + 1 → e ≡ 2 * min (m + 1) (2 * N - 1) →
+  at-places : (m a b c d e : ℕ) → a ≡ back2 m → b ≡ back1 m → c ≡ 2 * m → d ≡ 2 * m + 1 → e ≡ ahead (2 * N) m →
       five (x a) (x b) (x c) (x d) (x e) ≡ low5 (2 * N) x m
   unfolding low5
   at-places m a b c d e q r s t u = five-is (ap x q) (ap x r) (ap x s) (ap x t) (ap x u)
@@ -56,7 +56,7 @@ module _ {B : ℕ} (N : ℕ) (x : ℕ → ℤ) (p : (k : ℕ) → Near B (x k)) 
   one =
       subst (Near (104 * B)) (five-is (at-places 2 2 3 4 5 6 refl refl refl refl (omega arith)) (at-places 1 0 1 2 3 4 refl refl refl refl (omega arith))
       (at-places 0 2 1 0 1 2 refl refl refl refl (omega arith)) (at-places 1 0 1 2 3 4 refl refl refl refl (omega arith))
-      (at-places (2 * min 1 (N - 1)) 2 3 4 5 6 (omega arith) (omega arith) (omega arith) (omega arith) (omega arith))) (first x p)
+      (at-places (ahead N 0) 2 3 4 5 6 (omega arith) (omega arith) (omega arith) (omega arith) (omega arith))) (first x p)
 
   -- where the number stands that is j - 6 from the middle
   abbrev spot : ℕ → ℕ → ℕ
@@ -64,27 +64,35 @@ module _ {B : ℕ} (N : ℕ) (x : ℕ → ℤ) (p : (k : ℕ) → Near B (x k)) 
 
   spots : (n m j : ℕ) → 2 * m + 4 ≡ 4 * n + j → m + 1 < 2 * N →
       five (x (spot n j)) (x (spot n (j + 1))) (x (spot n (j + 2))) (x (spot n (j + 3))) (x (spot n (j + 4))) ≡ low5 (2 * N) x m
-  spots n m j e l = at-places m (spot n j) (spot n (j + 1)) (spot n (j + 2)) (spot n (j + 3)) (spot n (j + 4)) (omega arith) (omega arith) (omega arith) (omega arith) (omega arith)
+  spots n m j e l =
+      at-places m (spot n j) (spot n (j + 1)) (spot n (j + 2)) (spot n (j + 3)) (spot n (j + 4))
+      (omega arith) (omega arith) (omega arith) (omega arith) (omega arith)
 
   some : (n : ℕ) → 0 < n → n + 1 < N → Near (104 * B) (low5 N (low5 (2 * N) x) n)
   unfolding low5
   some n l h =
-      subst (Near (104 * B)) (five-is (spots n (2 * n - 2 + (2 - 2 * n)) 0 (omega arith) (omega arith)) (spots n (2 * n - 1 + (1 - 2 * n)) 2 (omega arith) (omega arith))
-      (spots n (2 * n) 4 (omega arith) (omega arith)) (spots n (2 * n + 1) 6 (omega arith) (omega arith)) (spots n (2 * min (n + 1) (N - 1)) 8 (omega arith) (omega arith)))
+      subst (Near (104 * B)) (five-is (spots n (back2 n) 0 (omega arith) (omega arith)) (spots n (back1 n) 2 (omega arith) (omega arith))
+      (spots n (2 * n) 4 (omega arith) (omega arith)) (spots n (2 * n + 1) 6 (omega arith) (omega arith)) (spots n (ahead N n) 8 (omega arith) (omega arith)))
       (middle (λ j. x (spot n j)) (λ j. p (spot n j)))
 
-  -- from the end
-  ends : (m j : ℕ) → 2 * m + 8 ≡ 4 * N + j → m + 1 < 2 * N →
-      five (x (4 * N + j - 10)) (x (4 * N + (j + 1) - 10)) (x (4 * N + (j + 2) - 10)) (x (4 * N + (j + 3) - 10)) (x (4 * N + (j + 4) - 10)) ≡ low5 (2 * N) x m
-  ends m j e l = at-places m (4 * N + j - 10) (4 * N + (j + 1) - 10) (4 * N + (j + 2) - 10) (4 * N + (j + 3) - 10) (4 * N + (j + 4) - 10) (omega arith) (omega arith) (omega arith) (omega arith) (omega arith)
+  -- and the one that stands 10 - j before the end
+  abbrev late : ℕ → ℕ
+  late j = 4 * N + j - 10
+
+  lates : (m j : ℕ) → 2 * m + 8 ≡ 4 * N + j → m + 1 < 2 * N →
+      five (x (late j)) (x (late (j + 1))) (x (late (j + 2))) (x (late (j + 3))) (x (late (j + 4))) ≡ low5 (2 * N) x m
+  lates m j e l =
+      at-places m (late j) (late (j + 1)) (late (j + 2)) (late (j + 3)) (late (j + 4))
+      (omega arith) (omega arith) (omega arith) (omega arith) (omega arith)
 
   end : (n : ℕ) → n + 1 ≡ N → Near (104 * B) (low5 N (low5 (2 * N) x) n)
   unfolding low5
   end n h =
-      subst (Near (104 * B)) (five-is (ends (2 * n - 2 + (2 - 2 * n)) 0 (omega arith) (omega arith)) (ends (2 * n - 1 + (1 - 2 * n)) 2 (omega arith) (omega arith))
-      (ends (2 * n) 4 (omega arith) (omega arith)) (at-places (2 * n + 1) (4 * N + 6 - 10) (4 * N + 7 - 10) (4 * N + 8 - 10) (4 * N + 9 - 10) (4 * N + 8 - 10) (omega arith) (omega arith) (omega arith) (omega arith) (omega arith))
-      (ends (2 * min (n + 1) (N - 1)) 4 (omega arith) (omega arith)))
-      (last (λ j. x (4 * N + j - 10)) (λ j. p (4 * N + j - 10)))
+      subst (Near (104 * B)) (five-is (lates (back2 n) 0 (omega arith) (omega arith)) (lates (back1 n) 2 (omega arith) (omega arith))
+      (lates (2 * n) 4 (omega arith) (omega arith))
+      (at-places (2 * n + 1) (late 6) (late 7) (late 8) (late 9) (late 8) (omega arith) (omega arith) (omega arith) (omega arith) (omega arith))
+      (lates (ahead N n) 4 (omega arith) (omega arith)))
+      (last (λ j. x (late j)) (λ j. p (late j)))
 
   pub twice : (n : ℕ) → n < N → Near (104 * B) (low5 N (low5 (2 * N) x) n)
   twice zero l = one
