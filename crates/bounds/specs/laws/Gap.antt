@@ -69,8 +69,8 @@ atom z = record { up = over z; down = under z; is = omega arith }
 abbrev pub whole : (n : ℕ) → Gap (pos n)
 whole n = record { up = n; down = 0; is = pos-parts n }
 
-abbrev pub less : {x : ℤ} (p : Gap x) → Gap (negℤ x)
-less {x} p = record { up = p .down; down = p .up; is = omega (arith, neg-parts x .0, neg-parts x .1, p .is) }
+abbrev pub negated : {x : ℤ} (p : Gap x) → Gap (negℤ x)
+negated {x} p = record { up = p .down; down = p .up; is = omega (arith, neg-parts x .0, neg-parts x .1, p .is) }
 
 abbrev pub plus : {x y : ℤ} (p : Gap x) (q : Gap y) → Gap (x +ℤ y)
 plus {x} {y} p q = record { up = p .up + q .up; down = p .down + q .down; is = omega (arith, add-parts x y, p .is, q .is) }
@@ -113,9 +113,9 @@ bounded {K} {z} g h l = go z (g .is)
     go (pos n) e = record { near = omega arith }
     go (negsuc n) e = record { near = omega arith }
 
-pub same : {x y : ℤ} (p : Gap x) (q : Gap y) → p .up + q .down ≡ q .up + p .down → x ≡ y
+pub equal : {x y : ℤ} (p : Gap x) (q : Gap y) → p .up + q .down ≡ q .up + p .down → x ≡ y
 unfolding over under
-same {x} {y} p q e = go x y (p .is) (q .is)
+equal {x} {y} p q e = go x y (p .is) (q .is)
   where
     go : (x y : ℤ) → over x + p .down ≡ under x + p .up → over y + q .down ≡ under y + q .up → x ≡ y
     go (pos a) (pos b) u v = ap pos (omega arith)

@@ -176,13 +176,13 @@ module _ (f : ℕ) (two : Bool) (kp krp : ℕ) (l : List ℕ) (some : 0 < length
   a1 : ℕ
   a1 = getD l 1 0
 
-  run-few : zerosOf l < length l → grLen (krp / 8) ((value - 1) / 2) ≤ 1547
+  run-most : zerosOf l < length l → grLen (krp / 8) ((value - 1) / 2) ≤ 1547
   unfolding value
-  run-few h = omega (arith, gr-crude krp ((value - 1) / 2) hr, b (zerosOf l) (omega arith))
+  run-most h = omega (arith, gr-crude krp ((value - 1) / 2) hr, b (zerosOf l) (omega arith))
 
-  pair-few : (M : ℕ) → a0 ≤ M → M ≤ 3072 → grLen (krp / 8) (a0 + a1) + size (a0 + a1) ≤ M + 24 + 3072 * min (length l - 1) 1
+  pair-most : (M : ℕ) → a0 ≤ M → M ≤ 3072 → grLen (krp / 8) (a0 + a1) + size (a0 + a1) ≤ M + 24 + 3072 * min (length l - 1) 1
   unfolding a0 a1
-  pair-few M h k = by (decLt 1 (length l))
+  pair-most M h k = by (decLt 1 (length l))
     where
       by : Dec (1 < length l) → grLen (krp / 8) (a0 + a1) + size (a0 + a1) ≤ M + 24 + 3072 * min (length l - 1) 1
       by (yes d) = let e = b 1 (omega arith) in omega (arith, gr-crude krp (a0 + a1) hr, e, size-fit (a0 + a1) 13 (omega arith))
@@ -195,9 +195,9 @@ module _ (f : ℕ) (two : Bool) (kp krp : ℕ) (l : List ℕ) (some : 0 < length
       let m : ℕ → ℕ → ℕ = λ krp u. alone (n - u) in
       item-fits f two kp krp l some (alone n) (item-is two kp l (Fits f two kp krp l some (alone n))
       (full-fits f two kp krp l some (alone n) hp hr m rest (λ u h. omega arith))
-      (λ h. run-fits f two kp krp l some (alone n) hp hr m rest (zerosOf l) value (omega (arith, run-few h)))
+      (λ h. run-fits f two kp krp l some (alone n) hp hr m rest (zerosOf l) value (omega (arith, run-most h)))
       (single-fits f two kp krp l some (alone n) hp hr m rest a0 (omega (arith, gr-crude krp a0 hr, b 0 (omega arith))))
-      (twin-fits f two kp krp l some (alone n) hp hr m rest a0 a1 (omega (arith, pair-few 3072 (b 0 (omega arith)) (omega arith)))))
+      (twin-fits f two kp krp l some (alone n) hp hr m rest a0 a1 (omega (arith, pair-most 3072 (b 0 (omega arith)) (omega arith)))))
 
   -- with some places before the last 64: what the first place can be, and what is left in krp's store
   module _ (more : 64 < length l) (c : Below 1024 64 l) (back : Rest f two l (λ krp u. alone (length l - u)))
@@ -225,7 +225,7 @@ module _ (f : ℕ) (two : Bool) (kp krp : ℕ) (l : List ℕ) (some : 0 < length
             omega (arith, gr-paid krp ((value - 1) / 2) hr (omega arith), shared-more (length l) (suc (zerosOf l)) more (omega arith))
         run h (no d) =
             let e = shared-end (length l) (suc (zerosOf l)) more (omega arith) in
-            omega (arith, e .0, e .1, run-few h, store-most (krAfter krp ((value - 1) / 2)))
+            omega (arith, e .0, e .1, run-most h, store-most (krAfter krp ((value - 1) / 2)))
 
         pair : Dec (65 < length l) → Fits f two kp krp l some (shared (length l) + store krp) (Twin a0 a1)
         pair (yes d) =
@@ -235,7 +235,7 @@ module _ (f : ℕ) (two : Bool) (kp krp : ℕ) (l : List ℕ) (some : 0 < length
             (omega (arith, gr-paid krp (a0 + a1) hr (omega arith), size-fit (a0 + a1) 12 (omega arith), shared-more (length l) 2 more (omega arith)))
         pair (no d) =
             twin-fits f two kp krp l some (shared (length l) + store krp) hp hr (λ krp u. alone (length l - u)) back a0 a1
-            (omega (arith, pair-few 1024 (c 0 (omega arith)) (omega arith), shared-end (length l) 2 more (omega arith) .1))
+            (omega (arith, pair-most 1024 (c 0 (omega arith)) (omega arith), shared-end (length l) 2 more (omega arith) .1))
 
 all-alone : (f : ℕ) (two : Bool) (kp krp : ℕ) (l : List ℕ) → kp ≤ 80 → krp ≤ 80 → Below 3072 0 l → length (codeF f two kp krp l) ≤ alone (length l)
 unfolding codeF
@@ -259,9 +259,9 @@ all-shared (suc f) two kp krp l hp hr b c =
         (all-alone f two kp krp (drop u l) hp hr (below-drop 3072 0 u l b))) rest
 
 -- 4,096 places
-pub code-few : (two : Bool) (l : List ℕ) → length l ≡ 4096 → Below 3072 0 l → Below 1024 64 l → length (codeOf two l) ≤ 519712
+pub code-most : (two : Bool) (l : List ℕ) → length l ≡ 4096 → Below 3072 0 l → Below 1024 64 l → length (codeOf two l) ≤ 519712
 unfolding codeOf
-code-few two l n b c =
+code-most two l n b c =
     omega (arith, all-shared (length l) two 8 8 l (omega arith) (omega arith) b c, shared-many (length l) (omega arith), store-most 8)
 
 -- ---- the bytes of a component
@@ -289,5 +289,5 @@ module _ (mode : ℕ) (zs : List ℤ) (len : length zs ≡ 4096) (front : (k : �
   pub no-six : length (bytesOf mode zs) ≤ 64964
   no-six =
       let n = length-map zs foldZ in
-      let c = code-few (eqb mode 4) (map foldZ zs) (n ∙ len) (λ i h. folded i (decLt i 4032) (omega arith)) (λ i h. front-folded i (omega arith)) in
+      let c = code-most (eqb mode 4) (map foldZ zs) (n ∙ len) (λ i h. folded i (decLt i 4032) (omega arith)) (λ i h. front-folded i (omega arith)) in
       omega (arith, c, bytes-length mode zs)

@@ -50,51 +50,51 @@ module _ (p : List ℕ) (w h mode : ℕ) (q : List ℕ) (bytes : Bytes p) (good 
     unfolding samples
     near = samples-near p w h tx ty c bytes
 
-    pub part-few : length (bytesOf mode (roundedOf p w h q tx ty c)) ≤ 64964
+    pub part-most : length (bytesOf mode (roundedOf p w h q tx ty c)) ≤ 64964
     unfolding roundedOf samples
-    part-few =
+    part-most =
         let xs = tileForth samples in
         let n = all-near samples near .all in
         no-six mode (roundedBy q xs) (rounded-length q xs) (λ k i. front-small q xs good n k i (front-near samples near k i)) (last-small q xs good n)
 
-    pub part-none : 0 ≡ partRefusal mode q (roundedOf p w h q tx ty c)
+    pub part-taken : 0 ≡ partRefusal mode q (roundedOf p w h q tx ty c)
     unfolding partRefusal roundedOf samples
-    part-none =
+    part-taken =
         let zs = roundedBy q (tileForth samples) in
-        let few : length (bytesOf mode zs) ≤ 65535 = omega (arith, part-few) in
+        let few : length (bytesOf mode zs) ≤ 65535 = omega (arith, part-most) in
         goes-on _ _ _ (sym (no-nine q (tileForth samples) good (all-near samples near .all)))
         (passes _ _ _ _ (le-leb (length (bytesOf mode zs)) 65535 few) refl)
 
-  pub tile-none : (k : ℕ) → 0 ≡ tileRefusal p w h mode q k
+  pub tile-taken : (k : ℕ) → 0 ≡ tileRefusal p w h mode q k
   unfolding tileRefusal listOf
-  tile-none k = goes-on _ _ _ (sym (part-none _ _ 0)) (goes-on _ _ _ (sym (part-none _ _ 1)) (part-none _ _ 2))
+  tile-taken k = goes-on _ _ _ (sym (part-taken _ _ 0)) (goes-on _ _ _ (sym (part-taken _ _ 1)) (part-taken _ _ 2))
 
   pub none-refused : (n i : ℕ) → 0 ≡ refusals p w h mode q n i
   unfolding refusals
   none-refused zero i = refl
-  none-refused (suc n) i = goes-on _ _ _ (sym (tile-none i)) (none-refused n (i + 1))
+  none-refused (suc n) i = goes-on _ _ _ (sym (tile-taken i)) (none-refused n (i + 1))
 
   -- ---- and a tile has at most 194,911 bytes
 
-  tile-few : (k : ℕ) → tileLen (tileP p w h mode q k) ≤ 194911
+  tile-most : (k : ℕ) → tileLen (tileP p w h mode q k) ≤ 194911
   unfolding partOf listOf
-  tile-few k =
+  tile-most k =
       let x = k % colsOf w in
       let y = k / colsOf w in
-      omega (arith, tile-long p w h mode q k, part-few x y 0, part-few x y 1, part-few x y 2)
+      omega (arith, tile-long p w h mode q k, part-most x y 0, part-most x y 1, part-most x y 2)
 
-  tiles-few : (n i : ℕ) → length (tilesOf (tileP p w h mode q) n i) ≤ 194911 * n
+  tiles-most : (n i : ℕ) → length (tilesOf (tileP p w h mode q) n i) ≤ 194911 * n
   unfolding tilesOf
-  tiles-few zero i = omega arith
-  tiles-few (suc n) i =
+  tiles-most zero i = omega arith
+  tiles-most (suc n) i =
       let t = tileP p w h mode q in
-      omega (arith, length-append (tileOf (t i)) (tilesOf t n (i + 1)), tile-length (t i), tile-few i, tiles-few n (i + 1))
+      omega (arith, length-append (tileOf (t i)) (tilesOf t n (i + 1)), tile-length (t i), tile-most i, tiles-most n (i + 1))
 
-  pub frame-few : (index : ℕ) → length (frameP index w h mode q p) ≤ 72 + 194911 * tilesNo w h
+  pub frame-most : (index : ℕ) → length (frameP index w h mode q p) ≤ 72 + 194911 * tilesNo w h
   unfolding frameP
-  frame-few index =
+  frame-most index =
       let t = tileP p w h mode q in
-      omega (arith, frame-long index w h mode q (tilesNo w h) t, tiles-few (tilesNo w h) 0)
+      omega (arith, frame-long index w h mode q (tilesNo w h) t, tiles-most (tilesNo w h) 0)
 
 -- ---- the call
 
@@ -118,7 +118,7 @@ module _ {w h mode : ℕ} {q : List ℕ} {index : ℕ} {p : List ℕ} {list list
       by zero e = sym (goes-on _ _ _ (sym (none-refused p w h mode q bytes (quants e) (tilesNo w h) 0)) refl)
       by (suc f) e = refl
 
-  -- "5, 7, 2, 13": no other number
+  -- 5, 7, 2 or 13, and no other
   pub writer-refuses : Among (0 ∷ 5 ∷ 7 ∷ 2 ∷ 13 ∷ []) (writingNumber r)
   unfolding each among
   writer-refuses = rw only-room (among-then _ _ (among-all _ (arg-among w h mode q (length p) (length list) (length scratch)) refl) (search numbers))
@@ -126,5 +126,5 @@ module _ {w h mode : ℕ} {q : List ℕ} {index : ℕ} {p : List ℕ} {list list
   -- given good arguments and this much room, every picture is written
   pub writer-done : 0 ≡ arguments → 72 + 194911 * tilesNo w h ≤ length out → writingNumber r ≡ 0
   writer-done e l =
-      let f : length (frameP index w h mode q p) ≤ length out = omega (arith, frame-few p w h mode q bytes (quants e) index) in
+      let f : length (frameP index w h mode q p) ≤ length out = omega (arith, frame-most p w h mode q bytes (quants e) index) in
       only-room ∙ sym (goes-on _ _ _ (sym e) (passes _ _ _ _ (le-leb (length (frameP index w h mode q p)) (length out) f) refl))

@@ -27,9 +27,9 @@ use Rattle.bounds.specs.laws.Gap.{over, under, parts-abs, atom, whole, p
 -- ---- one value
 
 -- a rounded value, times what it was divided by, is at most half of that further out
-half-more : (m h : ℕ) (v : ℤ) → 0 < h → m ≡ 2 * h → m * natAbs (shrZ (v +ℤ pos h) m) ≤ natAbs v + h
+half-out : (m h : ℕ) (v : ℤ) → 0 < h → m ≡ 2 * h → m * natAbs (shrZ (v +ℤ pos h) m) ≤ natAbs v + h
 unfolding over under
-half-more m h v l e = let f = floored m (plus (atom v) (whole h)) (omega arith) in go (shrZ (v +ℤ pos h) m) (f .0) (f .1)
+half-out m h v l e = let f = floored m (plus (atom v) (whole h)) (omega arith) in go (shrZ (v +ℤ pos h) m) (f .0) (f .1)
   where
     go : (r : ℤ) → m * over r + (under v + 0) ≤ over v + h + m * under r → over v + h + m * under r < m * over r + (under v + 0) + m →
         m * natAbs r ≤ natAbs v + h
@@ -48,13 +48,13 @@ module _ (e : ℕ) (v : ℤ) (low : 6 ≤ e) (high : e ≤ 15) where
   unfolding half
   half-high = pow-mono {i = e - 2} {j = 13} (omega arith)
 
-  twice : 2 ^ (e - 1) ≡ 2 * half
+  double : 2 ^ (e - 1) ≡ 2 * half
   unfolding half
-  twice = let s : e - 1 ≡ suc (e - 2) = omega arith in ap (λ (n : ℕ). 2 ^ n) s ∙ pow-suc 2 (e - 2) ∙ omega arith
+  double = let s : e - 1 ≡ suc (e - 2) = omega arith in ap (λ (n : ℕ). 2 ^ n) s ∙ pow-suc 2 (e - 2) ∙ omega arith
 
   rounded-size : 2 ^ (e - 1) * natAbs (roundZ e v) ≤ natAbs v + half
   unfolding half
-  rounded-size = half-more (2 ^ (e - 1)) half v (omega (arith, half-low)) twice
+  rounded-size = half-out (2 ^ (e - 1)) half v (omega (arith, half-low)) double
 
   -- scaled again it is in range
   round-limit : Near 24356 v → Near (limitOf e) (roundZ e v)
@@ -69,7 +69,7 @@ module _ (e : ℕ) (v : ℤ) (low : 6 ≤ e) (high : e ≤ 15) where
       by : (r : ℕ) → Dec (K < r) → 2 ^ (e - 1) * r ≤ natAbs v + half → r ≤ K
       by r (no h) s = omega arith
       by r (yes h) s =
-          let t : 2 * half * r ≤ natAbs v + half = subst (λ (m : ℕ). m * r ≤ natAbs v + half) twice s in
+          let t : 2 * half * r ≤ natAbs v + half = subst (λ (m : ℕ). m * r ≤ natAbs v + half) double s in
           let a : (2 * K + 1) * 16 ≤ (2 * K + 1) * half = mul-le-mul-left (2 * K + 1) half-low in
           let b : (K + 1) * half ≤ r * half = mul-le-mul-right half (omega arith) in
           absurd (omega (arith, t, a, b, p .near))

@@ -13,7 +13,7 @@ use Rattle.whole.specs.laws.Tab.{AllNear, tab-near}
 use Rattle.bits.specs.laws.Bytes.{Bytes}
 use Rattle.colour.specs.Colour.{lumaZ, cbZ, crZ, lumaOf, cbOf, crOf, cut11}
 use Rattle.tile_forth.specs.TileForth.{componentOf, bytesAt, sampleAt}
-use Rattle.bounds.specs.laws.Gap.{whole, less, atom, plus, minus, times, floored, bounded}
+use Rattle.bounds.specs.laws.Gap.{whole, negated, atom, plus, minus, times, floored, bounded}
 
 module _ (r g b : ℕ) (hr : r < 256) (hg : g < 256) (hb : b < 256) where
   luma-size : Near 4096 (lumaOf r g b)
@@ -27,7 +27,7 @@ module _ (r g b : ℕ) (hr : r < 256) (hg : g < 256) (hb : b < 256) where
   unfolding cbZ
   cb-size =
       let s = negℤ (pos 11071) *ℤ pos r -ℤ pos 21736 *ℤ pos g +ℤ pos 32807 *ℤ pos b in
-      let f = floored {x = s} 2048 (plus (minus (less (times 11071 (whole r))) (times 21736 (whole g))) (times 32807 (whole b))) (omega arith) in
+      let f = floored {x = s} 2048 (plus (minus (negated (times 11071 (whole r))) (times 21736 (whole g))) (times 32807 (whole b))) (omega arith) in
       bounded (atom (cut11 s)) (omega (arith, f .0, f .1)) (omega (arith, f .0, f .1))
 
   cr-size : Near 4096 (crOf r g b)
