@@ -338,7 +338,7 @@ pub const fn frame_room(width: usize, height: usize) -> usize {
 ///
 /// `pixels` are three bytes a pixel, R, G, B, row by row; `index` goes into the frame as it is; `list` and `scratch` are work lists of 4,096
 /// numbers. Judged in this order: size (`Field`), quantisers (`Quant`), lengths (`Buffer`), then component by component `Range` and `TooBig`,
-/// then `Room`. Refused, `out` is untouched; done, so are the bytes past the length. The work lists are untouched on `Field`, `Quant` and
+/// then `Room`. No picture leads to `Range` or `TooBig`; that is proved. Refused, `out` is untouched; done, so are the bytes past the length. The work lists are untouched on `Field`, `Quant` and
 /// `Buffer`, and hold only zeros after every other answer.
 ///
 /// ```
