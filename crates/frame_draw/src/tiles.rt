@@ -68,24 +68,20 @@ fn show_tile(
     crs: &mut [i32],
     tmp: &mut [i32],
 )
-    requires { ⌜ Lists (now ys) (now cbs) (now crs) (now tmp) × SetSound (now m) sp × TileSound (inSet mode (now m) sp) (quantCount (now m) sp) (now d) at × (h * w ≤ length (now picture)) × (8 * nr ≤ length (now rects)) ⌝ }
+    requires { ⌜ Lists (now ys) (now cbs) (now crs) (now tmp) × SetSound (now m) sp × TileSound (inSet mode (now m) sp) (quantCount (now m) sp) (now d) at × (h * w ≤ length (now picture)) × (8 * nr ≤ length (now rects)) × (nr ≤ 256) ⌝ }
     ensures { λ _. ⌜ now (picture .exit) ≡ tileDrawn (now (rects .entry)) nr (tileWord mode (quantAt (now (m .entry)) sp) (tileAt (now (d .entry)) at)) w h (tileAt (now (d .entry)) at .x) (tileAt (now (d .entry)) at .y) (now (picture .entry)) ⌝ }
 {
     tile_samples(mode, m, sp, d, at, ys, cbs, crs, tmp);
     let tx = wire::le16_at(d, at + 9);
     let ty = wire::le16_at(d, at + 11);
-    crate::paint::paint_tile(
-        picture,
+    let s = crate::paint::Spot {
         w,
         h,
         tx,
         ty,
-        &ys[..],
-        &cbs[..],
-        &crs[..],
-        rects,
-        nr,
-    );
+        n: nr,
+    };
+    crate::paint::paint_tile(picture, s, &ys[..], &cbs[..], &crs[..], rects, tmp);
 }
 
 // n tiles, in message order.
@@ -105,7 +101,7 @@ fn show_tiles(
     crs: &mut [i32],
     tmp: &mut [i32],
 )
-    requires { ⌜ Lists (now ys) (now cbs) (now crs) (now tmp) × SetSound (now m) sp × (0 ≡ tilesFault (inSet mode (now m) sp) w h (quantCount (now m) sp) (now d) n 0) × (h * w ≤ length (now picture)) × (8 * nr ≤ length (now rects)) ⌝ }
+    requires { ⌜ Lists (now ys) (now cbs) (now crs) (now tmp) × SetSound (now m) sp × (0 ≡ tilesFault (inSet mode (now m) sp) w h (quantCount (now m) sp) (now d) n 0) × (h * w ≤ length (now picture)) × (8 * nr ≤ length (now rects)) × (nr ≤ 256) ⌝ }
     ensures { λ _. ⌜ now (picture .exit) ≡ tilesDrawn (now (rects .entry)) nr (tileWord mode (quantAt (now (m .entry)) sp)) w h (tilesIn (now (d .entry)) n 0) (now (picture .entry)) ⌝ }
 {
     let mut at = 0;

@@ -31,7 +31,19 @@ tile-data-requires c κs = search needs
 
 show-tiles-requires : tie.Need-show-tiles-requires
 unfolding tileCount rectCount
-show-tiles-requires c κs = (c .before .before .before .before .before .before .before .before .before .before .before .pre .0, c .before .before .before .before .before .before .before .before .before .before .before .pre .2, rw (c .before .before .before .before .before .tile-data .ensures, c .before .before .before .before .before .before .le16-at2 .ensures .0) (c .before .before .before .before .before .before .before .before .before .before .before .pre .3), c .before .before .before .before .before .before .before .before .before .before .before .pre .4, omega (arith, rects-length (now (c .before .before .before .before .before .before .before .before .before .before .before .args .m)) 14 (c .before .before .before .before .before .before .before .before .before .before .before .pre .1), ap length (c .before .before .before .before .before .before .before .rects .ensures), c .before .before .before .before .before .before .before .before .le16-at .ensures .0))
+show-tiles-requires c κs =
+    let d = c .before .before .before .before .before in
+    let r = d .before .before in
+    let s = r .before .before .before .before in
+    let count = r .before .le16-at .ensures .0 in
+    let there = rects-length (now (s .args .m)) 14 (s .pre .1) in (
+      s .pre .0,
+      s .pre .2,
+      rw (d .tile-data .ensures, d .before .le16-at2 .ensures .0) (s .pre .3),
+      s .pre .4,
+      omega (arith, there, ap length (r .rects .ensures), count),
+      omega (arith, count, s .pre .1 .count),
+    )
 
 same-length : tie.Need-same-length
 same-length c = search needs
@@ -50,7 +62,11 @@ same-length-5 c = search needs
 
 returns : tie.Need-returns
 unfolding tileCount rectCount
-returns c = c .before .before .before .before .before .before .show-tiles .ensures ∙ rw (c .before .before .before .before .before .before .before .before .before .before .before .before .before .before .rects .ensures, c .before .before .before .before .before .before .before .before .before .before .before .before .before .before .before .le16-at .ensures .0, c .before .before .before .before .before .before .before .before .before .before .before .before .tile-data .ensures, c .before .before .before .before .before .before .before .before .before .before .before .before .before .le16-at2 .ensures .0)
+returns c =
+    let d = c .before .before .before .before .before .before .before .before .before .before .before .before in
+    let r = d .before .before in
+    c .before .before .before .before .before .before .show-tiles .ensures
+    ∙ rw (r .rects .ensures, r .before .le16-at .ensures .0, d .tile-data .ensures, d .before .le16-at2 .ensures .0)
 
 pub show-spec : {M : Type 1} → statement M
 show-spec =

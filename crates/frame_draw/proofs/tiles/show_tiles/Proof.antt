@@ -54,7 +54,7 @@ show-tile-requires c κs =
     let l = c .before .before .before .before .before in
     let a = l .before in
     let s = a .before .before .before .before .before in
-    (a .loop .inv .4, s .pre .1, here l .0, omega (arith, s .pre .3, a .loop .inv .3), s .pre .4)
+    (a .loop .inv .4, s .pre .1, here l .0, omega (arith, s .pre .3, a .loop .inv .3), s .pre .4, s .pre .5)
 
 add-le32-at : tie.Need-add-le32-at Inv-loop μ-loop
 add-le32-at c =
