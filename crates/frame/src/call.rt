@@ -120,7 +120,8 @@ fn draw_frame(
     ensures shows { λ _. ⌜ now (picture .exit) ≡ framed mode w h (now (m .entry)) (now (picture .entry)) ⌝ }
 {
     let sp = 14 + wire::le32_at(m, 16);
-    frame_draw::tiles::show(picture, mode, w, h, m, sp, ys, cbs, crs, tmp);
+    let p = frame_draw::tiles::Pass { mode, w, h, sp };
+    frame_draw::tiles::show(picture, p, m, ys, cbs, crs, tmp);
     wire::le16_at(m, sp + 16)
 }
 

@@ -1,4 +1,5 @@
 pub mod Cases
+pub mod Clips
 pub mod Draw
 pub mod Show
 pub mod Shown

@@ -8,7 +8,7 @@ use lib.Dec.{ltb, leb}
 use lib.ListN.{length, getD, set}
 use Rattle.wire.specs.Le.{le16}
 use Rattle.whole.specs.Row.{_!_⨾_, _⇒_∣_}
-use Rattle.frame_draw.specs.declared.row.Span.{Span}
+use Rattle.frame_draw.specs.declared.clip.Span.{Span}
 use Rattle.frame_draw.specs.Draw.{holds, some}
 
 -- every word

@@ -5,13 +5,8 @@ ghost use mathlib.Core.Path.{_≡_};
 ghost use Prim.Native.Nat.{ℕ, _+_, _*_, _-_, _≤_, _<_, min, max};
 ghost use lib.ListN.{length, getD};
 ghost use Rattle.frame_draw.specs.Draw.{inside, holds, stores, rowPlace, rowDrawn};
-ghost use Rattle.frame_draw.specs.Spans.{always, partOf, lastOf, spanIn, spanOf, noted, spanned, Ends, rowFirst, covers, asked};
-
-// A part of a tile's row: the words from one on to before another, none where that is no more.
-struct Span {
-    from: usize,
-    to: usize,
-}
+ghost use Rattle.frame_draw.specs.Clips.{Clips};
+ghost use Rattle.frame_draw.specs.Spans.{always, partOf, lastOf, noted, spanned, Ends, rowFirst, covers, asked};
 
 fn wide(b: u8) -> usize
     ensures { λ r. ⌜ (r ≡ b) × (r < 256) ⌝ }
@@ -19,16 +14,7 @@ fn wide(b: u8) -> usize
     b as usize
 }
 
-// The lesser of two, and the greater.
-fn lesser(a: usize, b: usize) -> usize
-    ensures { λ r. ⌜ r ≡ min a b ⌝ }
-{
-    if a < b {
-        return a;
-    }
-    b
-}
-
+// The greater of two.
 fn greater(a: usize, b: usize) -> usize
     ensures { λ r. ⌜ r ≡ max a b ⌝ }
 {
@@ -38,30 +24,12 @@ fn greater(a: usize, b: usize) -> usize
     a
 }
 
-// One number less another, 0 where that is more.
-fn past(a: usize, b: usize) -> usize
-    ensures { λ r. ⌜ r ≡ a - b ⌝ }
-{
-    if a < b {
-        return 0;
-    }
-    a - b
-}
-
-// So many of a tile's 64 columns (or rows) lie in a channel of width (or height) w.
-fn part_of(w: usize, tx: usize) -> usize
-    requires { ⌜ tx < 65536 ⌝ }
-    ensures { λ r. ⌜ r ≡ partOf w tx ⌝ }
-{
-    lesser(64, past(w, 64 * tx))
-}
-
-// The last of them, counted in the picture.
+// The last of a tile's columns (or rows) in the channel, counted in the picture.
 fn last_of(w: usize, tx: usize) -> usize
     requires { ⌜ tx < 65536 ⌝ }
     ensures { λ r. ⌜ r ≡ lastOf w tx ⌝ }
 {
-    64 * tx + past(part_of(w, tx), 1)
+    64 * tx + crate::clip::past(crate::clip::part_of(w, tx), 1)
 }
 
 // ---- a rectangle
@@ -94,38 +62,10 @@ fn rect_holds(rects: &[u8], px: usize, py: usize, k: usize) -> bool
     is_inside(x, y, w, h, px, py)
 }
 
-// What a rectangle holds of pixel row py: a span of the part that begins at column a.
-fn span_in(x: usize, y: usize, w: usize, h: usize, a: usize, part: usize, py: usize) -> Span
-    requires { ⌜ (x < 65536) × (y < 65536) × (w < 65536) × (h < 65536) ⌝ }
-    ensures { λ r. ⌜ r ≡ spanIn x y w h a part py ⌝ }
-{
-    if py < y {
-        return Span { from: 0, to: 0 };
-    }
-    if y + h <= py {
-        return Span { from: 0, to: 0 };
-    }
-    let from = past(x, a);
-    let to = lesser(part, past(x + w, a));
-    Span { from, to }
-}
-
-// The same of rectangle k of a region.
-fn rect_span(rects: &[u8], a: usize, part: usize, py: usize, k: usize) -> Span
-    requires { ⌜ 8 * k + 8 ≤ length (now rects) ⌝ }
-    ensures { λ r. ⌜ r ≡ spanOf (now (rects .entry)) a part py k ⌝ }
-{
-    let x = wire::le16_at(rects, 8 * k);
-    let y = wire::le16_at(rects, 8 * k + 2);
-    let w = wire::le16_at(rects, 8 * k + 4);
-    let h = wire::le16_at(rects, 8 * k + 6);
-    span_in(x, y, w, h, a, part, py)
-}
-
 // ---- a row
 
 // A span noted: at its first word its end, unless one is noted there that reaches as far.
-fn note(s: Span, ends: &mut [u8])
+fn note(s: crate::clip::Span, ends: &mut [u8])
     requires { ⌜ (length (now ends) ≡ 64) × (s .to ≤ 64) ⌝ }
     ensures { λ _. ⌜ now (ends .exit) ≡ noted s (now (ends .entry)) ⌝ }
 {
@@ -145,7 +85,7 @@ fn put_part(picture: &mut [u16], w: usize, tx: usize, py: usize, row: &[u16])
     requires { ⌜ (py * w + w ≤ length (now picture)) × (length (now row) ≡ 64) × (tx < 65536) ⌝ }
     ensures { λ _. ⌜ now (picture .exit) ≡ stores always (rowPlace w tx py) (λ (x : ℕ). getD (now (row .entry)) x 0) (partOf w tx) 0 (now (picture .entry)) ⌝ }
 {
-    let part = part_of(w, tx);
+    let part = crate::clip::part_of(w, tx);
     let mut x = 0;
     while x < part {
         picture[py * w + (64 * tx + x)] = row[x];
@@ -158,7 +98,7 @@ fn put_spans(picture: &mut [u16], w: usize, tx: usize, py: usize, row: &[u16], e
     requires { ⌜ (py * w + w ≤ length (now picture)) × (length (now row) ≡ 64) × (tx < 65536) × Ends (partOf w tx) (now ends) ⌝ }
     ensures { λ _. ⌜ now (picture .exit) ≡ stores (spanned (now (ends .entry))) (rowPlace w tx py) (λ (x : ℕ). getD (now (row .entry)) x 0) 64 0 (now (picture .entry)) ⌝ }
 {
-    if wide(ends[0]) == part_of(w, tx) {
+    if wide(ends[0]) == crate::clip::part_of(w, tx) {
         put_part(picture, w, tx, py, row);
         return;
     }
@@ -173,16 +113,24 @@ fn put_spans(picture: &mut [u16], w: usize, tx: usize, py: usize, row: &[u16], e
     }
 }
 
+// A pixel row of a tile: the channel's width, the tile's column, the row in the picture, and how many rectangles it is held against.
+pub struct Strip {
+    pub w: usize,
+    pub tx: usize,
+    pub py: usize,
+    pub n: usize,
+}
+
 // How many rectangles come before the first that has a word of the row: n where none has. Asked before the row's colours are made.
-pub fn row_first(rects: &[u8], n: usize, w: usize, tx: usize, py: usize) -> usize
-    requires { ⌜ (8 * n ≤ length (now rects)) × (tx < 65536) ⌝ }
+// The rectangles are read from where they are kept for the tile; the region's bytes are what the promise speaks of.
+pub fn row_first(rects: &[u8], clips: &[i32], n: usize, w: usize, tx: usize, py: usize) -> usize
+    requires { ⌜ Clips (now rects) n w tx (now clips) ⌝ }
     ensures { λ r. ⌜ r ≡ rowFirst (now (rects .entry)) n w tx py ⌝ }
 {
-    let part = part_of(w, tx);
     let mut k = 0;
     while k < n {
-        let s = rect_span(rects, 64 * tx, part, py, k);
-        if s.from < s.to {
+        let p = crate::clip::clip_span(clips, py, k);
+        if p.from < p.to {
             return k;
         }
         k += 1;
@@ -190,31 +138,33 @@ pub fn row_first(rects: &[u8], n: usize, w: usize, tx: usize, py: usize) -> usiz
     n
 }
 
-// A tile's row of 64 words into pixel row py of the picture. From the first rectangle that has a word of it on, they are left at the first
+// A tile's row of 64 words into its pixel row of the picture. From the first rectangle that has a word of it on, they are left at the first
 // that holds all of the row that lies in the channel; a region with none is one rectangle over the whole channel.
 pub fn draw_row(
     picture: &mut [u16],
-    w: usize,
-    tx: usize,
-    py: usize,
+    s: Strip,
     row: &[u16],
     rects: &[u8],
-    n: usize,
+    clips: &[i32],
     first: usize,
 )
-    requires { ⌜ (py * w + w ≤ length (now picture)) × (length (now row) ≡ 64) × (8 * n ≤ length (now rects)) × (tx < 65536) × (first ≡ rowFirst (now rects) n w tx py) ⌝ }
-    ensures { λ _. ⌜ now (picture .exit) ≡ rowDrawn (now (rects .entry)) n (λ (x : ℕ). getD (now (row .entry)) x 0) w tx py (now (picture .entry)) ⌝ }
+    requires { ⌜ (s .py * s .w + s .w ≤ length (now picture)) × (length (now row) ≡ 64) × (s .tx < 65536) × Clips (now rects) (s .n) (s .w) (s .tx) (now clips) × (first ≡ rowFirst (now rects) (s .n) (s .w) (s .tx) (s .py)) ⌝ }
+    ensures { λ _. ⌜ now (picture .exit) ≡ rowDrawn (now (rects .entry)) (s .n) (λ (x : ℕ). getD (now (row .entry)) x 0) (s .w) (s .tx) (s .py) (now (picture .entry)) ⌝ }
 {
+    let w = s.w;
+    let tx = s.tx;
+    let py = s.py;
+    let n = s.n;
     if n == 0 {
         put_part(picture, w, tx, py, row);
         return;
     }
-    let part = part_of(w, tx);
+    let part = crate::clip::part_of(w, tx);
     let mut ends = [0u8; 64];
     let mut k = first;
     'rectangles: while k < n {
-        let s = rect_span(rects, 64 * tx, part, py, k);
-        note(s, &mut ends[..]);
+        let p = crate::clip::clip_span(clips, py, k);
+        note(p, &mut ends[..]);
         if wide(ends[0]) == part {
             break 'rectangles;
         }

@@ -13,7 +13,7 @@ use lib.Seq.{getD-set-same, getD-set-other, set-out}
 use borrow.Author.Tests.{lt-ltb, le-ltb, ltb-true, ltb-false, leb-true, leb-false, eqb-true, eqb-false}
 use Rattle.whole.specs.Row.{_!_⨾_, _⇒_∣_}
 use Rattle.whole.specs.laws.Row.{case-no, passes, fails}
-use Rattle.frame_draw.specs.declared.row.Span.{Span}
+use Rattle.frame_draw.specs.declared.clip.Span.{Span}
 use Rattle.frame_draw.specs.Draw.{stores}
 use Rattle.frame_draw.specs.laws.Pixels.{split}
 use Rattle.frame_draw.specs.Spans.{always, noted, far, spanned, Ends}

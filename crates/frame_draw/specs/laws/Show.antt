@@ -6,7 +6,7 @@ use native.Mathlib.Omega.{arith}
 use lib.IntN.{ℤ}
 use lib.ListN.{length, length-take, length-drop}
 use Rattle.frame_layout.specs.Bytes.{Tile}
-use Rattle.frame_layout.specs.Reader.{tileAt, tilesIn, sizeAt, quantAt, rectCount}
+use Rattle.frame_layout.specs.Reader.{tileAt, dataOf, tilesIn, sizeAt, quantAt, rectCount}
 use Rattle.frame_blocks.specs.Blocks.{rectsOf, RegionGood}
 use Rattle.bands.specs.Bands.{quantOf}
 use Rattle.frame_draw.specs.Draw.{tileDrawn}
@@ -29,6 +29,12 @@ unfolding planeOf inSet judged
 part-plane mode m sp q d at k xs s l e =
     subst Plane (sym e) (samples-plane mode (quantOf (quantAt m sp (indexOf (tileAt d at) k))) (codeOf (tileAt d at) k) (sound-part (inSet mode m sp) q d at k s l))
 
+-- a tile drawn in the region as it was taken from the message
+pub drawn-same :
+    (rects rects′ : List ℕ) (n n′ : ℕ) (word : ℕ → ℕ) (w h tx ty : ℕ) (pic : List ℕ) → rects ≡ rects′ → n ≡ n′ →
+    tileDrawn rects n word w h tx ty pic ≡ tileDrawn rects′ n′ word w h tx ty pic
+drawn-same rects rects′ n n′ word w h tx ty pic e f = rw (e, f) refl
+
 -- the words of a tile, made from lists that hold its samples, at its place
 pub tile-shown :
     (rects : List ℕ) (nr mode : ℕ) (sets : ℕ → List ℕ) (w h : ℕ) (t : Tile) (y cb cr : List ℤ) (tx ty : ℕ) (pic last : List ℕ) → Sampled mode sets t y cb cr → tx ≡ t .x → ty ≡ t .y →
@@ -47,6 +53,11 @@ module _ (rects : List ℕ) (nr : ℕ) (words : Tile → ℕ → ℕ) (w h : ℕ
   pub shown-none : (n i at : ℕ) (pic : List ℕ) → n ≤ i → tilesDrawn rects nr words w h (tilesIn d (n - i) at) pic ≡ pic
   unfolding tilesDrawn tilesIn
   shown-none n i at pic l = let z : n - i ≡ 0 = omega arith in rw z refl
+
+-- a tileset's data are no longer than the message
+pub data-short : (m : List ℕ) (sp : ℕ) → length (dataOf m sp) ≤ length m
+unfolding dataOf
+data-short m sp = simp (length-take, length-drop) (omega arith)
 
 -- the rectangles of a checked region are all there
 pub rects-length : (m : List ℕ) (at : ℕ) → RegionGood m at → length (rectsOf m at) ≡ 8 * rectCount m at

@@ -12,7 +12,7 @@ use lib.ListN.{getD, replicate, length-replicate}
 use borrow.Author.Tests.{lt-ltb, le-ltb, le-leb, ltb-true, leb-true}
 use Rattle.whole.specs.Row.{_!_⨾_, _⇒_∣_}
 use Rattle.whole.specs.laws.Row.{passes, held}
-use Rattle.frame_draw.specs.declared.row.Span.{Span}
+use Rattle.frame_draw.specs.declared.clip.Span.{Span}
 use Rattle.frame_draw.specs.Draw.{inside, holds, some, stores, rowOn, rowPlace, rowDrawn}
 use Rattle.frame_draw.specs.laws.Draw.{region-all, region-is}
 use Rattle.frame_draw.specs.laws.Pixels.{split}

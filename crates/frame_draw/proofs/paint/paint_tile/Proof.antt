@@ -19,42 +19,47 @@ use Rattle.frame_draw.proofs.paint.paint_tile.Statement.{statement}
 use Rattle.frame_draw.proofs.paint.paint_tile.Tie as tie
 
 abbrev Inv-loop : tie.InvT-loop
-Inv-loop picture₀ w h tx ty ys cbs crs rects n asked y₀ picture y =
+Inv-loop picture₀ ys cbs crs rects clips w h tx ty n y₀ picture y =
     (y ≤ 64) × (length picture ≡ length picture₀)
-    × (rowsDrawn rects asked (wordAt ys cbs crs) w h tx ty 64 0 picture₀ ≡ rowsDrawn rects asked (wordAt ys cbs crs) w h tx ty (64 - y) y picture)
+    × (rowsDrawn rects n (wordAt ys cbs crs) w h tx ty 64 0 picture₀ ≡ rowsDrawn rects n (wordAt ys cbs crs) w h tx ty (64 - y) y picture)
 
 abbrev μ-loop : tie.MeasureT-loop
-μ-loop picture₀ w h tx ty ys cbs crs rects n asked y₀ picture y = 64 - y
+μ-loop picture₀ ys cbs crs rects clips w h tx ty n y₀ picture y = 64 - y
 
 -- the picture behind a row
 joined :
     (c : tie.Joined1 Inv-loop μ-loop) →
-    let a = c .before .before .before .before .before .before .args in
+    let s = c .before .before .before .before .before .before in
+    let a = s .before .before .before .args in
     let l = c .before .before .loop in
-    let asked = c .before .before .before .asked-of .result in
     let word = wordAt (now (a .ys)) (now (a .cbs)) (now (a .crs)) in
-    let row = rowDrawn (now (a .rects)) asked (λ (x : ℕ). word (64 * l .y + x)) (a .w) (a .tx) (64 * a .ty + l .y) (l .picture) in
-    c .if1 .picture ≡ (ltb (64 * a .ty + l .y) (a .h) ⇒ row ∣ l .picture)
+    let row = rowDrawn (now (a .rects)) (s .asked-of .result) (λ (x : ℕ). word (64 * l .y + x)) (a .s .w) (a .s .tx) (64 * a .s .ty + l .y) (l .picture) in
+    c .if1 .picture ≡ (ltb (64 * a .s .ty + l .y) (a .s .h) ⇒ row ∣ l .picture)
 joined c =
     ⊎-elim
-    (λ v. case-yes _ _ _ _ (lt-ltb _ _ (v .0 .taken)) (v .5 ∙ v .2 .ensures))
+    (λ v. case-yes _ _ _ _ (lt-ltb _ _ (v .0 .taken)) (v .6 ∙ v .3 .ensures))
     (λ v. case-no _ _ _ _ (le-ltb _ _ (v .0 .left)) (v .1))
     (c .if1 .came)
 
-same : (c : tie.Joined1 Inv-loop μ-loop) → length (c .if1 .picture) ≡ length (now (c .before .before .before .before .before .before .args .picture))
+same :
+    (c : tie.Joined1 Inv-loop μ-loop) →
+    length (c .if1 .picture) ≡ length (now (c .before .before .before .before .before .before .before .before .before .args .picture))
 same c =
-    ⊎-elim (λ v. ap length (v .5) ∙ v .2 .kept .0) (λ v. ap length (v .1)) (c .if1 .came)
+    ⊎-elim (λ v. ap length (v .6) ∙ v .3 .kept .0) (λ v. ap length (v .1)) (c .if1 .came)
     ∙ c .before .before .loop .inv .1
+
+clip-rects-requires : tie.Need-clip-rects-requires Inv-loop μ-loop
+clip-rects-requires c κs = let m = asked-most _ _ _ _ _ _ _ (c .before .asked-of .ensures) in (omega arith, omega arith, omega arith)
 
 loop-holds : tie.Need-loop-holds Inv-loop μ-loop
 loop-holds c = (omega arith, refl, rw sub-zero)
 
 paint-row-requires : tie.Need-paint-row-requires Inv-loop μ-loop
 paint-row-requires c κs =
-    let s = c .before .before .before .before .before .before .before in
-    let r = row-room _ _ (s .args .w) (c .before .if1 .taken) in
-    let m = asked-most _ _ _ _ _ _ _ (c .before .before .before .before .asked-of .ensures) in
-    (omega arith, omega arith, omega arith, omega arith, s .pre .4, s .pre .5, s .pre .6)
+    let t = c .before .before .before .before .before .before in
+    let s = t .before .before .before .before .before in
+    let r = row-room _ _ (s .args .s .w) (c .before .before .if1 .taken) in
+    (omega arith, omega arith, omega arith, t .clip-rects .ensures, s .pre .5, s .pre .6, s .pre .7)
 
 loop-again : tie.Need-loop-again Inv-loop μ-loop
 loop-again c =
@@ -64,14 +69,18 @@ loop-again c =
 same-length : tie.Need-same-length Inv-loop μ-loop
 same-length c = c .before .loop .inv .1
 
+same-length-2 : tie.Need-same-length-2 Inv-loop μ-loop
+same-length-2 c = c .before .before .before .clip-rects .kept .1 .1 .1 .1 .0
+
 returns : tie.Need-returns Inv-loop μ-loop
 unfolding tileDrawn
 returns c =
     let l = c .before .loop in
-    sym (l .inv .2 ∙ rows-none _ _ _ _ _ _ _ (l .y) _ (c .loop-test .left)) ∙ asked-same _ _ _ _ _ _ _ (c .before .before .asked-of .ensures) _ _
+    let asked = c .before .before .before .before .before .asked-of .ensures in
+    sym (l .inv .2 ∙ rows-none _ _ _ _ _ _ _ (l .y) _ (c .loop-test .left)) ∙ asked-same _ _ _ _ _ _ _ asked _ _
 
 pub paint-tile-spec : {M : Type 1} → statement M
 paint-tile-spec =
     tie.close
-    (tie.spec Inv-loop μ-loop (λ c κs. omega arith) loop-holds (λ c. omega arith) (λ c. omega arith) paint-row-requires (λ c. omega arith)
-    (λ c. omega arith) loop-again same-length returns)
+    (tie.spec Inv-loop μ-loop (λ c κs. omega arith) clip-rects-requires loop-holds (λ c. omega arith) (λ c. omega arith) paint-row-requires
+    (λ c. omega arith) (λ c. omega arith) loop-again same-length same-length-2 returns)
