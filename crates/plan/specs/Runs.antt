@@ -21,6 +21,7 @@ sameRows a b at step n rows = allBelow (λ r. sameRun a b (at + r * step) n) row
 
 -- such rows lie within a list
 pub record RowsIn (a : List ℕ) (at step n rows : ℕ) : Type 0 where
+  pub some : 1 ≤ rows
   pub row : (r : ℕ) → r < rows → at + r * step + n ≤ length a
 
 -- number k stands at place i

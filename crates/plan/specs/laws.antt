@@ -5,3 +5,4 @@ pub mod Changed
 pub mod Cover
 pub mod Made
 pub mod Request
+pub mod Samples

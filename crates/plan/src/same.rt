@@ -22,11 +22,14 @@ fn same_run(a: &[u8], b: &[u8], at: usize, n: usize) -> bool
     same
 }
 
-// Are rows of n bytes the same in both, each `step` bytes behind the one before?
+// Are rows of n bytes the same in both, each `step` bytes behind the one before? Rows with nothing between them are one run.
 fn same_rows(a: &[u8], b: &[u8], at: usize, step: usize, n: usize, rows: usize) -> bool
     requires { ⌜ RowsIn (now a) at step n rows × RowsIn (now b) at step n rows ⌝ }
     ensures { λ r. ⌜ r ≡ sameRows (now (a .entry)) (now (b .entry)) at step n rows ⌝ }
 {
+    if n == step {
+        return same_run(a, b, at, rows * n);
+    }
     let mut r = 0;
     while r < rows {
         if !same_run(a, b, at + r * step, n) {

@@ -1,11 +1,12 @@
 -- A tile that differs: its filled-up bytes do exactly if some pixel of the tile inside the picture does, and exactly if some row of its bytes in the
 -- picture does.
-use Prim.Native.Nat.{ℕ, _+_, _*_, _-_, _/_, _%_, _≤_, _<_, min}
-use mathlib.Core.Path.{_≡_, refl, ap, sym, _∙_}
+use Prim.Native.Nat.{ℕ, zero, suc, _+_, _*_, _-_, _/_, _%_, _≤_, _<_, min}
+use mathlib.Core.Path.{_≡_, refl, ap, sym, subst, _∙_}
 use mathlib.Core.Bool.{Bool, true, false, not}
 use mathlib.Core.List.{List}
 use native.Mathlib.Omega.{arith}
-use native.Mathlib.Nat.{mod-lt, div-lt-iff-lt-mul, mul-comm, mul-le-mul}
+use native.Mathlib.Nat.{mod-lt, div-lt-iff-lt-mul, div-add-mod', mul-comm, mul-zero, mul-le-mul}
+use lib.Arith.{digits-lt}
 use lib.ListN.{length, getD}
 use lib.Dec.{eqb}
 use borrow.Author.Tests.{eqb-true, eq-eqb, ne-eqb}
@@ -124,6 +125,14 @@ is-run : (a b : List ℕ) (at n : ℕ) → ((i : ℕ) → i < n → SameByte a b
 unfolding sameRun
 is-run a b at n s = is-all (sameByte a b at) n (λ i l. eq-eqb _ _ (s i l))
 
+some-factor : (m n j : ℕ) → j < m * n → 0 < n
+some-factor m zero j l = let z = mul-zero m in absurd (omega arith)
+some-factor m (suc n) j l = omega arith
+
+last-row : (rows n : ℕ) → 1 ≤ rows → (rows - 1) * n + n ≡ rows * n
+last-row zero n h = absurd (omega arith)
+last-row (suc r) n h = let e : suc r - 1 ≡ r = omega arith in rw e (omega arith)
+
 module _ (old new : List ℕ) (w h k : ℕ) (p : Pictures w h old new) (there : k < tilesNo w h) where
   abbrev x : ℕ
   x = 64 * columnOf w k
@@ -139,7 +148,10 @@ module _ (old new : List ℕ) (w h k : ℕ) (p : Pictures w h old new) (there : 
 
   -- they do lie in it
   pub rows-in : (q : List ℕ) → length q ≡ 3 * (w * h) → RowsIn q (pixelPlace w x y) (3 * w) wideIn highIn
-  rows-in q e = record { row = λ r l. let a = column-in w k (p .size .wide) in let m = row-in (y + r) h w (omega arith) in omega (arith, e, mul-comm w h, m) }
+  rows-in q e =
+      let a = column-in w k (p .size .wide) in
+      let b = row-is-in w h k (p .size .wide) there in
+      record { some = omega arith; row = λ r l. let m = row-in (y + r) h w (omega arith) in omega (arith, e, mul-comm w h, m) }
 
   rows-filled : sameRows old new (pixelPlace w x y) (3 * w) wideIn highIn ≡ true → Unchanged old new w h k
   unfolding sameRows
@@ -176,6 +188,37 @@ module _ (old new : List ℕ) (w h k : ℕ) (p : Pictures w h old new) (there : 
   rows-changed =
       ap not (same-test _ _ (λ e. is-filled old new w h k (rows-filled e)) (λ e. filled-rows (filled-is old new w h k e)))
       ∙ flip-not (filledSame old new w h k)
+
+-- ---- rows with nothing between them are one run
+
+module _ (a b : List ℕ) (at n rows : ℕ) where
+  split-run : sameRun a b at (rows * n) ≡ true → sameRows a b at n n rows ≡ true
+  unfolding sameRows
+  split-run e =
+      is-all _ rows
+      (λ r l. is-run a b (at + r * n) n
+      (λ i m. let q : at + (r * n + i) ≡ at + r * n + i = omega arith in rw q at (run-is a b at (rows * n) e (r * n + i) (digits-lt l m))))
+
+  join-runs : sameRows a b at n n rows ≡ true → sameRun a b at (rows * n) ≡ true
+  unfolding sameRows
+  join-runs e = is-run a b at (rows * n) byte
+    where
+      byte : (j : ℕ) → j < rows * n → SameByte a b (at + j)
+      byte j l =
+          let p : 0 < n = some-factor rows n j l in
+          let d = div-add-mod' j n in
+          let q : at + j / n * n + j % n ≡ at + j = omega arith in
+          rw q at (run-is a b (at + j / n * n) n (all-is _ rows e (j / n) (div-lt-iff-lt-mul p .1 l)) (j % n) (mod-lt j p))
+
+  pub joined : (step : ℕ) → n ≡ step → sameRun a b at (rows * n) ≡ sameRows a b at step n rows
+  joined step e = same-test _ _ split-run join-runs ∙ ap (λ (s : ℕ). sameRows a b at s n rows) e
+
+-- which lies within a list where they do
+pub joined-in : (a : List ℕ) (at step n rows : ℕ) → n ≡ step → RowsIn a at step n rows → at + rows * n ≤ length a
+joined-in a at step n rows e i =
+    let q : (rows - 1) * n + n ≡ rows * n = last-row rows n (i .some) in
+    let l = subst (λ (s : ℕ). at + (rows - 1) * s + n ≤ length a) (sym e) (i .row (rows - 1) (omega (arith, i .some))) in
+    omega arith
 
 -- ---- the walk along a run
 
