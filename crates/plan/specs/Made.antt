@@ -1,4 +1,5 @@
--- What the planner answers and leaves, for every input: "a lent list shorter than the count is 13 and untouched; numbers past the count are untouched".
+-- What the planner answers and leaves, for every input: the number of its first fault, or how many numbers it listed; refused, the list that it was lent is
+-- untouched, and so are the numbers past the count.
 use Prim.Native.Nat.{ℕ, zero, suc}
 use mathlib.Core.Path.{_≡_}
 use mathlib.Core.List.{List}

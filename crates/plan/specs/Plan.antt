@@ -2,7 +2,7 @@
 -- (01 is this project's scope document, 02 its change requests, 001 is MS-RDPRFX: README, "What 01 is".)
 use Prim.Native.Nat.{ℕ, zero, suc, _+_, _*_, _-_, _/_, _%_, _≤_}
 use mathlib.Core.Path.{_≡_}
-use mathlib.Core.Bool.{Bool, true, false}
+use mathlib.Core.Bool.{Bool, true, false, not}
 use mathlib.Core.List.{List, [], _∷_, _++_}
 use lib.ListN.{length, getD}
 use lib.Dec.{leb, ltb, eqb}
@@ -36,7 +36,7 @@ filledAt p w h k j = getD p (pixelPlace w (edge w (64 * columnOf w k + j / 3 % 6
 
 -- a tile "whose filled-up RGB bytes differ"
 unfoldable pub changedTile : List ℕ → List ℕ → ℕ → ℕ → ℕ → Bool
-changedTile old new w h k = allBelow (λ j. eqb (filledAt old w h k j) (filledAt new w h k j)) 12288 ⇒ false ∣ true
+changedTile old new w h k = not (allBelow (λ j. eqb (filledAt old w h k j) (filledAt new w h k j)) 12288)
 
 -- ---- a list of tile numbers
 

@@ -9,7 +9,7 @@ use lib.ListN.{length, take, drop}
 use Rattle.frame_pieces.specs.Parts.{tilesNo}
 use Rattle.plan.specs.Plan.{listed, planFault, changed, Size, Lengths, Pictures}
 use Rattle.plan.specs.Facts.{Unchanged, PixelOf, SamePixel, StrictlyRising, AllExist, AllListed, Contains, Acceptable}
-use Rattle.plan.specs.Made.{plannedNumber, plannedCount, PlanMade}
+use Rattle.plan.specs.Made.{plannedNumber, plannedCount, PlanMade, MakePlanCall}
 use Rattle.plan.specs.declared.make.Planned.{Planned}
 
 -- ---- the calls: what was given, what was answered, what lent memory holds afterwards (marked ′), and that the call's promise holds of them
@@ -98,12 +98,26 @@ pub record RequestEleven : Type 0 where
       (m : MakePlan) → plannedNumber (m .answer) ≡ 0 → drop (plannedCount (m .answer)) (m .out′) ≡ drop (plannedCount (m .answer)) (m .out)
   -- refused, nothing is written
   pub refused-untouched : (m : MakePlan) → (plannedNumber (m .answer) ≡ 0 → ⊥) → m .out′ ≡ m .out
-  -- its list is always accepted
+  -- its list is always accepted: the definition's, and what one call listed by the other call
+  pub own-list : (w h : ℕ) (old new : List ℕ) → Pictures w h old new → planFault w h old new (changed old new w h) ≡ 0
   pub plan-accepted :
       (m : MakePlan) (c : CheckPlan) → plannedNumber (m .answer) ≡ 0 → SamePictures m c → c .picks ≡ plannedBy m → c .answer ≡ 0
   -- every accepted list contains it, and none is shorter
   pub contained : (w h : ℕ) (old new ks : List ℕ) → planFault w h old new ks ≡ 0 → Contains ks (changed old new w h)
   pub none-shorter : (w h : ℕ) (old new ks : List ℕ) → planFault w h old new ks ≡ 0 → length (changed old new w h) ≤ length ks
-  -- one answer and one content for every input
+  -- one answer and one content for every input, and for C one number, one count and one content
+  pub one-number :
+      (c d : CheckPlan)
+      → c .width ≡ d .width
+      → c .height ≡ d .height
+      → c .old ≡ d .old
+      → c .new ≡ d .new
+      → c .picks ≡ d .picks
+      → c .answer ≡ d .answer
   pub one-answer :
       (w h : ℕ) (old new out a b : List ℕ) (r q : Planned) → PlanMade w h old new out a r → PlanMade w h old new out b q → (r ≡ q) × (a ≡ b)
+  pub one-call :
+      (w h : ℕ) (old new out a b : List ℕ) (i j m n : ℕ)
+      → MakePlanCall w h old new out a i m
+      → MakePlanCall w h old new out b j n
+      → (m ≡ n) × ((i ≡ j) × (a ≡ b))

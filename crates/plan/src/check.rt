@@ -1,5 +1,5 @@
-// The checker (document 02, request Eleven): "takes the old and the new RGB picture of one size and a list of tile numbers .. Out of order is 16, no such tile 8,
-// a changed tile missing 17, first in this order; before all, a size that 01 refuses is 5, then wrong picture lengths 2."
+// The checker (document 02, request Eleven): "takes the old and the new RGB picture of one size and a list of tile numbers .. Out of order is 16, no such
+// tile 8, a changed tile missing 17, first in this order; before all, a size that 01 refuses is 5, then wrong picture lengths 2."
 ghost use mathlib.Core.Path.{_≡_};
 ghost use mathlib.Core.Bool.{true};
 ghost use Prim.Native.Nat.{_≤_};

@@ -1,5 +1,5 @@
-// The two calls for C. A pointer is a reference, a list is a pointer and its length; the answer is the number of the first fault, 0 for done. The planner's count
-// is stored on every answer, refused 0. Nothing here has a `requires`.
+// The two calls of document 02's request Eleven for C. A pointer is a reference, a list is a pointer and its length; the answer is the number of the first
+// fault, 0 for done. The planner's count is stored on every answer, refused 0. Nothing here has a `requires`.
 ghost use mathlib.Core.Path.{_≡_};
 ghost use Rattle.plan.specs.Plan.{planFault};
 ghost use Rattle.plan.specs.Made.{MakePlanCall};

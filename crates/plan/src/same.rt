@@ -1,4 +1,5 @@
-// Two pictures compared: a tile differs if its filled-up RGB bytes do. The fill repeats pixels of the tile itself, so only the bytes in the picture are compared.
+// Two pictures compared (document 02, request Eleven): a tile differs if its filled-up RGB bytes do. The fill repeats pixels of the tile itself, so only the
+// bytes in the picture are compared.
 ghost use mathlib.Core.Path.{_≡_};
 ghost use Prim.Native.Nat.{_+_, _≤_, _<_, min};
 ghost use lib.ListN.{length};

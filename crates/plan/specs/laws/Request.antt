@@ -20,7 +20,7 @@ use Rattle.plan.specs.Made.{plannedNumber, plannedCount, PlanMade}
 use Rattle.plan.specs.Facts.{Unchanged, StrictlyRising, AllExist, AllListed, Contains, Acceptable}
 use Rattle.plan.specs.Request.{CheckPlan, MakePlan, plannedBy, SamePictures, RequestEleven}
 use Rattle.plan.specs.laws.All.{yes-not-no, other-test, all-is, is-all}
-use Rattle.plan.specs.laws.Same.{unchanged-is, is-unchanged, pixels-same, same-pixels}
+use Rattle.plan.specs.laws.Same.{unchanged-is, is-unchanged, filled-same}
 use Rattle.plan.specs.laws.Lists.{rising-is, is-rising, rising-before, below-is, is-below, listed-is, is-listed}
 use Rattle.plan.specs.laws.Cover.{isCovered, listed-covered, same-covered, missing-covered}
 use Rattle.plan.specs.laws.Changed.{those-meet, those-listed, those-rising, size-allowed, pictures-are}
@@ -280,15 +280,18 @@ requestEleven =
       no-such-tile = λ c p r n. by-list c p 8 (tile-wrong (c .width) (c .height) (c .old) (c .new) (c .picks) r n);
       missing = λ c p r b n. by-list c p 17 (tile-missing (c .width) (c .height) (c .old) (c .new) (c .picks) r b n);
       more-may-be-listed = more-listed;
-      fill-adds-nothing = λ w h k old new s l. (pixels-same w h k (s .wide) l old new, same-pixels w h k (s .wide) l old new);
+      fill-adds-nothing = λ w h k old new s l. filled-same w h k (s .wide) l old new;
       listed-differ = differ;
       differ-listed = all-differ;
       lists = lists-them;
       rest-untouched = leaves-rest;
       refused-untouched = leaves-all;
+      own-list = planned-accepted;
       plan-accepted = own-accepted;
       contained = planned-within;
       none-shorter = λ w h old new ks e.
           no-shorter ks (changed old new w h) (accepted-good w h old new ks e .order) (planned-rises w h old new) (planned-within w h old new ks e);
+      one-number = λ c d w h o n k. c .promise ∙ (rw (w, h, o, n, k) (sym (d .promise)));
       one-answer = made-once;
+      one-call = λ w h old new out a b i j m n x y. (x .said ∙ sym (y .said), (x .count-is ∙ sym (y .count-is), x .left ∙ sym (y .left)));
     }

@@ -9,8 +9,7 @@ use native.Mathlib.Nat.{mod-lt, div-lt-iff-lt-mul, div-add-mod', mul-comm, mul-z
 use lib.Arith.{digits-lt}
 use lib.ListN.{length, getD}
 use lib.Dec.{eqb}
-use borrow.Author.Tests.{eqb-true, eq-eqb, ne-eqb}
-use Rattle.whole.specs.Row.{_⇒_∣_}
+use borrow.Author.Tests.{eqb-true, eq-eqb, ne-eqb, not-false}
 use Rattle.whole.specs.laws.Row.{passes, fails}
 use Rattle.whole.specs.laws.Tab.{row-in}
 use Rattle.frame_pieces.specs.Parts.{colsOf, tilesNo}
@@ -19,7 +18,7 @@ use Rattle.tile_forth.specs.TileForth.{edge, pixelPlace}
 use Rattle.plan.specs.Plan.{allBelow, columnOf, rowOf, filledAt, changedTile, Pictures}
 use Rattle.plan.specs.Facts.{Unchanged, PixelOf, SameByte, SamePixel}
 use Rattle.plan.specs.Runs.{sameByte, sameRun, sameRows, RowsIn}
-use Rattle.plan.specs.laws.All.{same-test, yes-not-no, all-none, all-next, all-is, is-all}
+use Rattle.plan.specs.laws.All.{same-test, all-none, all-next, all-is, is-all}
 
 -- ---- what `changedTile` says
 
@@ -32,28 +31,13 @@ filled-is old new w h k e j l = eqb-true _ _ (all-is _ 12288 e j l)
 is-filled : (old new : List ℕ) (w h k : ℕ) → Unchanged old new w h k → filledSame old new w h k ≡ true
 is-filled old new w h k s = is-all _ 12288 (λ j l. eq-eqb _ _ (s j l))
 
-flip-no : (t : Bool) → (t ⇒ false ∣ true) ≡ false → t ≡ true
-unfolding _⇒_∣_
-flip-no true e = refl
-flip-no false e = absurd (yes-not-no e)
-
-flip-yes : (t : Bool) → t ≡ true → (t ⇒ false ∣ true) ≡ false
-unfolding _⇒_∣_
-flip-yes true e = refl
-flip-yes false e = absurd (yes-not-no (sym e))
-
-flip-not : (t : Bool) → not t ≡ (t ⇒ false ∣ true)
-unfolding _⇒_∣_
-flip-not true = refl
-flip-not false = refl
-
 pub unchanged-is : (old new : List ℕ) (w h k : ℕ) → changedTile old new w h k ≡ false → Unchanged old new w h k
 unfolding changedTile
-unchanged-is old new w h k e = filled-is old new w h k (flip-no _ e)
+unchanged-is old new w h k e = filled-is old new w h k (not-false (filledSame old new w h k) e)
 
 pub is-unchanged : (old new : List ℕ) (w h k : ℕ) → Unchanged old new w h k → changedTile old new w h k ≡ false
 unfolding changedTile
-is-unchanged old new w h k s = flip-yes _ (is-filled old new w h k s)
+is-unchanged old new w h k s = ap not (is-filled old new w h k s)
 
 -- ---- where a tile stands
 
@@ -90,9 +74,7 @@ module _ (w h k : ℕ) (wide : 1 ≤ w) (there : k < tilesNo w h) where
       let v : edge h (64 * rowOf w k + r) ≡ 64 * rowOf w k + r = omega arith in
       rw (j, i, e, u, v)
 
-  -- `filled-same`, both ways: filled-up bytes differ exactly if some pixel of the tile inside the picture does, since the repeated column and row lie in the
-  -- same tile
-  pub pixels-same :
+  pixels-same :
       (old new : List ℕ) → Unchanged old new w h k → (x y : ℕ) → PixelOf w h k x y → SamePixel old new w x y
   pixels-same old new s x y i c t =
       let d = x - 64 * columnOf w k in
@@ -106,7 +88,7 @@ module _ (w h k : ℕ) (wide : 1 ≤ w) (there : k < tilesNo w h) where
       let q = sym (filled-at old d r c l t a b) ∙ s (192 * r + 3 * d + c) (omega arith) ∙ filled-at new d r c l t a b in
       rw (ex, ey) at q
 
-  pub same-pixels :
+  same-pixels :
       (old new : List ℕ) → ((x y : ℕ) → PixelOf w h k x y → SamePixel old new w x y) → Unchanged old new w h k
   unfolding filledAt
   same-pixels old new s j l =
@@ -114,6 +96,13 @@ module _ (w h k : ℕ) (wide : 1 ≤ w) (there : k < tilesNo w h) where
       let b = row-is-in w h k wide there in
       s (edge w (64 * columnOf w k + j / 3 % 64)) (edge h (64 * rowOf w k + j / 192))
       (record { inside-x = omega arith; inside-y = omega arith; column = omega arith; row = omega arith }) (j % 3) (omega arith)
+
+  -- filled-up bytes differ exactly if some pixel of the tile inside the picture does: the repeated column and row lie in the same tile
+  pub filled-same :
+      (old new : List ℕ)
+      → (Unchanged old new w h k → (x y : ℕ) → PixelOf w h k x y → SamePixel old new w x y)
+      × (((x y : ℕ) → PixelOf w h k x y → SamePixel old new w x y) → Unchanged old new w h k)
+  filled-same old new = (pixels-same old new, same-pixels old new)
 
 -- ---- the rows of a tile that lie in the picture
 
@@ -155,7 +144,7 @@ module _ (old new : List ℕ) (w h k : ℕ) (p : Pictures w h old new) (there : 
 
   rows-filled : sameRows old new (pixelPlace w x y) (3 * w) wideIn highIn ≡ true → Unchanged old new w h k
   unfolding sameRows
-  rows-filled e = same-pixels w h k (p .size .wide) there old new pixel
+  rows-filled e = filled-same w h k (p .size .wide) there old new .1 pixel
     where
       pixel : (u v : ℕ) → PixelOf w h k u v → SamePixel old new w u v
       pixel u v i c z =
@@ -177,7 +166,7 @@ module _ (old new : List ℕ) (w h k : ℕ) (p : Pictures w h old new) (there : 
           let d = i / 3 in
           let c = i % 3 in
           let e : 3 * d + c ≡ i = omega arith in
-          let q = pixels-same w h k (p .size .wide) there old new s (x + d) (y + r)
+          let q = filled-same w h k (p .size .wide) there old new .0 s (x + d) (y + r)
           (record { inside-x = omega arith; inside-y = omega arith; column = omega arith; row = omega arith }) c (omega arith) in
           let z = rw (from-first w x y d r c) at q in
           rw e at z
@@ -187,7 +176,6 @@ module _ (old new : List ℕ) (w h k : ℕ) (p : Pictures w h old new) (there : 
   unfolding changedTile
   rows-changed =
       ap not (same-test _ _ (λ e. is-filled old new w h k (rows-filled e)) (λ e. filled-rows (filled-is old new w h k e)))
-      ∙ flip-not (filledSame old new w h k)
 
 -- ---- rows with nothing between them are one run
 
