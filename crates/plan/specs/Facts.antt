@@ -7,7 +7,7 @@ use mathlib.Core.List.{List}
 use lib.ListN.{length, getD}
 use Rattle.frame_pieces.specs.Parts.{tilesNo}
 use Rattle.tile_forth.specs.TileForth.{pixelPlace}
-use Rattle.plan.specs.Plan.{columnOf, rowOf, filledAt, listed, Pictures}
+use Rattle.plan.specs.Plan.{tileColumn, tileRow, filledAt, isListed, Pictures}
 
 -- ---- a tile
 
@@ -19,8 +19,8 @@ Unchanged old new w h k = (j : ℕ) → j < 64 * 64 * 3 → filledAt old w h k j
 pub record PixelOf (w h k x y : ℕ) : Type 0 where
   pub inside-x : x < w
   pub inside-y : y < h
-  pub column : x / 64 ≡ columnOf w k
-  pub row : y / 64 ≡ rowOf w k
+  pub column : x / 64 ≡ tileColumn w k
+  pub row : y / 64 ≡ tileRow w k
 
 -- the byte at a place is the same in both pictures
 abbrev pub SameByte : List ℕ → List ℕ → ℕ → Type 0
@@ -42,11 +42,11 @@ AllExist n ks = (i : ℕ) → i < length ks → getD ks i 0 < n
 
 -- "every tile whose filled-up RGB bytes differ is listed"
 abbrev pub AllListed : List ℕ → List ℕ → ℕ → ℕ → List ℕ → Type 0
-AllListed old new w h ks = (k : ℕ) → k < tilesNo w h → (Unchanged old new w h k → ⊥) → listed k ks ≡ true
+AllListed old new w h ks = (k : ℕ) → k < tilesNo w h → (Unchanged old new w h k → ⊥) → isListed k ks ≡ true
 
 -- a list that contains another
 abbrev pub Contains : List ℕ → List ℕ → Type 0
-Contains ks js = (k : ℕ) → listed k js ≡ true → listed k ks ≡ true
+Contains ks js = (k : ℕ) → isListed k js ≡ true → isListed k ks ≡ true
 
 -- what 02 accepts
 pub record Acceptable (w h : ℕ) (old new ks : List ℕ) : Type 0 where

@@ -24,15 +24,15 @@ those p (suc n) = p n ⇒ those p n ++ (n ∷ []) ∣ those p n
 -- ---- a tile that differs
 
 -- "tile numbers (row by row from 0)": the column and the row of tile k, counted in tiles
-abbrev pub columnOf : ℕ → ℕ → ℕ
-columnOf w k = k % colsOf w
+abbrev pub tileColumn : ℕ → ℕ → ℕ
+tileColumn w k = k % colsOf w
 
-abbrev pub rowOf : ℕ → ℕ → ℕ
-rowOf w k = k / colsOf w
+abbrev pub tileRow : ℕ → ℕ → ℕ
+tileRow w k = k / colsOf w
 
 -- "filled-up RGB bytes": byte j of the 64 x 64 x 3 of tile k, pixel by pixel and row by row, "edge tiles filled by repeating the last column and row" (01)
 unfoldable pub filledAt : List ℕ → ℕ → ℕ → ℕ → ℕ → ℕ
-filledAt p w h k j = getD p (pixelPlace w (edge w (64 * columnOf w k + j / 3 % 64)) (edge h (64 * rowOf w k + j / 192)) + j % 3) 0
+filledAt p w h k j = getD p (pixelPlace w (edge w (64 * tileColumn w k + j / 3 % 64)) (edge h (64 * tileRow w k + j / 192)) + j % 3) 0
 
 -- a tile "whose filled-up RGB bytes differ"
 unfoldable pub changedTile : List ℕ → List ℕ → ℕ → ℕ → ℕ → Bool
@@ -49,13 +49,13 @@ unfoldable pub below : ℕ → List ℕ → Bool
 below n ks = allBelow (λ i. ltb (getD ks i 0) n) (length ks)
 
 -- a number "is listed"
-unfoldable pub listed : ℕ → List ℕ → Bool
-listed k [] = false
-listed k (a ∷ ks) = eqb a k ⇒ true ∣ listed k ks
+unfoldable pub isListed : ℕ → List ℕ → Bool
+isListed k [] = false
+isListed k (a ∷ ks) = eqb a k ⇒ true ∣ isListed k ks
 
 -- "every tile whose filled-up RGB bytes differ is listed"
 unfoldable pub covers : List ℕ → List ℕ → ℕ → ℕ → List ℕ → Bool
-covers old new w h ks = allBelow (λ k. changedTile old new w h k ⇒ listed k ks ∣ true) (tilesNo w h)
+covers old new w h ks = allBelow (λ k. changedTile old new w h k ⇒ isListed k ks ∣ true) (tilesNo w h)
 
 -- ---- the checker's answer
 

@@ -7,7 +7,7 @@ use mathlib.Core.Bool.{true}
 use mathlib.Core.List.{List}
 use lib.ListN.{length, take, drop}
 use Rattle.frame_pieces.specs.Parts.{tilesNo}
-use Rattle.plan.specs.Plan.{listed, planFault, changed, Size, Lengths, Pictures}
+use Rattle.plan.specs.Plan.{isListed, planFault, changed, Size, Lengths, Pictures}
 use Rattle.plan.specs.Facts.{Unchanged, PixelOf, SamePixel, StrictlyRising, AllExist, AllListed, Contains, Acceptable}
 use Rattle.plan.specs.Made.{plannedNumber, plannedCount, PlanMade, MakePlanCall}
 use Rattle.plan.specs.declared.make.Planned.{Planned}
@@ -90,8 +90,8 @@ pub record RequestEleven : Type 0 where
       → (Unchanged old new w h k → (x y : ℕ) → PixelOf w h k x y → SamePixel old new w x y)
       × (((x y : ℕ) → PixelOf w h k x y → SamePixel old new w x y) → Unchanged old new w h k)
   -- "Ship a planner of our own too": it lists exactly the tiles that differ
-  pub listed-differ : (w h : ℕ) (old new : List ℕ) (k : ℕ) → listed k (changed old new w h) ≡ true → (k < tilesNo w h) × (Unchanged old new w h k → ⊥)
-  pub differ-listed : (w h : ℕ) (old new : List ℕ) (k : ℕ) → k < tilesNo w h → (Unchanged old new w h k → ⊥) → listed k (changed old new w h) ≡ true
+  pub listed-differ : (w h : ℕ) (old new : List ℕ) (k : ℕ) → isListed k (changed old new w h) ≡ true → (k < tilesNo w h) × (Unchanged old new w h k → ⊥)
+  pub differ-listed : (w h : ℕ) (old new : List ℕ) (k : ℕ) → k < tilesNo w h → (Unchanged old new w h k → ⊥) → isListed k (changed old new w h) ≡ true
   -- what it listed is the definition's list, in front of the list that it was lent; the rest is untouched
   pub lists : (m : MakePlan) → plannedNumber (m .answer) ≡ 0 → plannedBy m ≡ changed (m .old) (m .new) (m .width) (m .height)
   pub rest-untouched :

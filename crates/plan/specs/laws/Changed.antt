@@ -18,7 +18,7 @@ use Rattle.wire.specs.laws.Le.{none-written, set-patch, wrote-next}
 use Rattle.session.specs.Header.{sizeGood}
 use Rattle.session.specs.laws.Header.{Allowed, allowed}
 use Rattle.frame_pieces.specs.Parts.{tilesNo}
-use Rattle.plan.specs.Plan.{those, changedTile, pixelsGood, picturesFault, Pictures, listed, rising, changed}
+use Rattle.plan.specs.Plan.{those, changedTile, pixelsGood, picturesFault, Pictures, isListed, rising, changed}
 use Rattle.plan.specs.Facts.{StrictlyRising}
 use Rattle.plan.specs.laws.All.{yes-not-no}
 use Rattle.plan.specs.laws.Lists.{is-rising, is-listed, listed-is}
@@ -104,20 +104,20 @@ those-meet p (suc n) i l = by (p n) refl (those-meet p n i) l
     by true e s l = both e s (omega (arith, length-append (those p n) (n ∷ []))) (decLt i (length (those p n)))
     by false e s l = meets-more (s l)
 
-listed-front : (k : ℕ) (xs ys : List ℕ) → listed k xs ≡ true → listed k (xs ++ ys) ≡ true
+listed-front : (k : ℕ) (xs ys : List ℕ) → isListed k xs ≡ true → isListed k (xs ++ ys) ≡ true
 listed-front k xs ys e =
     let s = listed-is k xs e in
     is-listed k (xs ++ ys) (s .place) (omega (arith, s .inside, length-append xs ys)) (List·getD-append xs ys 0 (s .place) (s .inside) ∙ s .is)
 
-listed-last : (k : ℕ) (xs : List ℕ) → listed k (xs ++ (k ∷ [])) ≡ true
+listed-last : (k : ℕ) (xs : List ℕ) → isListed k (xs ++ (k ∷ [])) ≡ true
 listed-last k xs = is-listed k (xs ++ (k ∷ [])) (length xs) (rw length-append (omega arith)) (getD-append-seam xs k [] 0)
 
-pub those-listed : (p : ℕ → Bool) (n k : ℕ) → k < n → p k ≡ true → listed k (those p n) ≡ true
+pub those-listed : (p : ℕ → Bool) (n k : ℕ) → k < n → p k ≡ true → isListed k (those p n) ≡ true
 unfolding those _⇒_∣_
 those-listed p zero k l e = absurd (omega arith)
 those-listed p (suc n) k l e = by (p n) refl (λ h. those-listed p n k h e) (decLt k n)
   where
-    by : (t : Bool) → p n ≡ t → (k < n → listed k (those p n) ≡ true) → Dec (k < n) → listed k (t ⇒ those p n ++ (n ∷ []) ∣ those p n) ≡ true
+    by : (t : Bool) → p n ≡ t → (k < n → isListed k (those p n) ≡ true) → Dec (k < n) → isListed k (t ⇒ those p n ++ (n ∷ []) ∣ those p n) ≡ true
     by true q s (yes h) = listed-front k (those p n) (n ∷ []) (s h)
     by true q s (no h) = let z : k ≡ n = omega arith in rw z (listed-last n (those p n))
     by false q s (yes h) = s h

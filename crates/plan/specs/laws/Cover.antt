@@ -6,7 +6,7 @@ use mathlib.Core.List.{List}
 use Rattle.whole.specs.Row.{_⇒_∣_}
 use Rattle.whole.specs.laws.Row.{case-yes, case-no}
 use Rattle.frame_pieces.specs.Parts.{tilesNo}
-use Rattle.plan.specs.Plan.{allBelow, changedTile, listed, covers}
+use Rattle.plan.specs.Plan.{allBelow, changedTile, isListed, covers}
 use Rattle.plan.specs.Facts.{StrictlyRising}
 use Rattle.plan.specs.Runs.{listedAt}
 use Rattle.plan.specs.laws.All.{all-none, all-more, all-fails, all-fewer}
@@ -14,7 +14,7 @@ use Rattle.plan.specs.laws.Lists.{Finger, finger-first, finger-on, finge
 
 -- a tile is listed, or does not differ
 abbrev pub isCovered : List ℕ → List ℕ → ℕ → ℕ → List ℕ → ℕ → Bool
-isCovered old new w h ks k = changedTile old new w h k ⇒ listed k ks ∣ true
+isCovered old new w h ks k = changedTile old new w h k ⇒ isListed k ks ∣ true
 
 module _ (old new : List ℕ) (w h : ℕ) (ks : List ℕ) where
   pub record Covering (f k : ℕ) : Type 0 where
@@ -24,18 +24,18 @@ module _ (old new : List ℕ) (w h : ℕ) (ks : List ℕ) where
   pub cover-none : Covering 0 0
   cover-none = record { finger = finger-first ks; all = all-none (isCovered old new w h ks) }
 
-  pub listed-covered : (k : ℕ) → listed k ks ≡ true → isCovered old new w h ks k ≡ true
+  pub listed-covered : (k : ℕ) → isListed k ks ≡ true → isCovered old new w h ks k ≡ true
   unfolding _⇒_∣_
   listed-covered k e = by (changedTile old new w h k)
     where
-      by : (t : Bool) → (t ⇒ listed k ks ∣ true) ≡ true
+      by : (t : Bool) → (t ⇒ isListed k ks ∣ true) ≡ true
       by true = e
       by false = refl
 
   pub same-covered : (k : ℕ) → changedTile old new w h k ≡ false → isCovered old new w h ks k ≡ true
   same-covered k e = sym (case-no _ _ _ _ e refl)
 
-  pub missing-covered : (k : ℕ) → changedTile old new w h k ≡ true → listed k ks ≡ false → isCovered old new w h ks k ≡ false
+  pub missing-covered : (k : ℕ) → changedTile old new w h k ≡ true → isListed k ks ≡ false → isCovered old new w h ks k ≡ false
   missing-covered k e l = sym (case-yes _ _ _ _ e (sym l))
 
   module _ (r : StrictlyRising ks) (f k : ℕ) (c : Covering f k) where

@@ -11,7 +11,7 @@ use lib.Dec.{eqb, ltb}
 use borrow.Author.Tests.{ltb-true, lt-ltb, eqb-true, eq-eqb}
 use Rattle.whole.specs.Row.{_⇒_∣_}
 use Rattle.whole.specs.laws.Row.{passes, held, case-yes}
-use Rattle.plan.specs.Plan.{rising, below, listed}
+use Rattle.plan.specs.Plan.{rising, below, isListed}
 use Rattle.plan.specs.Facts.{StrictlyRising, AllExist}
 use Rattle.plan.specs.Runs.{listedAt}
 use Rattle.plan.specs.laws.All.{yes-not-no, other-test, all-is, is-all}
@@ -75,27 +75,27 @@ pub record Stands (k : ℕ) (ks : List ℕ) : Type 0 where
 stands-later : {k a : ℕ} {ks : List ℕ} → Stands k ks → Stands k (a ∷ ks)
 stands-later s = record { place = suc (s .place); inside = omega (arith, s .inside); is = s .is }
 
-pub listed-is : (k : ℕ) (ks : List ℕ) → listed k ks ≡ true → Stands k ks
-unfolding listed _⇒_∣_
+pub listed-is : (k : ℕ) (ks : List ℕ) → isListed k ks ≡ true → Stands k ks
+unfolding isListed _⇒_∣_
 listed-is k [] e = absurd (yes-not-no (sym e))
 listed-is k (a ∷ ks) e = by (eqb a k) refl (listed-is k ks) e
   where
-    by : (t : Bool) → eqb a k ≡ t → (listed k ks ≡ true → Stands k ks) → (t ⇒ true ∣ listed k ks) ≡ true → Stands k (a ∷ ks)
+    by : (t : Bool) → eqb a k ≡ t → (isListed k ks ≡ true → Stands k ks) → (t ⇒ true ∣ isListed k ks) ≡ true → Stands k (a ∷ ks)
     by true q s e = record { place = 0; inside = omega arith; is = eqb-true a k q }
     by false q s e = stands-later (s e)
 
-pub is-listed : (k : ℕ) (ks : List ℕ) (i : ℕ) → i < length ks → getD ks i 0 ≡ k → listed k ks ≡ true
-unfolding listed _⇒_∣_
+pub is-listed : (k : ℕ) (ks : List ℕ) (i : ℕ) → i < length ks → getD ks i 0 ≡ k → isListed k ks ≡ true
+unfolding isListed _⇒_∣_
 is-listed k [] i l e = absurd (omega arith)
 is-listed k (a ∷ ks) zero l e = sym (case-yes _ _ _ _ (eq-eqb a k e) refl)
 is-listed k (a ∷ ks) (suc i) l e = by (eqb a k) (is-listed k ks i (omega arith) e)
   where
-    by : (t : Bool) → listed k ks ≡ true → (t ⇒ true ∣ listed k ks) ≡ true
+    by : (t : Bool) → isListed k ks ≡ true → (t ⇒ true ∣ isListed k ks) ≡ true
     by true q = refl
     by false q = q
 
-pub not-listed : (k : ℕ) (ks : List ℕ) → ((i : ℕ) → i < length ks → getD ks i 0 ≡ k → ⊥) → listed k ks ≡ false
-not-listed k ks n = other-test (listed k ks) (λ e. let s = listed-is k ks e in n (s .place) (s .inside) (s .is))
+pub not-listed : (k : ℕ) (ks : List ℕ) → ((i : ℕ) → i < length ks → getD ks i 0 ≡ k → ⊥) → isListed k ks ≡ false
+not-listed k ks n = other-test (isListed k ks) (λ e. let s = listed-is k ks e in n (s .place) (s .inside) (s .is))
 
 -- ---- a finger in a rising list: numbers before it are below k, those from it on are not
 
@@ -149,10 +149,10 @@ module _ (ks : List ℕ) (r : StrictlyRising ks) (f k : ℕ) (g : Finger ks f k)
   pub finger-stays : listedAt ks f k ≡ false → Finger ks f (k + 1)
   finger-stays e = record { within = g .within; before = λ i l. omega (arith, g .before i l); after = λ i l m. omega (arith, above e i l m) }
 
-  pub finger-listed : listedAt ks f k ≡ true → listed k ks ≡ true
+  pub finger-listed : listedAt ks f k ≡ true → isListed k ks ≡ true
   finger-listed e = let a = at-is ks f k e in is-listed k ks f (a .inside) (a .is)
 
-  pub finger-not : listedAt ks f k ≡ false → listed k ks ≡ false
+  pub finger-not : listedAt ks f k ≡ false → isListed k ks ≡ false
   finger-not e = not-listed k ks (λ i l q. by i l q (decLt i f))
     where
       by : (i : ℕ) → i < length ks → getD ks i 0 ≡ k → Dec (i < f) → ⊥

@@ -14,7 +14,7 @@ use Rattle.wire.specs.Le.{written}
 use Rattle.wire.specs.Wrote.{lengthSaid, outLeft}
 use Rattle.session.specs.Header.{sizeGood}
 use Rattle.frame_pieces.specs.Parts.{tilesNo}
-use Rattle.plan.specs.Plan.{changedTile, rising, below, listed, covers, pixelsGood, picturesFault, picksFault, planFault, changed, makeFault}
+use Rattle.plan.specs.Plan.{changedTile, rising, below, isListed, covers, pixelsGood, picturesFault, picksFault, planFault, changed, makeFault}
 use Rattle.plan.specs.Plan.{Size, Lengths, Pictures}
 use Rattle.plan.specs.Made.{plannedNumber, plannedCount, PlanMade}
 use Rattle.plan.specs.Facts.{Unchanged, StrictlyRising, AllExist, AllListed, Contains, Acceptable}
@@ -50,9 +50,9 @@ is-changed old new w h k n = by (changedTile old new w h k) refl
 
 covers-is : (old new : List ℕ) (w h : ℕ) (ks : List ℕ) → covers old new w h ks ≡ true → AllListed old new w h ks
 unfolding covers
-covers-is old new w h ks e k l n = by (listed k ks) refl
+covers-is old new w h ks e k l n = by (isListed k ks) refl
   where
-    by : (t : Bool) → listed k ks ≡ t → t ≡ true
+    by : (t : Bool) → isListed k ks ≡ t → t ≡ true
     by true q = refl
     by false q =
         absurd (yes-not-no (sym (all-is (isCovered old new w h ks) (tilesNo w h) e k l) ∙ missing-covered old new w h ks k (is-changed old new w h k n) q))
@@ -153,14 +153,14 @@ more-listed w h old new ks js e r b c =
 -- ---- the planner's list
 
 module _ (w h : ℕ) (old new : List ℕ) where
-  differ : (k : ℕ) → listed k (changed old new w h) ≡ true → (k < tilesNo w h) × (Unchanged old new w h k → ⊥)
+  differ : (k : ℕ) → isListed k (changed old new w h) ≡ true → (k < tilesNo w h) × (Unchanged old new w h k → ⊥)
   unfolding changed
   differ k e =
       let s = listed-is k (changed old new w h) e in
       let m = those-meet (changedTile old new w h) (tilesNo w h) (s .place) (s .inside) in
       (subst (λ (n : ℕ). n < tilesNo w h) (s .is) (m .small), changed-is old new w h k (ap (changedTile old new w h) (sym (s .is)) ∙ m .test))
 
-  all-differ : (k : ℕ) → k < tilesNo w h → (Unchanged old new w h k → ⊥) → listed k (changed old new w h) ≡ true
+  all-differ : (k : ℕ) → k < tilesNo w h → (Unchanged old new w h k → ⊥) → isListed k (changed old new w h) ≡ true
   unfolding changed
   all-differ k l n = those-listed (changedTile old new w h) (tilesNo w h) k l (is-changed old new w h k n)
 

@@ -15,7 +15,7 @@ use Rattle.whole.specs.laws.Tab.{row-in}
 use Rattle.frame_pieces.specs.Parts.{colsOf, tilesNo}
 use Rattle.frame_pieces.specs.laws.Parts.{some-cols}
 use Rattle.tile_forth.specs.TileForth.{edge, pixelPlace}
-use Rattle.plan.specs.Plan.{allBelow, columnOf, rowOf, filledAt, changedTile, Pictures}
+use Rattle.plan.specs.Plan.{allBelow, tileColumn, tileRow, filledAt, changedTile, Pictures}
 use Rattle.plan.specs.Facts.{Unchanged, PixelOf, SameByte, SamePixel}
 use Rattle.plan.specs.Runs.{sameByte, sameRun, sameRows, RowsIn}
 use Rattle.plan.specs.laws.All.{same-test, all-none, all-next, all-is, is-all}
@@ -41,11 +41,11 @@ is-unchanged old new w h k s = ap not (is-filled old new w h k s)
 
 -- ---- where a tile stands
 
-pub column-in : (w k : ℕ) → 1 ≤ w → 64 * columnOf w k < w
+pub column-in : (w k : ℕ) → 1 ≤ w → 64 * tileColumn w k < w
 unfolding colsOf
 column-in w k h = let m = mod-lt k (some-cols w h) in omega arith
 
-pub row-is-in : (w h k : ℕ) → 1 ≤ w → k < tilesNo w h → 64 * rowOf w k < h
+pub row-is-in : (w h k : ℕ) → 1 ≤ w → k < tilesNo w h → 64 * tileRow w k < h
 unfolding tilesNo colsOf
 row-is-in w h k l t =
     let m = mul-comm (colsOf w) (colsOf h) in
@@ -62,29 +62,29 @@ module _ (w h k : ℕ) (wide : 1 ≤ w) (there : k < tilesNo w h) where
       (p : List ℕ) (d r c : ℕ)
       → d < 64
       → c < 3
-      → 64 * columnOf w k + d < w
-      → 64 * rowOf w k + r < h
-      → filledAt p w h k (192 * r + 3 * d + c) ≡ getD p (pixelPlace w (64 * columnOf w k + d) (64 * rowOf w k + r) + c) 0
+      → 64 * tileColumn w k + d < w
+      → 64 * tileRow w k + r < h
+      → filledAt p w h k (192 * r + 3 * d + c) ≡ getD p (pixelPlace w (64 * tileColumn w k + d) (64 * tileRow w k + r) + c) 0
   unfolding filledAt
   filled-at p d r c l t a b =
       let j : (192 * r + 3 * d + c) / 3 % 64 ≡ d = omega arith in
       let i : (192 * r + 3 * d + c) / 192 ≡ r = omega arith in
       let e : (192 * r + 3 * d + c) % 3 ≡ c = omega arith in
-      let u : edge w (64 * columnOf w k + d) ≡ 64 * columnOf w k + d = omega arith in
-      let v : edge h (64 * rowOf w k + r) ≡ 64 * rowOf w k + r = omega arith in
+      let u : edge w (64 * tileColumn w k + d) ≡ 64 * tileColumn w k + d = omega arith in
+      let v : edge h (64 * tileRow w k + r) ≡ 64 * tileRow w k + r = omega arith in
       rw (j, i, e, u, v)
 
   pixels-same :
       (old new : List ℕ) → Unchanged old new w h k → (x y : ℕ) → PixelOf w h k x y → SamePixel old new w x y
   pixels-same old new s x y i c t =
-      let d = x - 64 * columnOf w k in
-      let r = y - 64 * rowOf w k in
-      let ex : 64 * columnOf w k + d ≡ x = omega arith in
-      let ey : 64 * rowOf w k + r ≡ y = omega arith in
+      let d = x - 64 * tileColumn w k in
+      let r = y - 64 * tileRow w k in
+      let ex : 64 * tileColumn w k + d ≡ x = omega arith in
+      let ey : 64 * tileRow w k + r ≡ y = omega arith in
       let l : d < 64 = omega arith in
       let m : r < 64 = omega arith in
-      let a : 64 * columnOf w k + d < w = omega (arith, i .inside-x) in
-      let b : 64 * rowOf w k + r < h = omega (arith, i .inside-y) in
+      let a : 64 * tileColumn w k + d < w = omega (arith, i .inside-x) in
+      let b : 64 * tileRow w k + r < h = omega (arith, i .inside-y) in
       let q = sym (filled-at old d r c l t a b) ∙ s (192 * r + 3 * d + c) (omega arith) ∙ filled-at new d r c l t a b in
       rw (ex, ey) at q
 
@@ -94,7 +94,7 @@ module _ (w h k : ℕ) (wide : 1 ≤ w) (there : k < tilesNo w h) where
   same-pixels old new s j l =
       let a = column-in w k wide in
       let b = row-is-in w h k wide there in
-      s (edge w (64 * columnOf w k + j / 3 % 64)) (edge h (64 * rowOf w k + j / 192))
+      s (edge w (64 * tileColumn w k + j / 3 % 64)) (edge h (64 * tileRow w k + j / 192))
       (record { inside-x = omega arith; inside-y = omega arith; column = omega arith; row = omega arith }) (j % 3) (omega arith)
 
   -- filled-up bytes differ exactly if some pixel of the tile inside the picture does: the repeated column and row lie in the same tile
@@ -124,10 +124,10 @@ last-row (suc r) n h = let e : suc r - 1 ≡ r = omega arith in rw e (omega arit
 
 module _ (old new : List ℕ) (w h k : ℕ) (p : Pictures w h old new) (there : k < tilesNo w h) where
   abbrev x : ℕ
-  x = 64 * columnOf w k
+  x = 64 * tileColumn w k
 
   abbrev y : ℕ
-  y = 64 * rowOf w k
+  y = 64 * tileRow w k
 
   abbrev wideIn : ℕ
   wideIn = 3 * min (w - x) 64
@@ -237,7 +237,7 @@ module _ (old new : List ℕ) (w h k : ℕ) (p : Pictures w h old new) (there : 
   corner =
       let a = column-in w k (p .size .wide) in
       let b = row-is-in w h k (p .size .wide) there in
-      let m = row-in (64 * rowOf w k) h w b in
+      let m = row-in (64 * tileRow w k) h w b in
       let s = mul-le-mul {n₂ = 2048} {m₂ = 4096} (p .size .higher) (p .size .wider) in
       rw e (record { some = some-cols w (p .size .wide); x-in = a; y-in = b; small = omega arith })
 
