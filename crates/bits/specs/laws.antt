@@ -5,3 +5,4 @@ pub mod Here
 pub mod Lead
 pub mod Pen
 pub mod PenOnce
+pub mod Word

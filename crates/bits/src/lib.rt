@@ -1,5 +1,6 @@
 // Bits of document 01's "The component code": "Bits go high bit first." Reading a bit, a run of ones, a number of n bits and a GR
-// number at a place, and writing them with a pen. Each contract is one equation with a definition of specs/Bits or a record of specs/Pen.
+// number at a place, and writing them with a pen; the same readings of 57 bits at once stand in `word` (document 02, request Ten).
+// Each contract is one equation with a definition of specs/Bits or a record of specs/Pen.
 ghost use mathlib.Core.Path.{_≡_};
 ghost use Prim.Native.Nat.{_+_, _*_, _<_, _≤_};
 ghost use lib.ListN.{length, getD, drop, replicate};
@@ -8,6 +9,8 @@ ghost use mathlib.Core.List.{_∷_, []};
 ghost use Rattle.bits.specs.Bits.{odd, val, bitsOf, numBits, grBits, onesOf, numOf, grOf};
 ghost use Rattle.bits.specs.Pen.{Ready, Put, Closed};
 ghost use Rattle.bits.specs.laws.Gr.{grLen};
+
+pub mod word;
 
 // What reading a number finds: the number and the place of the bit past it, or too few bits.
 pub enum Num {

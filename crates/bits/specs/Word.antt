@@ -1,0 +1,16 @@
+-- 57 bits as one number: document 02, request Ten, "Look at a word at a time and count its leading bits."
+-- (01 is this project's scope document, 02 its change requests, 001 is MS-RDPRFX: README, "What 01 is".)
+use Prim.Native.Nat.{ℕ, suc, _+_, _*_}
+use mathlib.Core.Bool.{Bool, true, false}
+use mathlib.Core.List.{List, [], _∷_}
+use lib.ListN.{getD}
+
+-- four bytes of a list, high byte first, as a number
+abbrev pub fourOf : List ℕ → ℕ → ℕ
+fourOf s j = ((getD s j 0 * 256 + getD s (j + 1) 0) * 256 + getD s (j + 2) 0) * 256 + getD s (j + 3) 0
+
+-- how many zeros some bits begin with
+unfoldable pub frontZeros : List Bool → ℕ
+frontZeros [] = 0
+frontZeros (false ∷ bs) = suc (frontZeros bs)
+frontZeros (true ∷ bs) = 0
