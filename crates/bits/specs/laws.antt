@@ -1,3 +1,4 @@
+pub mod Ahead
 pub mod Bit
 pub mod Bytes
 pub mod Gr

@@ -2,10 +2,10 @@
 // wherever in a byte they begin), and what is read inside them: a number, a run of ones, a GR number, the zeros that they begin with.
 // The contracts are those of the readings at a place of a slice, of the bits `numBits 57 w`.
 ghost use mathlib.Core.Path.{_≡_};
-ghost use Prim.Native.Nat.{_+_, _/_, _<_, _≤_};
+ghost use Prim.Native.Nat.{_+_, _*_, _/_, _<_, _≤_, min};
 ghost use lib.ListN.{length, drop};
 ghost use Rattle.bits.specs.Bits.{bitsOf, numBits, onesOf, numOf, grOf};
-ghost use Rattle.bits.specs.Word.{fourOf, frontZeros};
+ghost use Rattle.bits.specs.Word.{fourOf, frontZeros, horner, padded};
 ghost use Rattle.bits.specs.declared.Num.the-variants.{Got};
 use crate::Num;
 
@@ -32,6 +32,40 @@ pub fn look(s: &[u8], at: usize) -> u64
     let j = at / 8;
     let w = four(s, j) * 4294967296 + four(s, j + 4);
     (w << (at % 8)) >> 7
+}
+
+// Fewer than eight bytes, high byte first.
+fn all_of(s: &[u8]) -> u64
+    requires { ⌜ length (now s) < 8 ⌝ }
+    ensures { λ r. ⌜ r ≡ horner 0 (now (s .entry)) ⌝ }
+{
+    let mut w: u64 = 0;
+    let mut i: usize = 0;
+    while i < s.len() {
+        w = w * 256 + wide(s[i]);
+        i += 1;
+    }
+    w
+}
+
+// The smaller of two numbers.
+fn least(a: usize, b: usize) -> usize
+    ensures { λ r. ⌜ r ≡ min a b ⌝ }
+{
+    if a < b { a } else { b }
+}
+
+// The 57 bits from place `at` on, zeros past the end, as a number: of the eight bytes there, of the last eight, or of all where there are fewer.
+pub fn ahead(s: &[u8], at: usize) -> u64
+    requires { ⌜ (length (now s) ≤ 65535) × (at < 8 * length (now s)) ⌝ }
+    ensures { λ r. ⌜ (numBits 57 r ≡ padded 57 (drop at (bitsOf (now (s .entry))))) × (r < 144115188075855872) ⌝ }
+{
+    if s.len() < 8 {
+        return (all_of(s) << (64 - 8 * s.len() + at)) >> 7;
+    }
+    let j = least(at / 8, s.len() - 8);
+    let w = four(s, j) * 4294967296 + four(s, j + 4);
+    (w << (at - 8 * j)) >> 7
 }
 
 // The k bits at place `at` of the 57 bits w, as a number.

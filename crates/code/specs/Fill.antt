@@ -7,9 +7,10 @@ use lib.IntN.{ℤ, pos}
 use lib.ListN.{length, take, drop, set, replicate}
 use lib.Dec.{ltb}
 use Rattle.whole.specs.Row.{_⇒_∣_}
-use Rattle.bits.specs.Bits.{bitsOf}
+use Rattle.bits.specs.Bits.{bitsOf, numBits, numOf}
+use Rattle.bits.specs.Word.{frontZeros}
 use Rattle.code.specs.Code.{up}
-use Rattle.code.specs.ReadList.{st, Walked, whole, bad, walk, readList}
+use Rattle.code.specs.ReadList.{st, runElem, Walked, whole, bad, walk, readList}
 use Rattle.code.specs.declared.element.State.{State}
 use Rattle.code.specs.declared.element.Element.{Element}
 use Rattle.code.specs.declared.element.Element.the-variants.{Zeros, One, Two, Refused}
@@ -73,7 +74,51 @@ unfolding _⇒_∣_
 leapOf zero n i c = Jump i c
 leapOf (suc m) n i c = ltb i n ⇒ leapOf m n (min n (i + 2 ^ (c .kp / 8))) (st (c .at + 1) (up 4 (c .kp)) (c .krp)) ∣ Jump i c
 
+-- what storing found, its state's place counted from `at` on
+abbrev pub onwardOf : ℕ → Placed → Quick
+onwardOf at (No r) = Not
+onwardOf at (At j t) = Jump j (st (at + t .at) (t .kp) (t .krp))
+
+-- its state's place lies in the word, or behind it
+abbrev pub Inside : Placed → Type 0
+Inside (No r) = Unit {0}
+Inside (At j t) = t .at ≤ 57
+
 -- the list was filled on, or it stays
 abbrev pub Quickly : Bool → List Bool → ℕ → List ℤ → List ℤ → Quick → Type 0
 Quickly two B i out new Not = new ≡ out
 Quickly two B i out new (Jump j t) = Filling two (length out) B new t j × (i < j)
+
+-- the same in whichever mode it is being filled
+abbrev pub Turned : List Bool → State → ℕ → List ℤ → List ℤ → Quick → Type 0
+Turned B c i out new r = (two : Bool) → Filling two (length out) B out c i → Quickly two B i out new r
+
+-- a list with a place left, and a state in run mode with a word behind it
+pub record Running (s : List ℕ) (out : List ℤ) (c : State) (i : ℕ) : Type 0 where
+  pub small : length s ≤ 65535
+  pub places : length out ≤ 4096
+  pub room : i < length out
+  pub high : 8 ≤ c .kp
+  pub kps : c .kp ≤ 80
+  pub krs : c .krp ≤ 80
+  pub word : c .at / 8 + 8 ≤ length s
+
+-- a list with a place left, and the state t before a run's value whose 1 stands behind the m zeros that w begins with
+pub record Valued (w m at : ℕ) (t : State) (out : List ℤ) (j : ℕ) : Type 0 where
+  pub zeros : m ≡ frontZeros (numBits 57 w)
+  pub inside : m < 57
+  pub place : at ≤ 524280
+  pub high : 8 ≤ t .kp
+  pub kps : t .kp ≤ 80
+  pub krs : t .krp ≤ 80
+  pub places : length out ≤ 4096
+  pub room : j < length out
+
+-- the value's element in w
+abbrev pub valueOf : ℕ → ℕ → State → ℕ → Element
+valueOf w m t left = runElem (t .kp) (t .krp) left (numBits 57 w) (numOf 1 0 m (drop m (numBits 57 w)))
+
+-- it is stored, and its state's place is counted from `at` on
+abbrev pub Stored : ℕ → ℕ → ℕ → State → ℕ → List ℤ → List ℤ → Quick → Type 0
+Stored w m at t j out new r =
+    (r ≡ onwardOf at (placedOf (length out) j (valueOf w m t (length out - j)))) × (new ≡ storedOf out j (valueOf w m t (length out - j)))

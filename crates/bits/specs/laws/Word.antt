@@ -11,7 +11,7 @@ use lib.Seq.{drop-at, drop-drop, drop-cons, drop-append-le, drop-append-add}
 use lib.Pow.{shr-shr, shl-shr, field, high, low, pow-pos, pow-mono}
 use lib.Count.{leadingZeros, leading-length, leading-unique}
 use Rattle.bits.specs.Bits.{odd, val, numBits, bitsOf, onesOf, numOf, grOf, grBits}
-use Rattle.bits.specs.Word.{fourOf, frontZeros}
+use Rattle.bits.specs.Word.{fourOf, frontZeros, horner}
 use Rattle.bits.specs.laws.Bit.{length-numBits, num-put, ones-got, gr-small, num-got-lt}
 use Rattle.bits.specs.laws.Here.{numBits-mod, num-there, gr-there, length-grBits}
 use Rattle.bits.specs.laws.Lead.{ones-lead, lead-low, lead-high}
@@ -30,7 +30,7 @@ numBits-split (suc a) b n =
     ap (λ (k : ℕ). numBits k n) e ∙ ap₂ (λ (x : ℕ) (l : List Bool). odd x ∷ l) q (numBits-split a b n)
 
 -- what stands past the first a of a + b bits
-numBits-past : (a b n : ℕ) → drop a (numBits (a + b) n) ≡ numBits b n
+pub numBits-past : (a b n : ℕ) → drop a (numBits (a + b) n) ≡ numBits b n
 numBits-past a b n =
     ap (λ (l : List Bool). drop a l) (numBits-split a b n)
     ∙ drop-at (numBits a (n / 2 ^ b)) (numBits b n) a (length-numBits a (n / 2 ^ b))
@@ -48,7 +48,7 @@ num-in w at k h =
     ∙ num-put k (w / 2 ^ r) 0 at (numBits r w)
     ∙ ap (λ (n : ℕ). Got n (at + k)) (omega arith)
 
-num-short : (k acc at : ℕ) (bs : List Bool) → length bs < k → numOf k acc at bs ≡ Cut
+pub num-short : (k acc at : ℕ) (bs : List Bool) → length bs < k → numOf k acc at bs ≡ Cut
 unfolding numOf
 num-short zero acc at bs h = absurd (omega arith)
 num-short (suc k) acc at [] h = refl
@@ -176,11 +176,6 @@ gr-within w at k g next hk e =
 
 -- ---- 57 bits of a byte list
 
--- the number that some bytes are, high byte first, behind those already in acc
-unfoldable horner : ℕ → List ℕ → ℕ
-horner acc [] = acc
-horner acc (b ∷ bs) = horner (acc * 256 + b) bs
-
 -- a number's bits and a byte's behind them
 byte-more : (k acc b : ℕ) → b < 256 → numBits (k + 8) (acc * 256 + b) ≡ numBits k acc ++ numBits 8 b
 byte-more k acc b h =
@@ -191,7 +186,7 @@ byte-more k acc b h =
     (ap (λ (n : ℕ). numBits k n) q)
     (sym (numBits-mod 8 8 (acc * 256 + b) (le-refl 8)) ∙ ap (λ (n : ℕ). numBits 8 n) r)
 
-horner-bits : (bs : List ℕ) → Bytes bs → (k acc : ℕ) → numBits (k + 8 * length bs) (horner acc bs) ≡ numBits k acc ++ bitsOf bs
+pub horner-bits : (bs : List ℕ) → Bytes bs → (k acc : ℕ) → numBits (k + 8 * length bs) (horner acc bs) ≡ numBits k acc ++ bitsOf bs
 unfolding horner bitsOf
 horner-bits [] h k acc = let e : k + 0 ≡ k = omega arith in ap (λ (n : ℕ). numBits n acc) e ∙ sym (append-nil (numBits k acc))
 horner-bits (b ∷ bs) h k acc =
@@ -202,7 +197,7 @@ horner-bits (b ∷ bs) h k acc =
     ∙ append-assoc (numBits k acc) (numBits 8 b) (bitsOf bs)
 
 -- the bits from a byte on
-drop-bytes : (j : ℕ) (s : List ℕ) → drop (8 * j) (bitsOf s) ≡ bitsOf (drop j s)
+pub drop-bytes : (j : ℕ) (s : List ℕ) → drop (8 * j) (bitsOf s) ≡ bitsOf (drop j s)
 unfolding bitsOf
 drop-bytes zero s = refl
 drop-bytes (suc j) [] = drop-of-length-le {A = Bool} [] {i = 8 * suc j} (omega arith)
@@ -211,11 +206,11 @@ drop-bytes (suc j) (b ∷ s) =
     ap (λ (n : ℕ). drop n (numBits 8 b ++ bitsOf s)) e ∙ drop-append-add (numBits 8 b) (bitsOf s) (8 * j) ∙ drop-bytes j s
 
 -- n bytes of a list from place j on
-unfoldable bytesOf : ℕ → List ℕ → ℕ → List ℕ
+unfoldable pub bytesOf : ℕ → List ℕ → ℕ → List ℕ
 bytesOf zero s j = []
 bytesOf (suc n) s j = getD s j 0 ∷ bytesOf n s (j + 1)
 
-bytes-front : (n : ℕ) (s : List ℕ) (j : ℕ) → j + n ≤ length s → drop j s ≡ bytesOf n s j ++ drop (j + n) s
+pub bytes-front : (n : ℕ) (s : List ℕ) (j : ℕ) → j + n ≤ length s → drop j s ≡ bytesOf n s j ++ drop (j + n) s
 unfolding bytesOf
 bytes-front zero s j h = let e : j ≡ j + 0 = omega arith in ap (λ (m : ℕ). drop m s) e
 bytes-front (suc n) s j h =
@@ -225,7 +220,7 @@ bytes-front (suc n) s j h =
     ∙ ap (λ (m : ℕ). getD s j 0 ∷ drop m s) e
     ∙ ap (λ (l : List ℕ). getD s j 0 ∷ l) (bytes-front n s (j + 1) (omega arith) ∙ ap (λ (m : ℕ). bytesOf n s (j + 1) ++ drop m s) f)
 
-bytes-small : (n : ℕ) (s : List ℕ) (j : ℕ) → Bytes s → Bytes (bytesOf n s j)
+pub bytes-small : (n : ℕ) (s : List ℕ) (j : ℕ) → Bytes s → Bytes (bytesOf n s j)
 unfolding bytesOf
 bytes-small zero s j b i = omega arith
 bytes-small (suc n) s j b zero = b j
@@ -266,22 +261,22 @@ look-is s b at j r q ea eq h =
     last e = let z : 0 * 2 ^ 57 + e / 2 ^ q % 2 ^ 57 ≡ e / 2 ^ q % 2 ^ 57 = zero-add _ in z ∙ sym (shifted e r q eq)
 
 -- eight bytes as two fours
+pub four-four : (s : List ℕ) (j : ℕ) → fourOf s j * 4294967296 + fourOf s (j + 4) ≡ horner 0 (bytesOf 8 s j)
+unfolding horner bytesOf
+four-four s j =
+    let a : j + 1 + 1 ≡ j + 2 = omega arith in
+    let b : j + 2 + 1 ≡ j + 3 = omega arith in
+    let c : j + 3 + 1 ≡ j + 4 = omega arith in
+    let d : j + 4 + 2 ≡ j + 4 + 1 + 1 = omega arith in
+    let f : j + 4 + 3 ≡ j + 4 + 1 + 1 + 1 = omega arith in
+    rw (a, b, c, d, f) (omega arith)
+
 pub look-four : (s : List ℕ) (at r : ℕ) → Bytes s → at / 8 + 8 ≤ length s →
     r ≡ (fourOf s (at / 8) * 4294967296 + fourOf s (at / 8 + 4)) * 2 ^ (at % 8) % 2 ^ 64 / 2 ^ 7 →
     Got r (at + 57) ≡ numOf 57 0 at (drop at (bitsOf s))
-unfolding horner bytesOf
 look-four s at r b h e =
-    ap (λ (n : ℕ). Got n (at + 57)) (e ∙ ap (λ (n : ℕ). n * 2 ^ (at % 8) % 2 ^ 64 / 2 ^ 7) (same (at / 8)))
+    ap (λ (n : ℕ). Got n (at + 57)) (e ∙ ap (λ (n : ℕ). n * 2 ^ (at % 8) % 2 ^ 64 / 2 ^ 7) (four-four s (at / 8)))
     ∙ sym (look-is s b at (at / 8) (at % 8) (7 - at % 8) (omega arith) (omega arith) h)
-  where
-    same : (j : ℕ) → fourOf s j * 4294967296 + fourOf s (j + 4) ≡ horner 0 (bytesOf 8 s j)
-    same j =
-        let a : j + 1 + 1 ≡ j + 2 = omega arith in
-        let b : j + 2 + 1 ≡ j + 3 = omega arith in
-        let c : j + 3 + 1 ≡ j + 4 = omega arith in
-        let d : j + 4 + 2 ≡ j + 4 + 1 + 1 = omega arith in
-        let f : j + 4 + 3 ≡ j + 4 + 1 + 1 + 1 = omega arith in
-        rw (a, b, c, d, f) (omega arith)
 
 -- ---- the zeros that bits begin with
 
@@ -290,6 +285,17 @@ unfolding frontZeros
 front-is [] = refl
 front-is (false ∷ bs) = ap (λ (l : List Bool). false ∷ l) (front-is bs)
 front-is (true ∷ bs) = refl
+
+-- what ends them is a one
+pub front-stop : (bs : List Bool) (m : ℕ) → m ≡ frontZeros bs → m < length bs → drop m bs ≡ true ∷ drop (m + 1) bs
+unfolding frontZeros
+front-stop [] m e h = absurd (omega arith)
+front-stop (false ∷ bs) zero e h = absurd (omega arith)
+front-stop (false ∷ bs) (suc m) e h =
+    let f : suc (m + 1) ≡ suc m + 1 = omega arith in
+    front-stop bs m (omega (arith, e)) (omega arith) ∙ ap (λ (n : ℕ). true ∷ drop n (false ∷ bs)) f
+front-stop (true ∷ bs) zero e h = refl
+front-stop (true ∷ bs) (suc m) e h = absurd (omega (arith, e))
 
 front-le : (bs : List Bool) → frontZeros bs ≤ length bs
 unfolding frontZeros

@@ -119,10 +119,10 @@ placed-two n out i a b c h = go (ltb (i + 1) n) refl
         let j : i + 1 ≡ min n (i + 2) = omega arith in
         rw (k, ← j) g
 
-pub at-j : {j k : ℕ} {s t : State} → At j s ≡ At k t → j ≡ k
+at-j : {j k : ℕ} {s t : State} → At j s ≡ At k t → j ≡ k
 at-j e = cc
 
-pub at-s : {j k : ℕ} {s t : State} → At j s ≡ At k t → s ≡ t
+at-s : {j k : ℕ} {s t : State} → At j s ≡ At k t → s ≡ t
 at-s e = cc
 
 no-r : {j k : Refusal} → No j ≡ No k → j ≡ k

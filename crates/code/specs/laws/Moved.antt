@@ -112,18 +112,18 @@ module _ (at : ℕ) (P rest B : List Bool) (h : drop at B ≡ P ++ rest) where
           let m = num-moved (kp / 8) mid z next l f in
           rw (m .0) (sign z next (numOf 1 0 next (drop next P)) (m .1) refl n)
 
-  -- unless it is cut in P, what is read in P is what is read in B
-  pub elem-moved : (two : Bool) (kp krp left : ℕ) → (elemOf two kp krp left 0 P ≡ Refused Short → ⊥) →
-      elemOf two kp krp left (at + 0) B ≡ later at (elemOf two kp krp left 0 P)
+  -- unless it is cut in P, what is read at place i of P is what is read in B
+  pub elem-moved : (two : Bool) (kp krp left i : ℕ) → i ≤ length P → (elemOf two kp krp left i P ≡ Refused Short → ⊥) →
+      elemOf two kp krp left (at + i) B ≡ later at (elemOf two kp krp left i P)
   unfolding elemOf
-  elem-moved two kp krp left n = go (ltb kp 8) two n
+  elem-moved two kp krp left i l n = go (ltb kp 8) two n
     where
       parts : Bool → Bool → ℕ → List Bool → Element
-      parts b two i L =
-          b ⇒ (two ⇒ twoElem kp krp left L (grOf (krp / 8) i L) ∣ oneElem kp krp (grOf (krp / 8) i L)) ∣
-          runElem kp krp left L (numOf 1 0 i (drop i L))
+      parts b two k L =
+          b ⇒ (two ⇒ twoElem kp krp left L (grOf (krp / 8) k L) ∣ oneElem kp krp (grOf (krp / 8) k L)) ∣
+          runElem kp krp left L (numOf 1 0 k (drop k L))
 
-      go : (b two : Bool) → (parts b two 0 P ≡ Refused Short → ⊥) → parts b two (at + 0) B ≡ later at (parts b two 0 P)
-      go true true n = two-moved kp krp left 0 (grOf (krp / 8) 0 P) (omega arith) refl n
-      go true false n = one-moved kp krp 0 (grOf (krp / 8) 0 P) (omega arith) refl n
-      go false two n = run-moved kp krp left 0 (numOf 1 0 0 (drop 0 P)) (omega arith) refl n
+      go : (b two : Bool) → (parts b two i P ≡ Refused Short → ⊥) → parts b two (at + i) B ≡ later at (parts b two i P)
+      go true true n = two-moved kp krp left i (grOf (krp / 8) i P) l refl n
+      go true false n = one-moved kp krp i (grOf (krp / 8) i P) l refl n
+      go false two n = run-moved kp krp left i (numOf 1 0 i (drop i P)) l refl n

@@ -1,6 +1,6 @@
 -- A turn by a word: an element that lies whole in the 57 bits at a place is the element at that place, and full runs are taken together.
 use Prim.Native.Nat.{ℕ, zero, suc, _+_, _-_, _/_, _^_, _≤_, _<_, min}
-use mathlib.Core.Path.{_≡_, refl, sym, ap, _∙_}
+use mathlib.Core.Path.{_≡_, refl, sym, ap, subst, _∙_}
 use mathlib.Core.Bool.{Bool, true, false}
 use mathlib.Core.List.{List, [], _∷_, _++_}
 use native.Mathlib.Omega.{arith}
@@ -10,100 +10,95 @@ use lib.Dec.{ltb}
 use lib.ListN.{length, drop, replicate, length-append, length-drop}
 use Rattle.whole.specs.Row.{_⇒_∣_}
 use Rattle.bits.specs.Bits.{numBits, numOf}
+use Rattle.bits.specs.Word.{frontZeros}
 use Rattle.bits.specs.laws.Bit.{length-numBits}
 use Rattle.bits.specs.laws.Here.{past, num-there}
+use Rattle.bits.specs.laws.Word.{front-stop, word-zeros}
 use Rattle.bits.specs.declared.Num.the-variants.{Got}
 use Rattle.code.specs.Code.{up}
-use Rattle.code.specs.ReadList.{st, elemOf}
-use Rattle.code.specs.Fill.{placedOf, storedOf, leapOf, Filling, Quickly}
-use Rattle.code.specs.laws.Filling.{at-j, at-s, filling-next, turn-next}
+use Rattle.code.specs.ReadList.{st, runElem, runFirst, elemOf}
+use Rattle.code.specs.Fill.{placedOf, storedOf, leapOf, onwardOf, Inside, Filling, Quickly, Turned, valueOf, Stored}
+use Rattle.code.specs.laws.Filling.{filling-next}
 use Rattle.code.specs.laws.Moved.{later, elem-moved}
 use Rattle.code.specs.laws.Taken.{Told, Took, elem-told}
-use Rattle.code.specs.laws.There.{elem-full}
+use Rattle.code.specs.laws.There.{bit-here, elem-full}
+use Rattle.code.specs.laws.Steps.{run-some, elem-high}
 use Rattle.code.specs.declared.element.State.{State}
 use Rattle.code.specs.declared.element.Refusal.{Refusal}
 use Rattle.code.specs.declared.element.Refusal.the-variants.{Cut as Short}
 use Rattle.code.specs.declared.element.Element.{Element}
 use Rattle.code.specs.declared.element.Element.the-variants.{Zeros, One, Two, Refused}
-use Rattle.code.specs.declared.read.Placed.{Placed}
-use Rattle.code.specs.declared.read.Placed.the-variants.{At, No}
 use Rattle.code.specs.declared.read.Quick.{Quick}
 use Rattle.code.specs.declared.read.Quick.the-variants.{At as Jump, Not}
 
 -- ---- an element of the word
 
+no-zeros : {z : ℕ} {s : State} {r : Refusal} → Zeros z s ≡ Refused r → ⊥
+no-zeros e = let z : _≡_ {A = ℕ} 0 1 = cc in absurd (omega arith)
+
+no-one : {z v : ℕ} {s : State} {r : Refusal} → One z v s ≡ Refused r → ⊥
+no-one e = let z : _≡_ {A = ℕ} 0 1 = cc in absurd (omega arith)
+
+no-two : {a b : ℕ} {s : State} {r : Refusal} → Two a b s ≡ Refused r → ⊥
+no-two e = let z : _≡_ {A = ℕ} 0 1 = cc in absurd (omega arith)
+
 -- an element read in some bits ends in them
-took-within : (two : Bool) (kp krp left : ℕ) (P : List Bool) (front : List ℕ) (s : State) → Took two kp krp left 0 P front s → s .at ≤ length P
-took-within two kp krp left P front s t =
-    let l : length P ≡ length (t .H) + length (drop (s .at) P) = ap length (t .bits) ∙ length-append (t .H) (drop (s .at) P) in
-    omega (arith, l, t .place, length-drop (s .at) P)
+took-within : (two : Bool) (kp krp left i : ℕ) (P : List Bool) (front : List ℕ) (s : State) → i ≤ length P → Took two kp krp left i P front s → s .at ≤ length P
+took-within two kp krp left i P front s h t =
+    let l : length (drop i P) ≡ length (t .H) + length (drop (s .at) P) = ap length (t .bits) ∙ length-append (t .H) (drop (s .at) P) in
+    omega (arith, l, t .place, length-drop i P, length-drop (s .at) P)
 
-module _ (n i : ℕ) (j : ℕ) (t : State) where
-  not-cut : (e : Element) → At j t ≡ placedOf n i e → e ≡ Refused Short → ⊥
-  not-cut e p q = let k : At j t ≡ No Short = rw q at p in let z : _≡_ {A = ℕ} 0 1 = cc in absurd (omega arith)
+-- what is stored of the element at place m of the word w ends in the word
+pub word-inside : (two : Bool) (kp krp n i m w : ℕ) (e : Element) → m ≤ 57 → i < n → e ≡ elemOf two kp krp (n - i) m (numBits 57 w) → Inside (placedOf n i e)
+word-inside two kp krp n i m w e l h q = go e (rw q (elem-told two kp krp (n - i) m (numBits 57 w) (omega arith)))
+  where
+    k : m ≤ length (numBits 57 w)
+    k = omega (arith, l, length-numBits 57 w)
 
-  placed-later : (at : ℕ) (e : Element) → At j t ≡ placedOf n i e → At j (st (at + t .at) (t .kp) (t .krp)) ≡ placedOf n i (later at e)
-  placed-later at (Refused r) p = let z : _≡_ {A = ℕ} 0 1 = cc in absurd (omega arith)
-  placed-later at (Zeros z s) p = rw (at-j p, at-s p)
-  placed-later at (One z v s) p = rw (at-j p, at-s p)
-  placed-later at (Two a b s) p = rw (at-j p, at-s p)
+    end : (front : List ℕ) (s : State) → Took two kp krp (n - i) m (numBits 57 w) front s → s .at ≤ 57
+    end front s t = omega (arith, took-within two kp krp (n - i) m (numBits 57 w) front s k t, length-numBits 57 w)
 
-  placed-within : (two : Bool) (kp krp : ℕ) (P : List Bool) (e : Element) → Told two kp krp (n - i) 0 P e → At j t ≡ placedOf n i e → t .at ≤ length P
-  placed-within two kp krp P (Refused r) w p = let z : _≡_ {A = ℕ} 0 1 = cc in absurd (omega arith)
-  placed-within two kp krp P (Zeros z s) w p = rw (at-s p) (took-within two kp krp (n - i) P _ s w)
-  placed-within two kp krp P (One z v s) w p = rw (at-s p) (took-within two kp krp (n - i) P _ s w)
-  placed-within two kp krp P (Two a b s) w p = rw (at-s p) (took-within two kp krp (n - i) P _ s w)
+    go : (e : Element) → Told two kp krp (n - i) m (numBits 57 w) e → Inside (placedOf n i e)
+    go (Refused r) t = tt
+    go (Zeros z s) t = end _ s t
+    go (One z v s) t = end _ s t
+    go (Two a b s) t = end _ s t
 
-stored-later : (out : List ℤ) (i at : ℕ) (e : Element) → storedOf out i e ≡ storedOf out i (later at e)
-stored-later out i at (Refused r) = refl
-stored-later out i at (Zeros z s) = refl
-stored-later out i at (One z v s) = refl
-stored-later out i at (Two a b s) = refl
+-- the element at place m of the word w, which stands at place `at`: storing it fills the list on, or it is refused and the list stays
+pub word-quick : (two : Bool) (B : List Bool) (out : List ℤ) (c : State) (i at m w : ℕ) (e : Element) → Got w (at + 57) ≡ numOf 57 0 at (drop at B) →
+    m ≤ 57 → c .at ≡ at + m → Filling two (length out) B out c i → i < length out → e ≡ elemOf two (c .kp) (c .krp) (length out - i) m (numBits 57 w) →
+    Quickly two B i out (storedOf out i e) (onwardOf at (placedOf (length out) i e))
+word-quick two B out c i at m w e l hm ec f h q = go e q
+  where
+    moved : (e : Element) → e ≡ elemOf two (c .kp) (c .krp) (length out - i) m (numBits 57 w) → (e ≡ Refused Short → ⊥) →
+        later at e ≡ elemOf two (c .kp) (c .krp) (length out - i) (c .at) B
+    moved e q n =
+        let d = num-there 57 at B w (at + 57) (sym l) .2 in
+        let k : m ≤ length (numBits 57 w) = omega (arith, hm, length-numBits 57 w) in
+        ap (λ (x : Element). later at x) q
+        ∙ sym (elem-moved at (numBits 57 w) (drop (at + 57) B) B d two (c .kp) (c .krp) (length out - i) m k (λ x. n (q ∙ x)))
+        ∙ ap (λ (x : ℕ). elemOf two (c .kp) (c .krp) (length out - i) x B) (sym ec)
 
-stored-no : (out : List ℤ) (n i : ℕ) (e : Element) (k : Refusal) → No k ≡ placedOf n i e → storedOf out i e ≡ out
-stored-no out n i (Refused r) k p = refl
-stored-no out n i (Zeros z s) k p = let z : _≡_ {A = ℕ} 0 1 = cc in absurd (omega arith)
-stored-no out n i (One z v s) k p = let z : _≡_ {A = ℕ} 0 1 = cc in absurd (omega arith)
-stored-no out n i (Two a b s) k p = let z : _≡_ {A = ℕ} 0 1 = cc in absurd (omega arith)
+    go : (e : Element) → e ≡ elemOf two (c .kp) (c .krp) (length out - i) m (numBits 57 w) →
+        Quickly two B i out (storedOf out i e) (onwardOf at (placedOf (length out) i e))
+    go (Refused r) q = refl
+    go (Zeros z s) q = filling-next two (length out) B out c i f h (later at (Zeros z s)) (moved (Zeros z s) q (λ x. no-zeros x)) _ _ refl
+    go (One z v s) q = filling-next two (length out) B out c i f h (later at (One z v s)) (moved (One z v s) q (λ x. no-one x)) _ _ refl
+    go (Two a b s) q = filling-next two (length out) B out c i f h (later at (Two a b s)) (moved (Two a b s) q (λ x. no-two x)) _ _ refl
 
--- a turn by the word w: the element e is read in it, r is what storing it found, and the list is `new` then
-pub record ByWord (two : Bool) (c : State) (w : ℕ) (out new : List ℤ) (i : ℕ) (e : Element) (r : Placed) : Type 0 where
-  pub room : i < length out
-  pub read : e ≡ elemOf two (c .kp) (c .krp) (length out - i) 0 (numBits 57 w)
-  pub found : r ≡ placedOf (length out) i e
-  pub left : new ≡ storedOf out i e
-
-module _ (two : Bool) (c : State) (w : ℕ) (out new : List ℤ) (i : ℕ) (e : Element) (r : Placed) (b : ByWord two c w out new i e r) where
-  pub quick-no : (k : Refusal) → r ≡ No k → new ≡ out
-  quick-no k g = b .left ∙ stored-no out (length out) i e k (sym g ∙ b .found)
-
-  pub quick-within : (j : ℕ) (t : State) → r ≡ At j t → t .at ≤ 57
-  quick-within j t g =
-      let m = elem-told two (c .kp) (c .krp) (length out - i) 0 (numBits 57 w) (omega (arith, b .room)) in
-      let l = placed-within (length out) i j t two (c .kp) (c .krp) (numBits 57 w) e (rw (b .read) m) (sym g ∙ b .found) in
-      omega (arith, l, length-numBits 57 w)
-
-  -- the element in the word is the one at its place
-  quick-at : (B : List Bool) → Got w (c .at + 57) ≡ numOf 57 0 (c .at) (drop (c .at) B) → (j : ℕ) (t : State) → r ≡ At j t →
-      elemOf two (c .kp) (c .krp) (length out - i) (c .at) B ≡ later (c .at) e
-  quick-at B l j t g =
-      let d = num-there 57 (c .at) B w (c .at + 57) (sym l) .2 in
-      let z : c .at + 0 ≡ c .at = omega arith in
-      ap (λ (x : ℕ). elemOf two (c .kp) (c .krp) (length out - i) x B) (sym z)
-      ∙ elem-moved (c .at) (numBits 57 w) (drop (c .at + 57) B) B d two (c .kp) (c .krp) (length out - i)
-      (λ x. not-cut (length out) i j t e (sym g ∙ b .found) (b .read ∙ x))
-      ∙ ap (λ (x : Element). later (c .at) x) (sym (b .read))
-
-  pub quick-filled : (B : List Bool) → Got w (c .at + 57) ≡ numOf 57 0 (c .at) (drop (c .at) B) → Filling two (length out) B out c i →
-      (j : ℕ) (t : State) → r ≡ At j t → Filling two (length out) B new (st (c .at + t .at) (t .kp) (t .krp)) j × (i < j)
-  quick-filled B l f j t g =
-      let m = quick-at B l j t g in
-      let s = st (c .at + t .at) (t .kp) (t .krp) in
-      let x = elemOf two (c .kp) (c .krp) (length out - i) (c .at) B in
-      let p : At j s ≡ placedOf (length out) i x = rw m (placed-later (length out) i j t (c .at) e (sym g ∙ b .found)) in
-      turn-next two (length out) B out new c i x (At j s) f (b .room) refl p j s (rw m (b .left ∙ stored-later out i (c .at) e)) refl
+-- a run's value behind the zeros that a word begins with
+pub value-is : (w m kp krp left : ℕ) → m ≡ frontZeros (numBits 57 w) → m < 57 →
+    runElem kp krp left (numBits 57 w) (numOf 1 0 m (drop m (numBits 57 w))) ≡
+    runFirst kp krp left (numBits 57 w) (numOf (kp / 8) 0 (m + 1) (drop (m + 1) (numBits 57 w)))
+value-is w m kp krp left z h =
+    let d = front-stop (numBits 57 w) m z (omega (arith, h, length-numBits 57 w)) in
+    run-some kp krp left (numBits 57 w) _ 1 (m + 1) (bit-here m (numBits 57 w) true (drop (m + 1) (numBits 57 w)) d .0) (λ x. absurd (omega arith))
 
 -- ---- full runs taken together
+
+pos-of : (m : ℕ) → (m ≡ 0 → ⊥) → 0 < m
+pos-of zero h = absurd (h refl)
+pos-of (suc m) h = omega arith
 
 jump-j : {j k : ℕ} {s t : State} → Jump j s ≡ Jump k t → j ≡ k
 jump-j e = cc
@@ -145,6 +140,24 @@ module _ (two : Bool) (n : ℕ) (B : List Bool) where
       go ih false e q =
           let h : n ≤ i = ltb-false i n e in
           (rw (← jump-j q, ← jump-s q) w, omega (arith, jump-j q), λ z l. absurd (omega arith))
+
+-- where full runs lead: still in run mode, and all m are taken unless the list is full
+leap-state : (m n i : ℕ) (c : State) (j : ℕ) (t : State) → leapOf m n i c ≡ Jump j t → 8 ≤ c .kp → c .kp ≤ 80 → c .krp ≤ 80 →
+    (8 ≤ t .kp) × (t .kp ≤ 80) × (t .krp ≤ 80) × (j < n → t .at ≡ c .at + m)
+unfolding leapOf
+leap-state zero n i c j t p h l k =
+    rw (← jump-s p) (h, l, k, λ x. omega arith)
+leap-state (suc m) n i c j t p h l k = go (ltb i n) refl p (λ q. leap-state m n (behind n i c) (after c) j t q (omega arith) (omega arith) k)
+  where
+    go : (b : Bool) → ltb i n ≡ b → (b ⇒ leapOf m n (behind n i c) (after c) ∣ Jump i c) ≡ Jump j t →
+        (leapOf m n (behind n i c) (after c) ≡ Jump j t → (8 ≤ t .kp) × (t .kp ≤ 80) × (t .krp ≤ 80) × (j < n → t .at ≡ c .at + 1 + m)) →
+        (8 ≤ t .kp) × (t .kp ≤ 80) × (t .krp ≤ 80) × (j < n → t .at ≡ c .at + suc m)
+    go true e q ih = let r = ih q in (r .0, r .1, r .2, λ x. omega (arith, r .3 x))
+    go false e q ih =
+        let g : n ≤ i = ltb-false i n e in
+        let s = jump-s q in
+        let d = jump-j q in
+        rw (← s) (h, l, k, λ x. absurd (omega (arith, d)))
 
 leap-is : (m n i : ℕ) (c : State) → (j : ℕ) × (t : State) × (leapOf m n i c ≡ Jump j t)
 unfolding leapOf
@@ -191,22 +204,76 @@ module _ (n i m at krp first kp j k : ℕ) (w : Leaping n i m at krp first kp j 
   pub leap-done : (k < m → n ≤ j) → Jump j (st (at + k) kp krp) ≡ leapOf m n i (st at first krp)
   leap-done h = sym (leap-end (m - k) n j (st (at + k) kp krp) (λ p. h (omega arith))) ∙ w .same
 
+-- ---- a turn in run mode
+
+-- w is the word at c, m the zeros that it begins with, and the runs lead to j and t
+pub record Led (B : List Bool) (c : State) (out : List ℤ) (i w m j : ℕ) (t : State) : Type 0 where
+  pub word : Got w (c .at + 57) ≡ numOf 57 0 (c .at) (drop (c .at) B)
+  pub zeros : m ≡ frontZeros (numBits 57 w)
+  pub runs : leapOf m (length out) i c ≡ Jump j t
+  pub room : i < length out
+  pub high : 8 ≤ c .kp
+  pub kps : c .kp ≤ 80
+  pub krs : c .krp ≤ 80
+
+module _ (B : List Bool) (c : State) (out : List ℤ) (i w m j : ℕ) (t : State) (l : Led B c out i w m j t) where
+  pub led-state : (8 ≤ t .kp) × (t .kp ≤ 80) × (t .krp ≤ 80) × (j < length out → t .at ≡ c .at + m)
+  led-state = leap-state m (length out) i c j t (l .runs) (l .high) (l .kps) (l .krs)
+
+  led-fills : (two : Bool) → Filling two (length out) B out c i → Leapt two (length out) B m out i j t
+  led-fills two f =
+      let z = frontZeros (numBits 57 w) in
+      let rest = drop z (numBits 57 w) ++ drop (c .at + 57) B in
+      let d : drop (c .at) B ≡ replicate m false ++ rest = word-zeros w (c .at) B (l .word) ∙ ap (λ (x : ℕ). replicate x false ++ rest) (sym (l .zeros)) in
+      leap-fills two (length out) B m out c i rest f (l .high) d j t (l .runs)
+
+  led-none : m ≡ 0 → i ≡ j
+  unfolding leapOf
+  led-none z = jump-j (sym (ap (λ (x : ℕ). leapOf x (length out) i c) z) ∙ l .runs)
+
+  -- the runs alone, where there are any
+  pub led-some : 0 < m → (new : List ℤ) → new ≡ out → Turned B c i out new (Jump j t)
+  led-some p new e two f = let r = led-fills two f in rw e (r .0, r .2 p (l .room))
+
+  -- the list is full
+  pub led-full : length out ≤ j → Turned B c i out out (Jump j t)
+  led-full h = led-some (pos-of m (λ z. absurd (omega (arith, led-none z, l .room)))) out refl
+
+  -- the value behind them
+  pub led-value : j < length out → m < 57 → (new : List ℤ) (r : Quick) → Stored w m (c .at) t j out new r → (k : ℕ) (u : State) → r ≡ Jump k u →
+      Turned B c i out new (Jump k u)
+  led-value h hm new r v k u g two f =
+      let a = led-fills two f in
+      let s = led-state in
+      let e = valueOf w m t (length out - j) in
+      let q : e ≡ elemOf two (t .kp) (t .krp) (length out - j) m (numBits 57 w) =
+      sym (elem-high two (t .kp) (t .krp) (length out - j) m (numBits 57 w) (s .0)) in
+      let y = word-quick two B out t j (c .at) m w e (l .word) (omega arith) (s .3 h) (a .0) h q in
+      let y′ : Quickly two B j out new (onwardOf (c .at) (placedOf (length out) j e)) = rw (v .1) y in
+      let z : Quickly two B j out new (Jump k u) = subst (λ (x : Quick). Quickly two B j out new x) (sym (v .0) ∙ g) y′ in
+      (z .0, omega (arith, z .1, a .1))
+
+  pub led-not : m < 57 → (new : List ℤ) (r : Quick) → Stored w m (c .at) t j out new r → r ≡ Not → new ≡ out
+  led-not hm new r v g = v .1 ∙ stays (valueOf w m t (length out - j)) (sym (v .0) ∙ g)
+    where
+      stays : (e : Element) → onwardOf (c .at) (placedOf (length out) j e) ≡ Not → storedOf out j e ≡ out
+      stays (Refused x) p = refl
+      stays (Zeros z s) p = let z : _≡_ {A = ℕ} 0 1 = cc in absurd (omega arith)
+      stays (One z v s) p = let z : _≡_ {A = ℕ} 0 1 = cc in absurd (omega arith)
+      stays (Two a b s) p = let z : _≡_ {A = ℕ} 0 1 = cc in absurd (omega arith)
+
 -- ---- a turn by a word, for the loop
 
-module _ (two : Bool) (B : List Bool) (out : List ℤ) (c : State) (i : ℕ) where
-  pub leap-quick : (m : ℕ) (rest : List Bool) → Filling two (length out) B out c i → i < length out → 8 ≤ c .kp → 0 < m →
-      drop (c .at) B ≡ replicate m false ++ rest → Quickly two B i out out (leapOf m (length out) i c)
-  leap-quick m rest w h h8 p d =
-      let l = leap-is m (length out) i c in
-      let r = leap-fills two (length out) B m out c i rest w h8 d (l .0) (l .1) (l .2) in
-      rw (l .2) (r .0, r .2 p h)
+module _ (two : Bool) (B : List Bool) (out : List ℤ) (c : State) (i : ℕ) (n : ℕ) (new : List ℤ) (r : Quick) (w : Filling two n B out c i)
+    (q : Quickly two B i out new r) where
+  pub quick-next : (j : ℕ) (s : State) → r ≡ Jump j s → Filling two n B new s j × (i < j)
+  quick-next j s g =
+      let k : Quickly two B i out new (Jump j s) = rw g at q in
+      let e : n ≡ length out = sym (w .clear .len) in
+      rw e k
 
-  module _ (n : ℕ) (new : List ℤ) (r : Quick) (w : Filling two n B out c i) (q : Quickly two B i out new r) where
-    pub quick-next : (j : ℕ) (s : State) → r ≡ Jump j s → Filling two n B new s j × (i < j)
-    quick-next j s g = let k : Quickly two B i out new (Jump j s) = rw g at q in let e : n ≡ length out = sym (w .clear .len) in rw e k
-
-    pub quick-same : r ≡ Not → Filling two n B new c i
-    quick-same g = let k : Quickly two B i out new Not = rw g at q in rw k w
+  pub quick-same : r ≡ Not → Filling two n B new c i
+  quick-same g = let k : Quickly two B i out new Not = rw g at q in rw k w
 
 -- the list's length stands for n
 pub filling-long : (two : Bool) (n : ℕ) (B : List Bool) (out : List ℤ) (c : State) (i : ℕ) → Filling two n B out c i → Filling two (length out) B out c i

@@ -1,20 +1,13 @@
--- `code::read::quick_turn` meets its contract: no word there, full runs together, or the word's element, which is the one at its place. Assumes nothing.
+-- `code::read::quick_turn` meets its contract: no word there, or a turn of one of the three kinds. Assumes nothing.
 use native.Mathlib.Omega.{arith}
-use lib.ListN.{length}
-use Rattle.bits.specs.Bits.{bitsOf, numBits}
-use Rattle.bits.specs.laws.Word.{word-small, word-zeros, zeros-few}
-use Rattle.code.specs.laws.Filling.{elem-fine}
-use Rattle.code.specs.laws.Quick.{leap-quick, quick-no, quick-within, quick-filled}
 use borrow.Author.Needs.{needs}
 use Rattle.code.proofs.read.quick_turn.Statement.{statement}
 use Rattle.code.proofs.read.quick_turn.Tie as tie
 use Rattle.code.proofs.read.quick_turn.Reads as reads
 use Rattle.code.proofs.read.quick_turn.Lts as lts
-use Rattle.bits.proofs.word.look.Reads as look-reads
-use Rattle.bits.proofs.word.zeros_in.Reads as zeros-in-reads
-use Rattle.code.proofs.word.element_in.Reads as element-in-reads
-use Rattle.code.proofs.read.full_runs.Reads as full-runs-reads
-use Rattle.code.proofs.read.place.Reads as place-reads
+use Rattle.code.proofs.read.quick_pair.Reads as quick-pair-reads
+use Rattle.code.proofs.read.quick_run.Reads as quick-run-reads
+use Rattle.code.proofs.read.quick_single.Reads as quick-single-reads
 
 returns : tie.Need-returns
 returns c = search needs
@@ -25,91 +18,46 @@ sub-if2 c = search needs
 returns-2 : tie.Need-returns-2
 returns-2 c = search needs
 
-look-requires : tie.Need-look-requires
-look-requires c κs = search needs
-
-zeros-in-requires : tie.Need-zeros-in-requires
-zeros-in-requires c κs =
-    let a = c .before .before .before .before .before .args in
-    word-small _ (a .c .at) (bitsOf (a .s .now)) (c .before .look .ensures)
-
-full-runs-requires : tie.Need-full-runs-requires
-full-runs-requires c κs =
-    let t = c .before .before .before .before in
-    let s = t .before .before .before in (
-      s .pre .1,
-      omega (arith, s .pre .2),
-      s .pre .3 .kps,
-      omega (arith, t .if2 .left, t .before .if1 .left, s .pre .0),
-      zeros-few _ _ (c .before .zeros-in .ensures),
-    )
-
-returns-3 : tie.Need-returns-3
-returns-3 c =
-    let t = c .before .before .before .before in
-    let s = t .before .before .before .before in
-    let a = s .args in
-    let z = c .before .before .zeros-in in
-    rw (c .full-runs .ensures, z .ensures)
-    (leap-quick (a .two) (bitsOf (a .s .now)) (a .list .now) (a .c) (a .i) _ _ (s .pre .3) (s .pre .2) (c .before .before .before .if3 .taken)
-    (rw (z .ensures) at (c .before .if4 .taken)) (word-zeros _ (a .c .at) (bitsOf (a .s .now)) (t .look .ensures)))
-
-sub-element-in : tie.Need-sub-element-in
-sub-element-in c = search needs
-
-element-in-requires : tie.Need-element-in-requires
-element-in-requires c κs = let f = c .before .before .before .before .before .pre .3 in (omega arith, f .kps, f .krs)
-
-place-requires : tie.Need-place-requires
-place-requires c κs =
-    let l = c .before .before .before in
-    let s = l .before .before .before .before in
-    let a = s .args in
-    let f = elem-fine (a .two) (a .c .kp) (a .c .krp) (length (a .list .now)) (a .i) 0 (numBits 57 (l .look .result)) (s .pre .2) in
-    (s .pre .1, s .pre .2, rw (c .before .element-in .ensures) f)
-
-enum-known-r : tie.Need-enum-known-r
-enum-known-r c = search needs
-
-enum-known-j : tie.Need-enum-known-j
-enum-known-j c = search needs
-
-add-t29 : tie.Need-add-t29
-add-t29 c =
-    let p = c .before .before .before .before in
-    let l = p .before .before .before .before in
-    let s = l .before .before .before .before in
-    let a = s .args in
-    let w = quick-within (a .two) (a .c) (l .look .result) (a .list .now) _ (a .i) _ _
-    (record { room = s .pre .2; read = p .before .before .element-in .ensures; found = p .place .ensures .0; left = p .place .ensures .1 })
-    _ _ (c .before .j .given .1) in
-    record { fits = omega (arith, w, l .before .if2 .left, l .before .before .if1 .left, s .pre .0) }
+quick-run-requires : tie.Need-quick-run-requires
+quick-run-requires c κs = search needs
 
 same-length : tie.Need-same-length
 same-length c = search needs
 
-returns-4 : tie.Need-returns-4
-returns-4 c =
-    let p = c .before .before .before .before in
-    let l = p .before .before .before .before in
-    let s = l .before .before .before .before in
-    let a = s .args in
-    quick-no (a .two) (a .c) (l .look .result) (a .list .now) _ (a .i) _ _
-    (record { room = s .pre .2; read = p .before .before .element-in .ensures; found = p .place .ensures .0; left = p .place .ensures .1 })
-    _ (c .before .r .given .1)
+returns-3 : tie.Need-returns-3
+returns-3 c =
+    let s = c .before .before .before .before .before .before .before in
+    c .before .quick-run .ensures (s .args .two) (s .pre .3)
+
+quick-pair-requires : tie.Need-quick-pair-requires
+quick-pair-requires c κs =
+    let t = c .before in
+    let s = t .before .before .before .before .before in (
+      (s .pre .0, s .pre .1, s .pre .2, rw (t .if4 .taken) at (s .pre .3)),
+      omega (arith, t .before .if3 .left),
+      omega (arith, t .before .before .if2 .left, t .before .before .before .if1 .left),
+    )
 
 same-length-2 : tie.Need-same-length-2
 same-length-2 c = search needs
 
+returns-4 : tie.Need-returns-4
+returns-4 c = rw (c .before .before .before .if4 .taken) (c .before .quick-pair .ensures)
+
+quick-single-requires : tie.Need-quick-single-requires
+quick-single-requires c κs =
+    let t = c .before in
+    let s = t .before .before .before .before .before in (
+      (s .pre .0, s .pre .1, s .pre .2, rw (t .if4 .left) at (s .pre .3)),
+      omega (arith, t .before .if3 .left),
+      omega (arith, t .before .before .if2 .left, t .before .before .before .if1 .left),
+    )
+
+same-length-3 : tie.Need-same-length-3
+same-length-3 c = search needs
+
 returns-5 : tie.Need-returns-5
-returns-5 c =
-    let p = c .before .before .before .before in
-    let l = p .before .before .before .before in
-    let s = l .before .before .before .before in
-    let a = s .args in
-    quick-filled (a .two) (a .c) (l .look .result) (a .list .now) _ (a .i) _ _
-    (record { room = s .pre .2; read = p .before .before .element-in .ensures; found = p .place .ensures .0; left = p .place .ensures .1 })
-    (bitsOf (a .s .now)) (l .look .ensures) (s .pre .3) _ _ (c .before .j .given .1)
+returns-5 c = rw (c .before .before .before .if4 .left) (c .before .quick-single .ensures)
 
 pub quick-turn-spec : {M : Type 1} → statement M
 quick-turn-spec =
@@ -118,17 +66,12 @@ quick-turn-spec =
     returns
     sub-if2
     returns-2
-    look-requires
-    zeros-in-requires
-    full-runs-requires
-    returns-3
-    sub-element-in
-    element-in-requires
-    place-requires
-    enum-known-r
-    enum-known-j
-    add-t29
+    quick-run-requires
     same-length
-    returns-4
+    returns-3
+    quick-pair-requires
     same-length-2
+    returns-4
+    quick-single-requires
+    same-length-3
     returns-5)
