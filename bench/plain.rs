@@ -265,7 +265,7 @@ pub fn write_component(mode: u8, list: &[i32]) -> Vec<u8> {
     while i < list.len() {
         let k = a.kp / 8;
         if k > 0 {
-            let zeros = list[i..].iter().take_while(|&&x| x == 0).count();
+            let zeros = list[i..].iter().take(1 << k).take_while(|&&x| x == 0).count();
             if zeros >= 1 << k || i + zeros == list.len() {
                 p.put(1, 0);
                 i += 1 << k;

@@ -1,4 +1,5 @@
 pub mod Bits
 pub mod Bytes
 pub mod Pen
+pub mod Word
 pub mod laws

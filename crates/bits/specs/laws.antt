@@ -1,3 +1,4 @@
+pub mod Ahead
 pub mod Bit
 pub mod Bytes
 pub mod Gr
@@ -5,3 +6,4 @@ pub mod Here
 pub mod Lead
 pub mod Pen
 pub mod PenOnce
+pub mod Word

@@ -1,5 +1,6 @@
 // Bits of document 01's "The component code": "Bits go high bit first." Reading a bit, a run of ones, a number of n bits and a GR
-// number at a place, and writing them with a pen. Each contract is one equation with a definition of specs/Bits or a record of specs/Pen.
+// number at a place, and writing them with a pen; the same readings of 57 bits at once stand in `word` (document 02, request Ten).
+// Each contract is one equation with a definition of specs/Bits or a record of specs/Pen.
 ghost use mathlib.Core.Path.{_≡_};
 ghost use Prim.Native.Nat.{_+_, _*_, _<_, _≤_};
 ghost use lib.ListN.{length, getD, drop, replicate};
@@ -8,6 +9,8 @@ ghost use mathlib.Core.List.{_∷_, []};
 ghost use Rattle.bits.specs.Bits.{odd, val, bitsOf, numBits, grBits, onesOf, numOf, grOf};
 ghost use Rattle.bits.specs.Pen.{Ready, Put, Closed};
 ghost use Rattle.bits.specs.laws.Gr.{grLen};
+
+pub mod word;
 
 // What reading a number finds: the number and the place of the bit past it, or too few bits.
 pub enum Num {
@@ -20,14 +23,6 @@ pub struct Pen {
     pub at: usize,
     pub acc: usize,
     pub n: usize,
-}
-
-// The bit at place `at`.
-pub fn bit(s: &[u8], at: usize) -> bool
-    requires { ⌜ at < 8 * length (now s) ⌝ }
-    ensures { λ r. ⌜ r ≡ getD (bitsOf (now (s .entry))) at false ⌝ }
-{
-    (s[at / 8] >> (7 - at % 8)) % 2 == 1
 }
 
 // The bit at place `at`, as a number.
@@ -46,11 +41,17 @@ pub fn ones(s: &[u8], from: usize) -> Num
     let mut v: usize = 0;
     let mut at = from;
     while at < s.len() * 8 {
-        if bit(s, at) {
-            v += 1;
-            at += 1;
-        } else {
-            return Num::Got(v, at + 1);
+        match word::ones_in(word::ahead(s, at), 0) {
+            Num::Cut => {
+                v += 57;
+                at += 57;
+            }
+            Num::Got(m, next) => {
+                if s.len() * 8 - at <= m {
+                    return Num::Cut;
+                }
+                return Num::Got(v + m, at + m + 1);
+            }
         }
     }
     Num::Cut
@@ -61,18 +62,17 @@ pub fn number(s: &[u8], from: usize, k: usize) -> Num
     requires { ⌜ (length (now s) ≤ 65535) × (k ≤ 32) ⌝ }
     ensures { λ r. ⌜ r ≡ numOf k 0 from (drop from (bitsOf (now (s .entry)))) ⌝ }
 {
-    let mut n: usize = 0;
-    let mut at = from;
-    let mut left = k;
-    while 0 < left {
-        if s.len() * 8 <= at {
-            return Num::Cut;
-        }
-        n = n * 2 + digit(s, at);
-        at += 1;
-        left -= 1;
+    if k == 0 {
+        return Num::Got(0, from);
     }
-    Num::Got(n, at)
+    if s.len() * 8 < k {
+        return Num::Cut;
+    }
+    if s.len() * 8 - k < from {
+        return Num::Cut;
+    }
+    let n = word::ahead(s, from) >> (57 - k);
+    Num::Got(n as usize, from + k)
 }
 
 // A GR number: v ones, a zero, k bits b; it is v * 2^k + b.

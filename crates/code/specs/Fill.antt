@@ -1,19 +1,26 @@
--- Filling a list from a code, element by element: what is stored, and what is left.
-use Prim.Native.Nat.{ℕ, _+_, _≤_, _<_, min}
+-- Filling a list from a code, element by element: what is stored, and what is left; and what a turn by a word does.
+use Prim.Native.Nat.{ℕ, zero, suc, _+_, _-_, _/_, _^_, _≤_, _<_, min}
 use mathlib.Core.Path.{_≡_}
+use mathlib.Core.Bool.{Bool}
 use mathlib.Core.List.{List, map}
-use lib.IntN.{ℤ}
-use lib.ListN.{length, set}
+use lib.IntN.{ℤ, pos}
+use lib.ListN.{length, take, drop, set, replicate}
 use lib.Dec.{ltb}
 use Rattle.whole.specs.Row.{_⇒_∣_}
-use Rattle.code.specs.ReadList.{Walked, whole, bad}
+use Rattle.bits.specs.Bits.{bitsOf, numBits, numOf}
+use Rattle.bits.specs.Word.{frontZeros}
+use Rattle.code.specs.Code.{up}
+use Rattle.code.specs.ReadList.{st, runElem, Walked, whole, bad, walk, readList}
+use Rattle.code.specs.declared.element.State.{State}
 use Rattle.code.specs.declared.element.Element.{Element}
 use Rattle.code.specs.declared.element.Element.the-variants.{Zeros, One, Two, Refused}
-use Rattle.code.specs.Fold.{unfoldZ}
+use Rattle.code.specs.Fold.{foldZ, unfoldZ}
 use Rattle.code.specs.declared.read.Filled.{Filled}
 use Rattle.code.specs.declared.read.Filled.the-variants.{Whole, Bad}
 use Rattle.code.specs.declared.read.Placed.{Placed}
 use Rattle.code.specs.declared.read.Placed.the-variants.{At, No}
+use Rattle.code.specs.declared.read.Quick.{Quick}
+use Rattle.code.specs.declared.read.Quick.the-variants.{At as Jump, Not}
 
 abbrev pub Fills : Walked → List ℤ → Filled → Type 0
 Fills (whole xs at) out r = (out ≡ map unfoldZ xs) × (r ≡ Whole at)
@@ -37,3 +44,81 @@ storedOf out i (Refused r) = out
 storedOf out i (Zeros z s) = out
 storedOf out i (One z v s) = set out (i + z) (unfoldZ v)
 storedOf out i (Two a b s) = ltb (i + 1) (length out) ⇒ set (set out i (unfoldZ a)) (i + 1) (unfoldZ b) ∣ set out i (unfoldZ a)
+
+-- ---- a list that is being filled
+
+-- n places, of which those from i on hold zeros
+pub record Clear (n : ℕ) (out : List ℤ) (i : ℕ) : Type 0 where
+  pub room : i ≤ n
+  pub len : length out ≡ n
+  pub zeros : drop i out ≡ replicate (n - i) (pos 0)
+
+-- the first i places of n are filled, and the rest of the list is what is read of B from the state c on; f bounds the elements still to come
+pub record Filling (two : Bool) (n : ℕ) (B : List Bool) (out : List ℤ) (c : State) (i : ℕ) : Type 0 where
+  pub f : ℕ
+  pub clear : Clear n out i
+  pub fuel : n - i ≤ f
+  pub kps : c .kp ≤ 80
+  pub krs : c .krp ≤ 80
+  pub same : walk f two (c .kp) (c .krp) (c .at) (n - i) (map foldZ (take i out)) B ≡ readList two n B
+
+-- a list with a place left, which is being filled from the bytes s
+abbrev pub Open : Bool → List ℕ → List ℤ → State → ℕ → Type 0
+Open two s out c i = (length s ≤ 65535) × (length out ≤ 4096) × (i < length out) × Filling two (length out) (bitsOf s) out c i
+
+-- ---- a turn by a word
+
+-- as many of m full runs, from the state c on, as there are places for among n from place i on: "each bit 0 is 2^k zeros, then kp + 4"
+unfoldable pub leapOf : ℕ → ℕ → ℕ → State → Quick
+unfolding _⇒_∣_
+leapOf zero n i c = Jump i c
+leapOf (suc m) n i c = ltb i n ⇒ leapOf m n (min n (i + 2 ^ (c .kp / 8))) (st (c .at + 1) (up 4 (c .kp)) (c .krp)) ∣ Jump i c
+
+-- what storing found, its state's place counted from `at` on
+abbrev pub onwardOf : ℕ → Placed → Quick
+onwardOf at (No r) = Not
+onwardOf at (At j t) = Jump j (st (at + t .at) (t .kp) (t .krp))
+
+-- its state's place lies in the word, or behind it
+abbrev pub Inside : Placed → Type 0
+Inside (No r) = Unit {0}
+Inside (At j t) = t .at ≤ 57
+
+-- the list was filled on, or it stays
+abbrev pub Quickly : Bool → List Bool → ℕ → List ℤ → List ℤ → Quick → Type 0
+Quickly two B i out new Not = new ≡ out
+Quickly two B i out new (Jump j t) = Filling two (length out) B new t j × (i < j)
+
+-- the same in whichever mode it is being filled
+abbrev pub Turned : List Bool → State → ℕ → List ℤ → List ℤ → Quick → Type 0
+Turned B c i out new r = (two : Bool) → Filling two (length out) B out c i → Quickly two B i out new r
+
+-- a list with a place left, and a state in run mode with a word behind it
+pub record Running (s : List ℕ) (out : List ℤ) (c : State) (i : ℕ) : Type 0 where
+  pub small : length s ≤ 65535
+  pub places : length out ≤ 4096
+  pub room : i < length out
+  pub high : 8 ≤ c .kp
+  pub kps : c .kp ≤ 80
+  pub krs : c .krp ≤ 80
+  pub word : c .at / 8 + 8 ≤ length s
+
+-- a list with a place left, and the state t before a run's value whose 1 stands behind the m zeros that w begins with
+pub record Valued (w m at : ℕ) (t : State) (out : List ℤ) (j : ℕ) : Type 0 where
+  pub zeros : m ≡ frontZeros (numBits 57 w)
+  pub inside : m < 57
+  pub place : at ≤ 524280
+  pub high : 8 ≤ t .kp
+  pub kps : t .kp ≤ 80
+  pub krs : t .krp ≤ 80
+  pub places : length out ≤ 4096
+  pub room : j < length out
+
+-- the value's element in w
+abbrev pub valueOf : ℕ → ℕ → State → ℕ → Element
+valueOf w m t left = runElem (t .kp) (t .krp) left (numBits 57 w) (numOf 1 0 m (drop m (numBits 57 w)))
+
+-- it is stored, and its state's place is counted from `at` on
+abbrev pub Stored : ℕ → ℕ → ℕ → State → ℕ → List ℤ → List ℤ → Quick → Type 0
+Stored w m at t j out new r =
+    (r ≡ onwardOf at (placedOf (length out) j (valueOf w m t (length out - j)))) × (new ≡ storedOf out j (valueOf w m t (length out - j)))

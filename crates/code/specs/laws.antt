@@ -3,9 +3,11 @@ pub mod Code
 pub mod Filling
 pub mod Fold
 pub mod List
+pub mod Moved
 pub mod Numbers
 pub mod OneCode
 pub mod Place
+pub mod Quick
 pub mod Read
 pub mod Steps
 pub mod Taken

@@ -5,6 +5,7 @@ ghost use Prim.Native.Nat.{_+_, _*_, _-_, _/_, _<_, _≤_};
 ghost use lib.ListN.{length, drop};
 ghost use lib.Signed.{mag};
 ghost use Rattle.bits.specs.Bits.{bitsOf, grOf, numOf};
+ghost use Rattle.bits.specs.declared.Num.the-variants.{Got};
 ghost use Rattle.code.specs.Fold.{foldZ, unfoldZ};
 ghost use Rattle.code.specs.Code.{krAfter, kpOne, kpTwo, up, size};
 ghost use Rattle.code.specs.ReadList.{refusalNumber, oneElem, twoElem, judgeTwo, judgeRun, runFirst, runElem, elemOf};
@@ -126,32 +127,39 @@ pub fn kp_two(kp: usize, a: usize, b: usize) -> usize
     }
 }
 
+// A single value judged: the GR number g.
+pub fn judge_one(c: State, g: usize, next: usize) -> Element
+    requires { ⌜ (c .kp ≤ 80) × (c .krp ≤ 80) ⌝ }
+    ensures { λ r. ⌜ r ≡ oneElem (c .kp) (c .krp) (Got g next) ⌝ }
+{
+    let kp = c.kp;
+    let krp = c.krp;
+    if 65534 < g {
+        return Element::Refused(Refusal::Range);
+    }
+    let kq = kp_one(kp, g);
+    let kr = kr_after(krp, g);
+    Element::One(
+        0,
+        g,
+        State {
+            at: next,
+            kp: kq,
+            krp: kr,
+        },
+    )
+}
+
 // An element with k = 0 in RLGR1.
 fn single(s: &[u8], c: State) -> Element
     requires { ⌜ (length (now s) ≤ 65535) × (c .kp ≤ 80) × (c .krp ≤ 80) ⌝ }
     ensures { λ r. ⌜ r ≡ oneElem (c .kp) (c .krp) (grOf (c .krp / 8) (c .at) (bitsOf (now (s .entry)))) ⌝ }
 {
     let at = c.at;
-    let kp = c.kp;
     let krp = c.krp;
     match bits::golomb(s, at, krp / 8) {
         Num::Cut => Element::Refused(Refusal::Cut),
-        Num::Got(g, next) => {
-            if 65534 < g {
-                return Element::Refused(Refusal::Range);
-            }
-            let kq = kp_one(kp, g);
-            let kr = kr_after(krp, g);
-            Element::One(
-                0,
-                g,
-                State {
-                    at: next,
-                    kp: kq,
-                    krp: kr,
-                },
-            )
-        }
+        Num::Got(g, next) => judge_one(c, g, next),
     }
 }
 
@@ -159,17 +167,11 @@ fn single(s: &[u8], c: State) -> Element
 pub fn bit_size(g: usize) -> usize
     ensures { λ r. ⌜ r ≡ size g ⌝ }
 {
-    let mut n: usize = 0;
-    let mut x = g;
-    while 0 < x {
-        x = x / 2;
-        n += 1;
-    }
-    n
+    64 - (u64::leading_zeros(g as u64) as usize)
 }
 
 // A pair judged: the sum g, the first half a.
-fn judge_pair(c: State, left: usize, g: usize, a: usize, next: usize) -> Element
+pub fn judge_pair(c: State, left: usize, g: usize, a: usize, next: usize) -> Element
     requires { ⌜ (c .kp ≤ 80) × (c .krp ≤ 80) ⌝ }
     ensures { λ r. ⌜ r ≡ judgeTwo (c .kp) (c .krp) left g a next ⌝ }
 {
@@ -223,7 +225,7 @@ fn pair(s: &[u8], c: State, left: usize) -> Element
 }
 
 // A run's value judged: z zeros, the sign, the magnitude less 1.
-fn judge_run(c: State, left: usize, z: usize, sign: usize, g: usize, next: usize) -> Element
+pub fn judge_run(c: State, left: usize, z: usize, sign: usize, g: usize, next: usize) -> Element
     requires { ⌜ (c .kp ≤ 80) × (c .krp ≤ 80) × (sign < 2) ⌝ }
     ensures { λ r. ⌜ r ≡ judgeRun (c .kp) (c .krp) left z sign g next ⌝ }
 {

@@ -1,14 +1,15 @@
 // The component reader of document 01: "The component code", the numbers 5, 2, 6, 1, 9, 10, 11 and their order, and "The component reader leaves its
 // output list untouched on 5, 2 and 6 and fills it with zeros on 1, 9, 10, 11." One pass: the list is cleared, and runs of zeros store nothing.
+// The code is read a word at a time where eight bytes are left (document 02, request Ten): an element, or full runs together; else by `element`.
 // `read_checked` reads a code a second time, to draw from: it has no way out (document 02, request Eight).
 ghost use mathlib.Core.Path.{_≡_};
 ghost use mathlib.Core.Bool.{true, false};
-ghost use Prim.Native.Nat.{_+_, _*_, _<_, _≤_};
+ghost use Prim.Native.Nat.{_+_, _*_, _/_, _<_, _≤_, min};
 ghost use lib.ListN.{length, drop, replicate};
 ghost use lib.IntN.{pos};
 ghost use Rattle.bits.specs.Bits.{bitsOf};
 ghost use Rattle.code.specs.ReadList.{readList};
-ghost use Rattle.code.specs.Fill.{Fills, Fine, placedOf, storedOf};
+ghost use Rattle.code.specs.Fill.{Fills, Fine, placedOf, storedOf, leapOf, onwardOf, Inside, Open, Running, Valued, Quickly, Turned, Stored};
 ghost use Rattle.code.specs.Read.{clean, shellFault, readFault, readingNumber, readingBits, decoded, CodeRead, ComponentRead};
 use crate::element::Element;
 use crate::element::Refusal;
@@ -78,6 +79,180 @@ fn place(list: &mut [i32], i: usize, e: Element) -> Placed
     }
 }
 
+// What a turn by a word found: the next place and the state there, or that it takes the slow way.
+enum Quick {
+    At(usize, State),
+    Not,
+}
+
+// The place z places past j, at most n.
+fn clipped(n: usize, j: usize, z: usize) -> usize
+    requires { ⌜ j ≤ n ⌝ }
+    ensures { λ r. ⌜ r ≡ min n (j + z) ⌝ }
+{
+    if n - j < z { n } else { j + z }
+}
+
+// As many of m full runs, from the state c on, as there are places for among n from place i on.
+fn full_runs(n: usize, i: usize, c: State, m: usize) -> Quick
+    requires { ⌜ (n ≤ 4096) × (i ≤ n) × (c .kp ≤ 80) × (c .at ≤ 524280) × (m ≤ 57) ⌝ }
+    ensures { λ r. ⌜ r ≡ leapOf m n i c ⌝ }
+{
+    let at = c.at;
+    let krp = c.krp;
+    let mut kp = c.kp;
+    let mut j = i;
+    let mut k: usize = 0;
+    while k < m && j < n {
+        j = clipped(n, j, 1usize << (kp / 8));
+        kp = crate::element::more(kp, 4);
+        k += 1;
+    }
+    Quick::At(
+        j,
+        State {
+            at: at + k,
+            kp: kp,
+            krp: krp,
+        },
+    )
+}
+
+// The same as storing found it, its state's place counted from `at` on.
+fn onward(at: usize, p: Placed) -> Quick
+    requires { ⌜ (at ≤ 524280) × Inside p ⌝ }
+    ensures { λ r. ⌜ r ≡ onwardOf at p ⌝ }
+{
+    match p {
+        Placed::No(r) => Quick::Not,
+        Placed::At(j, t) => {
+            let past = t.at;
+            let kp = t.kp;
+            let krp = t.krp;
+            Quick::At(
+                j,
+                State {
+                    at: at + past,
+                    kp: kp,
+                    krp: krp,
+                },
+            )
+        }
+    }
+}
+
+// Stores the single value at c, if it lies whole in the word there.
+fn quick_single(s: &[u8], c: State, list: &mut [i32], i: usize) -> Quick
+    requires { ⌜ Open false (now s) (now list) c i × (c .kp < 8) × (c .at / 8 + 8 ≤ length (now s)) ⌝ }
+    ensures { λ r. ⌜ Quickly false (bitsOf (now (s .entry))) i (now (list .entry)) (now (list .exit)) r ⌝ }
+{
+    let at = c.at;
+    let kp = c.kp;
+    let krp = c.krp;
+    let e = crate::word::single_in(
+        bits::word::look(s, at),
+        State {
+            at: 0,
+            kp: kp,
+            krp: krp,
+        },
+    );
+    onward(at, place(list, i, e))
+}
+
+// Stores the pair at c, if it lies whole in the word there.
+fn quick_pair(s: &[u8], c: State, list: &mut [i32], i: usize) -> Quick
+    requires { ⌜ Open true (now s) (now list) c i × (c .kp < 8) × (c .at / 8 + 8 ≤ length (now s)) ⌝ }
+    ensures { λ r. ⌜ Quickly true (bitsOf (now (s .entry))) i (now (list .entry)) (now (list .exit)) r ⌝ }
+{
+    let at = c.at;
+    let kp = c.kp;
+    let krp = c.krp;
+    let e = crate::word::pair_in(
+        bits::word::look(s, at),
+        State {
+            at: 0,
+            kp: kp,
+            krp: krp,
+        },
+        list.len() - i,
+    );
+    onward(at, place(list, i, e))
+}
+
+// Stores the run's value whose 1 stands at place m of the word w, if it lies whole in it; `at` is the word's place.
+fn quick_value(w: u64, m: usize, at: usize, t: State, list: &mut [i32], j: usize) -> Quick
+    requires { ⌜ Valued w m at t (now list) j ⌝ }
+    ensures { λ r. ⌜ Stored w m at t j (now (list .entry)) (now (list .exit)) r ⌝ }
+{
+    let kp = t.kp;
+    let krp = t.krp;
+    let e = crate::word::run_value_in(
+        w,
+        State {
+            at: m,
+            kp: kp,
+            krp: krp,
+        },
+        list.len() - j,
+        m + 1,
+    );
+    onward(at, place(list, j, e))
+}
+
+// Takes the full runs at c together, as far as the word there goes, and stores the value behind them, if it lies whole in the word too.
+fn quick_run(s: &[u8], c: State, list: &mut [i32], i: usize) -> Quick
+    requires { ⌜ Running (now s) (now list) c i ⌝ }
+    ensures { λ r. ⌜ Turned (bitsOf (now (s .entry))) c i (now (list .entry)) (now (list .exit)) r ⌝ }
+{
+    let at = c.at;
+    let n = list.len();
+    let w = bits::word::look(s, at);
+    let m = bits::word::zeros_in(w);
+    match full_runs(n, i, c, m) {
+        Quick::Not => Quick::Not,
+        Quick::At(j, t) => {
+            if 57 <= m {
+                return Quick::At(j, t);
+            }
+            if n <= j {
+                return Quick::At(j, t);
+            }
+            match quick_value(w, m, at, t, list, j) {
+                Quick::At(l, u) => Quick::At(l, u),
+                Quick::Not => {
+                    if m == 0 {
+                        return Quick::Not;
+                    }
+                    Quick::At(j, t)
+                }
+            }
+        }
+    }
+}
+
+// A turn by the word at c: full runs together and the value behind them, or a single value, or a pair.
+fn quick_turn(s: &[u8], two: bool, c: State, list: &mut [i32], i: usize) -> Quick
+    requires { ⌜ Open two (now s) (now list) c i ⌝ }
+    ensures { λ r. ⌜ Quickly two (bitsOf (now (s .entry))) i (now (list .entry)) (now (list .exit)) r ⌝ }
+{
+    let at = c.at;
+    let kp = c.kp;
+    if s.len() < 8 {
+        return Quick::Not;
+    }
+    if s.len() - 8 < at / 8 {
+        return Quick::Not;
+    }
+    if 8 <= kp {
+        return quick_run(s, c, list, i);
+    }
+    if two {
+        return quick_pair(s, c, list, i);
+    }
+    quick_single(s, c, list, i)
+}
+
 // What filling a list found: the code's length in bits, or a refusal.
 enum Filled {
     Whole(usize),
@@ -97,14 +272,22 @@ fn fill(s: &[u8], two: bool, list: &mut [i32]) -> Filled
     };
     let mut i: usize = 0;
     while i < n {
-        let e = crate::element::read_element(s, two, c, n - i);
-        match place(list, i, e) {
-            Placed::No(r) => {
-                return Filled::Bad(r);
-            }
-            Placed::At(j, t) => {
+        match quick_turn(s, two, c, list, i) {
+            Quick::At(j, t) => {
                 i = j;
                 c = t;
+            }
+            Quick::Not => {
+                let e = crate::element::read_element(s, two, c, n - i);
+                match place(list, i, e) {
+                    Placed::No(r) => {
+                        return Filled::Bad(r);
+                    }
+                    Placed::At(j, t) => {
+                        i = j;
+                        c = t;
+                    }
+                }
             }
         }
     }

@@ -1,6 +1,6 @@
 -- The component writer: what it answers and what it leaves, for every input. 01, "Numbers the fitter sees" and "Component writer: 2, 9, 6, 13."
 -- (01 is this project's scope document, 02 its change requests, 001 is MS-RDPRFX: README, "What 01 is".)
-use Prim.Native.Nat.{ℕ}
+use Prim.Native.Nat.{ℕ, zero, suc}
 use mathlib.Core.Path.{_≡_}
 use mathlib.Core.Bool.{Bool, true, false}
 use mathlib.Core.List.{List, [], _∷_}
@@ -54,6 +54,11 @@ writeFault mode zs room =
 -- the writer: its output as it was and as it is, and its answer
 abbrev pub ComponentWritten : ℕ → List ℤ → List ℕ → List ℕ → Writing → Type 0
 ComponentWritten mode zs out out′ r = Wrote (writeFault mode zs (length out)) (bytesOf mode zs) out out′ r
+
+-- measured by itself: the refusal and no size, or the size in bytes
+unfoldable pub sizedOf : ℕ → ℕ → Sized
+sizedOf zero bytes = record { number = 0; size = bytes }
+sizedOf (suc n) bytes = record { number = suc n; size = 0 }
 
 -- what measures: the refusal, and where there is none the size in bytes
 pub record Measures (refusal bytes : ℕ) (r : Sized) : Type 0 where

@@ -7,11 +7,11 @@ ghost use lib.Dec.{leb};
 ghost use lib.IntN.{natAbs};
 ghost use lib.ListN.{length};
 ghost use Rattle.wire.specs.Le.{patch};
-ghost use Rattle.code_write.specs.Write.{bytesOf, inRange, callFault, componentFault, Measures, ComponentWritten};
+ghost use Rattle.code_write.specs.Write.{bytesOf, inRange, callFault, componentFault, sizedOf, ComponentWritten};
 use bits::Pen;
 use wire::Writing;
 
-// What measuring a component found: 01's number, and where that is 0 the size in bytes.
+// What measuring a component found: 01's number, and the size in bytes, 0 where it is refused.
 pub struct Sized {
     pub number: u8,
     pub size: usize,
@@ -52,7 +52,7 @@ fn byte_size(mode: u8, list: &[i32]) -> usize
 // A component by itself: 9, 6, or its size in bytes.
 pub fn measure_component(mode: u8, list: &[i32]) -> Sized
     requires { ⌜ length (now list) ≤ 4096 ⌝ }
-    ensures { λ r. ⌜ Measures (componentFault mode (now (list .entry))) (length (bytesOf mode (now (list .entry)))) r ⌝ }
+    ensures { λ r. ⌜ r ≡ sizedOf (componentFault mode (now (list .entry))) (length (bytesOf mode (now (list .entry)))) ⌝ }
 {
     if !in_range(list) {
         return Sized { number: 9, size: 0 };

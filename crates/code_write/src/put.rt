@@ -2,7 +2,7 @@
 // parameters go on. "The writer closes a list's last zeros, while k > 0, with full runs until they are covered."
 ghost use mathlib.Core.Path.{_≡_};
 ghost use mathlib.Core.List.{map};
-ghost use Prim.Native.Nat.{_+_, _*_, _/_, _<_, _≤_};
+ghost use Prim.Native.Nat.{_+_, _*_, _/_, _<_, _≤_, min};
 ghost use lib.ListN.{length, drop, getD};
 ghost use Rattle.bits.specs.laws.Gr.{grLen};
 ghost use Rattle.bits.specs.Pen.{Ready, Put};
@@ -20,14 +20,17 @@ fn folded_at(xs: &[i32], i: usize) -> usize
     code::element::folded(xs[i])
 }
 
-// The zeros from place i on.
-fn zeros_from(xs: &[i32], i: usize) -> usize
+// The zeros from place i on, counted up to `most`.
+fn zeros_from(xs: &[i32], i: usize, most: usize) -> usize
     requires { ⌜ (length (now xs) ≤ 4096) × InRange (map foldZ (now xs)) ⌝ }
-    ensures { λ r. ⌜ r ≡ zerosOf (drop i (map foldZ (now (xs .entry)))) ⌝ }
+    ensures { λ r. ⌜ r ≡ min most (zerosOf (drop i (map foldZ (now (xs .entry))))) ⌝ }
 {
     let mut z: usize = 0;
     let mut j = i;
     while j < xs.len() {
+        if z == most {
+            return z;
+        }
         if folded_at(xs, j) == 0 {
             z += 1;
             j += 1;
@@ -43,8 +46,8 @@ fn choose_run(xs: &[i32], i: usize, two: bool, kp: usize) -> Item
     requires { ⌜ (length (now xs) ≤ 4096) × InRange (map foldZ (now xs)) × (i < length (now xs)) × (8 ≤ kp) × (kp ≤ 80) ⌝ }
     ensures { λ r. ⌜ r ≡ itemOf two kp (drop i (map foldZ (now (xs .entry)))) ⌝ }
 {
-    let z = zeros_from(xs, i);
     let full = 1usize << (kp / 8);
+    let z = zeros_from(xs, i, full);
     let left = xs.len() - i;
     if full <= z {
         return Item::Full;

@@ -1,87 +1,74 @@
-use Prim.Native.Nat.{suc, _≤_, _<_, _-_, _^_}
-use mathlib.Core.Bool.{false}
-use mathlib.Core.Path.{_≡_, refl, sym, _∙_}
+-- `bits::number` meets its contract: no bits are 0, too few are cut, and else the number stands at the front of the bits ahead. Assumes nothing.
+use Prim.Native.Nat.{_+_, _≤_}
+use mathlib.Core.Path.{_≡_, sym}
 use native.Mathlib.Omega.{arith}
-use lib.ListN.{length, drop, getD}
-use lib.Pow.{pow-mono, pow-pos}
-use Rattle.bits.specs.Bits.{bitsOf, numOf}
-use Rattle.bits.specs.laws.Bit.{num-step, num-cut, length-bitsOf, grow, digit-lt, num-end}
+use lib.ListN.{length}
+use Rattle.bits.specs.Bits.{bitsOf}
+use Rattle.bits.specs.laws.Bit.{num-end, length-bitsOf}
+use Rattle.bits.specs.laws.Ahead.{ahead-number, number-cut}
+use borrow.Author.Needs.{needs}
 use Rattle.bits.proofs.number.Statement.{statement}
 use Rattle.bits.proofs.number.Tie as tie
 use Rattle.bits.proofs.number.Reads as reads
 use Rattle.bits.proofs.number.Lts as lts
-use Rattle.bits.proofs.digit.Reads as digit-reads
+use Rattle.bits.proofs.word.ahead.Reads as ahead-reads
 
-abbrev Inv-loop : tie.InvT-loop
-Inv-loop s from k n₀ at₀ left₀ n at left = (left ≤ k) × (n < 2 ^ (k - left)) × (numOf left n at (drop at (bitsOf s)) ≡ numOf k 0 from (drop from (bitsOf s)))
-
-abbrev μ-loop : tie.MeasureT-loop
-μ-loop s from k n₀ at₀ left₀ n at left = left
-
-loop-holds : tie.Need-loop-holds Inv-loop μ-loop
-loop-holds c = (omega arith, pow-pos _, refl)
-
-mul-if1 : tie.Need-mul-if1 Inv-loop μ-loop
-mul-if1 c = omega arith
-
-returns : tie.Need-returns Inv-loop μ-loop
+returns : tie.Need-returns
 returns c =
-    let l = c .before .before .loop in
-    let s = c .before .before .before .before .args .s .now in
-    let h : length (bitsOf s) ≤ l .at = rw length-bitsOf (omega arith) in
-    sym (num-cut (bitsOf s) (l .left) (l .n) (l .at) (omega arith) h) ∙ l .inv .2
+    let a = c .before .before .args in
+    let e : a .k ≡ 0 = c .if1 .taken in
+    rw e (sym (num-end (bitsOf (a .s .now)) 0 (a .from)))
 
-mul-n : tie.Need-mul-n Inv-loop μ-loop
-mul-n c = let p : 2 ^ (c .before .before .before .before .args .k - c .before .before .loop .left) ≤ 2 ^ 32 = pow-mono {j = 32} (omega arith) in omega arith
+mul-if2 : tie.Need-mul-if2
+mul-if2 c = search needs
 
-digit-requires : tie.Need-digit-requires Inv-loop μ-loop
-digit-requires c κs = omega arith
-
-add-n : tie.Need-add-n Inv-loop μ-loop
-add-n c =
-    let p : 2 ^ (c .before .before .before .before .before .args .k - c .before .before .before .loop .left) ≤ 2 ^ 32 = pow-mono {j = 32} (omega arith) in
-    let b : c .digit .result < 2 = digit-lt (getD (bitsOf (c .before .before .before .before .before .args .s .now)) (c .before .before .before .loop .at) false) (c .digit .ensures) in
-    omega arith
-
-add-at : tie.Need-add-at Inv-loop μ-loop
-add-at c = omega arith
-
-sub-left : tie.Need-sub-left Inv-loop μ-loop
-sub-left c = omega arith
-
-loop-less : tie.Need-loop-less Inv-loop μ-loop
-loop-less c = omega arith
-
-loop-again : tie.Need-loop-again Inv-loop μ-loop
-loop-again c =
-    let l = c .before .before .before .loop in
-    let a = c .before .before .before .before .before .args in
-    let s = a .s .now in
-    let h : l .at < length (bitsOf s) = rw length-bitsOf (omega arith) in
-    let b : c .digit .result < 2 = digit-lt (getD (bitsOf (c .before .before .before .before .before .args .s .now)) (c .before .before .before .loop .at) false) (c .digit .ensures) in
-    let e : a .k - (l .left - 1) ≡ suc (a .k - l .left) = omega arith in
-    (omega arith, rw e (grow _ _ _ (l .inv .1) b), rw (c .digit .ensures) (sym (num-step (bitsOf s) (l .left) (l .n) (l .at) (omega arith) h) ∙ l .inv .2))
-
-returns-2 : tie.Need-returns-2 Inv-loop μ-loop
+returns-2 : tie.Need-returns-2
 returns-2 c =
-    let l = c .before .loop in
-    let z : l .left ≡ 0 = omega arith in
-    sym (num-end _ (l .n) (l .at)) ∙ (rw z at (l .inv .2))
+    let a = c .before .before .before .args in
+    number-cut (a .s .now) (a .from) (a .k) (omega (arith, c .if2 .taken)) (omega (arith, c .before .if1 .left))
+
+mul-if3 : tie.Need-mul-if3
+mul-if3 c = search needs
+
+sub-if3 : tie.Need-sub-if3
+sub-if3 c = search needs
+
+returns-3 : tie.Need-returns-3
+returns-3 c =
+    let a = c .before .before .before .before .args in
+    number-cut (a .s .now) (a .from) (a .k) (omega (arith, c .if3 .taken)) (omega (arith, c .before .before .if1 .left))
+
+ahead-requires : tie.Need-ahead-requires
+ahead-requires c κs = search needs
+
+sub-n : tie.Need-sub-n
+sub-n c = search needs
+
+shr-n : tie.Need-shr-n
+shr-n c = search needs
+
+add-t8 : tie.Need-add-t8
+add-t8 c = search needs
+
+returns-4 : tie.Need-returns-4
+returns-4 c =
+    let s = c .before .before .before .before .before in
+    let a = s .args in
+    let l : a .from + a .k ≤ length (bitsOf (a .s .now)) = rw length-bitsOf (omega (arith, c .before .if3 .left, c .before .before .if2 .left)) in
+    ahead-number (bitsOf (a .s .now)) (a .from) (a .k) _ (c .ahead .ensures .1) (c .ahead .ensures .0) (omega (arith, s .pre .1)) l
 
 pub number-spec : {M : Type 1} → statement M
 number-spec =
     tie.close
     (tie.spec
-    Inv-loop
-    μ-loop
-    loop-holds
-    mul-if1
     returns
-    mul-n
-    digit-requires
-    add-n
-    add-at
-    sub-left
-    loop-less
-    loop-again
-    returns-2)
+    mul-if2
+    returns-2
+    mul-if3
+    sub-if3
+    returns-3
+    ahead-requires
+    sub-n
+    shr-n
+    add-t8
+    returns-4)

@@ -1,14 +1,19 @@
-use Prim.Native.Nat.{_≤_, _<_, _*_, _-_}
+-- `bits::ones` meets its contract. The loop's invariant: the ones from here on, behind the v so far, are those from the start on; a turn takes 57 ones,
+-- or finds the zero behind them, or the end. Assumes nothing.
+use Prim.Native.Nat.{_≤_, _*_, _-_}
 use mathlib.Core.Path.{_≡_, refl, sym, _∙_}
 use native.Mathlib.Omega.{arith}
 use lib.ListN.{length, drop}
 use Rattle.bits.specs.Bits.{bitsOf, onesOf}
-use Rattle.bits.specs.laws.Bit.{ones-more, ones-stop, ones-cut, length-bitsOf}
+use Rattle.bits.specs.laws.Bit.{ones-cut, length-bitsOf}
+use Rattle.bits.specs.laws.Ahead.{ones-on, ones-here, ones-past, ones-few}
+use borrow.Author.Needs.{needs}
 use Rattle.bits.proofs.ones.Statement.{statement}
 use Rattle.bits.proofs.ones.Tie as tie
 use Rattle.bits.proofs.ones.Reads as reads
 use Rattle.bits.proofs.ones.Lts as lts
-use Rattle.bits.proofs.bit.Reads as bit-reads
+use Rattle.bits.proofs.word.ahead.Reads as ahead-reads
+use Rattle.bits.proofs.word.ones_in.Reads as ones-in-reads
 
 abbrev Inv-loop : tie.InvT-loop
 Inv-loop s from v₀ at₀ v at = (v ≤ at) × (onesOf v at (drop at (bitsOf s)) ≡ onesOf 0 from (drop from (bitsOf s)))
@@ -22,8 +27,14 @@ loop-holds c = (omega arith, refl)
 mul-loop : tie.Need-mul-loop Inv-loop μ-loop
 mul-loop c = omega arith
 
-bit-requires : tie.Need-bit-requires Inv-loop μ-loop
-bit-requires c κs = omega arith
+ahead-requires : tie.Need-ahead-requires Inv-loop μ-loop
+ahead-requires c κs = (c .before .before .before .pre, omega (arith, c .loop-test .taken))
+
+ones-in-requires : tie.Need-ones-in-requires Inv-loop μ-loop
+ones-in-requires c κs = omega arith
+
+enum-told : tie.Need-enum-told Inv-loop μ-loop
+enum-told c = search needs
 
 add-v : tie.Need-add-v Inv-loop μ-loop
 add-v c = omega arith
@@ -36,23 +47,68 @@ loop-less c = omega arith
 
 loop-again : tie.Need-loop-again Inv-loop μ-loop
 loop-again c =
-    let l = c .before .before .before .loop in
-    let s = c .before .before .before .before .before .args .s .now in
-    let h : l .at < length (bitsOf s) = rw length-bitsOf (omega arith) in
-    (omega arith, sym (ones-more (bitsOf s) (l .v) (l .at) h (sym (c .before .bit .ensures) ∙ c .if1 .taken)) ∙ l .inv .1)
+    let o = c .before .before in
+    let l = o .before .before .before .loop in
+    let s = o .before .before .before .before .before .args .s .now in
+    let r = ones-on s (l .at) (o .before .ahead .result) (o .before .ahead .ensures .0) _ (o .ones-in .ensures) (c .enum-told .given .1) (l .v) in
+    (omega arith, sym (r .1) ∙ l .inv .1)
 
-add-t9 : tie.Need-add-t9 Inv-loop μ-loop
-add-t9 c = omega arith
+enum-known-m : tie.Need-enum-known-m Inv-loop μ-loop
+enum-known-m c = search needs
+
+mul-if1 : tie.Need-mul-if1 Inv-loop μ-loop
+mul-if1 c = omega arith
+
+sub-if1 : tie.Need-sub-if1 Inv-loop μ-loop
+sub-if1 c = omega arith
 
 returns : tie.Need-returns Inv-loop μ-loop
 returns c =
-    let l = c .before .before .before .loop in
-    let s = c .before .before .before .before .before .args .s .now in
-    let h : l .at < length (bitsOf s) = rw length-bitsOf (omega arith) in
-    sym (ones-stop (bitsOf s) (l .v) (l .at) h (sym (c .before .bit .ensures) ∙ c .if1 .left)) ∙ l .inv .1
+    let k = c .before .before in
+    let o = k .before .before in
+    let l = o .before .before .before .loop in
+    let s = o .before .before .before .before .before .args .s .now in
+    let a = o .before .ahead in
+    ones-past s (l .at) (a .result) (a .ensures .0) _ (o .ones-in .ensures) _ _ (k .m .given .1) (l .v) (c .if1 .taken) ∙ l .inv .1
+
+add-t12 : tie.Need-add-t12 Inv-loop μ-loop
+add-t12 c =
+    let k = c .before .before in
+    let o = k .before .before in
+    let l = o .before .before .before .loop in
+    let s = o .before .before .before .before .before .args .s .now in
+    let a = o .before .ahead in
+    omega (arith, ones-few s (l .at) (a .result) (a .ensures .0) _ (o .ones-in .ensures) _ _ (k .m .given .1) (l .v))
+
+add-t13 : tie.Need-add-t13 Inv-loop μ-loop
+add-t13 c =
+    let k = c .before .before in
+    let o = k .before .before in
+    let l = o .before .before .before .loop in
+    let s = o .before .before .before .before .before .args .s .now in
+    let a = o .before .ahead in
+    omega (arith, ones-few s (l .at) (a .result) (a .ensures .0) _ (o .ones-in .ensures) _ _ (k .m .given .1) (l .v))
+
+add-t14 : tie.Need-add-t14 Inv-loop μ-loop
+add-t14 c =
+    let k = c .before .before in
+    let o = k .before .before in
+    let l = o .before .before .before .loop in
+    let s = o .before .before .before .before .before .args .s .now in
+    let a = o .before .ahead in
+    omega (arith, ones-few s (l .at) (a .result) (a .ensures .0) _ (o .ones-in .ensures) _ _ (k .m .given .1) (l .v))
 
 returns-2 : tie.Need-returns-2 Inv-loop μ-loop
 returns-2 c =
+    let k = c .before .before in
+    let o = k .before .before in
+    let l = o .before .before .before .loop in
+    let s = o .before .before .before .before .before .args .s .now in
+    let a = o .before .ahead in
+    ones-here s (l .at) (a .result) (a .ensures .0) _ (o .ones-in .ensures) _ _ (k .m .given .1) (l .v) (c .if1 .left) ∙ l .inv .1
+
+returns-3 : tie.Need-returns-3 Inv-loop μ-loop
+returns-3 c =
     let l = c .before .loop in
     let s = c .before .before .before .args .s .now in
     let h : length (bitsOf s) ≤ l .at = rw length-bitsOf (omega arith) in
@@ -66,11 +122,19 @@ ones-spec =
     μ-loop
     loop-holds
     mul-loop
-    bit-requires
+    ahead-requires
+    ones-in-requires
+    enum-told
     add-v
     add-at
     loop-less
     loop-again
-    add-t9
+    enum-known-m
+    mul-if1
+    sub-if1
     returns
-    returns-2)
+    add-t12
+    add-t13
+    add-t14
+    returns-2
+    returns-3)

@@ -11,12 +11,12 @@ use Rattle.bits.specs.Bits.{numBits, onesOf}
 use Rattle.bits.specs.laws.Here.{numBits-mod}
 use Rattle.bits.specs.declared.Num.the-variants.{Got}
 
-lead-low : (k c : ℕ) → c < 2 ^ k → leadingZeros (suc k) c ≡ suc (leadingZeros k c)
+pub lead-low : (k c : ℕ) → c < 2 ^ k → leadingZeros (suc k) c ≡ suc (leadingZeros k c)
 lead-low k c h =
     let s = leading-length k c h in
     sym (leading-unique (suc k) c (suc (leadingZeros k c)) (s .0) (omega (arith, s .1)) (s .2) (s .3))
 
-lead-high : (k c : ℕ) → 2 ^ k ≤ c → c < 2 ^ suc k → leadingZeros (suc k) c ≡ 0
+pub lead-high : (k c : ℕ) → 2 ^ k ≤ c → c < 2 ^ suc k → leadingZeros (suc k) c ≡ 0
 lead-high k c l h = sym (leading-unique (suc k) c 0 (suc k) (omega arith) h (rw (pow-suc 2 k) (omega arith)))
 
 -- the ones at the front of the k bits of n: all k, and the rest follows, or fewer, and a zero ends them

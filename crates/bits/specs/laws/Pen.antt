@@ -130,7 +130,7 @@ ready-after before after p q k m bs h w l = record { few = w .few; small = w .sm
 
 -- ---- the last byte
 
-numBits-shift : (j k a : ℕ) → numBits (k + j) (a * 2 ^ j) ≡ numBits k a ++ replicate j false
+pub numBits-shift : (j k a : ℕ) → numBits (k + j) (a * 2 ^ j) ≡ numBits k a ++ replicate j false
 numBits-shift zero k a =
     let e : k + 0 ≡ k = omega arith in
     let f : a * 1 ≡ a = omega arith in

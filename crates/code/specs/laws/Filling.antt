@@ -20,7 +20,7 @@ use Rattle.code.specs.declared.element.Element.{Element}
 use Rattle.code.specs.declared.element.Element.the-variants.{Zeros, One, Two, Refused}
 use Rattle.code.specs.Fold.{foldZ, unfoldZ}
 use Rattle.code.specs.laws.Fold.{fold-unfold, map-unfold}
-use Rattle.code.specs.Fill.{Fills, Fine, placedOf, storedOf}
+use Rattle.code.specs.Fill.{Fills, Fine, placedOf, storedOf, Clear, Filling}
 use Rattle.code.specs.declared.read.Filled.the-variants.{Whole, Bad}
 use Rattle.code.specs.declared.read.Placed.{Placed}
 use Rattle.code.specs.declared.read.Placed.the-variants.{At, No}
@@ -47,11 +47,6 @@ map-rep zero = refl
 map-rep (suc m) = ap (λ (l : List ℕ). 0 ∷ l) (map-rep m)
 
 -- ---- a list that grew from place i to place j by the folded values front; zeros stand from each place on
-
-pub record Clear (n : ℕ) (out : List ℤ) (i : ℕ) : Type 0 where
-  pub room : i ≤ n
-  pub len : length out ≡ n
-  pub zeros : drop i out ≡ replicate (n - i) (pos 0)
 
 pub record Grew (n : ℕ) (out : List ℤ) (i : ℕ) (new : List ℤ) (j : ℕ) (front : List ℕ) : Type 0 where
   pub clear : Clear n new j
@@ -142,15 +137,20 @@ pair-second zero a b h r = absurd (omega arith)
 pair-second (suc zero) a b h r = absurd (omega arith)
 pair-second (suc (suc m)) a b h r = r 1
 
--- ---- the loop's invariant
+-- an element fits where it is read
+pub elem-fine : (two : Bool) (kp krp n i at : ℕ) (B : List Bool) → i < n → Fine n i (elemOf two kp krp (n - i) at B)
+elem-fine two kp krp n i at B h = go (elemOf two kp krp (n - i) at B) (elem-told two kp krp (n - i) at B (omega arith))
+  where
+    go : (e : Element) → Told two kp krp (n - i) at B e → Fine n i e
+    go (Refused r) t = tt
+    go (Zeros z s) t = tt
+    go (One z v s) t = (
+      omega (arith, t .fits, length-append (replicate z 0) (v ∷ []), length-replicate {A = ℕ} z 0),
+      rw (getD-at (replicate z 0) v [] 0 z (length-replicate z 0)) at (t .range z),
+    )
+    go (Two a b s) t = (pair-first (n - i) a b (omega arith) (t .range), λ l. pair-second (n - i) a b (omega arith) (t .range))
 
-pub record Filling (two : Bool) (n : ℕ) (B : List Bool) (out : List ℤ) (c : State) (i : ℕ) : Type 0 where
-  pub f : ℕ
-  pub clear : Clear n out i
-  pub fuel : n - i ≤ f
-  pub kps : c .kp ≤ 80
-  pub krs : c .krp ≤ 80
-  pub same : walk f two (c .kp) (c .krp) (c .at) (n - i) (map foldZ (take i out)) B ≡ readList two n B
+-- ---- the loop's invariant
 
 module _ (two : Bool) (n : ℕ) (B : List Bool) where
   pub filling-start : (out : List ℤ) → length out ≡ n → out ≡ replicate (length out) (pos 0) → Filling two n B out (st 0 8 8) 0
@@ -215,13 +215,7 @@ module _ (two : Bool) (n : ℕ) (B : List Bool) where
         go (Two a b s′) p g k = cc
 
     pub filling-fine : (e : Element) → e ≡ elemOf two (c .kp) (c .krp) (n - i) (c .at) B → Fine n i e
-    filling-fine e q = go e (rw q (elem-told two (c .kp) (c .krp) (n - i) (c .at) B (omega arith)))
-      where
-        go : (e : Element) → Told two (c .kp) (c .krp) (n - i) (c .at) B e → Fine n i e
-        go (Refused r) t = tt
-        go (Zeros z s′) t = tt
-        go (One z v s′) t = (omega (arith, t .fits, length-append (replicate z 0) (v ∷ []), length-replicate {A = ℕ} z 0), rw (getD-at (replicate z 0) v [] 0 z (length-replicate z 0)) at (t .range z))
-        go (Two a b s′) t = (pair-first (n - i) a b (omega arith) (t .range), λ l. pair-second (n - i) a b (omega arith) (t .range))
+    filling-fine e q = rw q (elem-fine two (c .kp) (c .krp) n i (c .at) B h)
 
   pub filling-end : (out : List ℤ) (c : State) (i : ℕ) → n ≤ i → Filling two n B out c i → Fills (readList two n B) out (Whole (c .at))
   filling-end out c i h w =

@@ -5,6 +5,7 @@ use native.Mathlib.Omega.{arith}
 use native.Mathlib.Nat.{pow-suc}
 use mathlib.Core.Bool.{Bool, true, false}
 use mathlib.Core.List.{List}
+use lib.Count.{leadingZeros}
 use lib.ListN.{drop}
 use borrow.Author.Tests.{lt-ltb, le-ltb, le-leb, lt-leb}
 use Rattle.bits.specs.Bits.{numOf, grOf}
@@ -125,29 +126,17 @@ judge-pair kp krp left g a next q r h v w l p s = rw (le-ltb g a h, le-ltb 65534
 
 -- ---- how many bits a number has
 
-pub size-le : (f g : ℕ) → sizeF f g ≤ g
-unfolding sizeF
-size-le zero g = omega arith
-size-le (suc f) zero = omega arith
-size-le (suc f) (suc g) = omega (arith, size-le f (suc g / 2))
-
-pub size-small : (f g k : ℕ) → g < 2 ^ k → sizeF f g ≤ k
+size-small : (f g k : ℕ) → g < 2 ^ k → sizeF f g ≤ k
 unfolding sizeF
 size-small zero g k h = omega arith
 size-small (suc f) zero k h = omega arith
 size-small (suc f) (suc g) zero h = absurd (omega arith)
 size-small (suc f) (suc g) (suc k) h = let e : 2 ^ suc k ≡ 2 ^ k * 2 = pow-suc 2 k in omega (arith, size-small f (suc g / 2) k (omega arith))
 
-pub size-end : (f : ℕ) → sizeF f 0 ≡ 0
+size-end : (f : ℕ) → sizeF f 0 ≡ 0
 unfolding sizeF
 size-end zero = refl
 size-end (suc f) = refl
-
-pub size-half : (f x : ℕ) → x ≤ f → 0 < x → (g : ℕ) × (x / 2 ≤ g) × (sizeF f x ≡ suc (sizeF g (x / 2)))
-unfolding sizeF
-size-half zero x h p = absurd (omega arith)
-size-half (suc f) zero h p = absurd (omega arith)
-size-half (suc f) (suc x) h p = (f, omega arith, refl)
 
 -- ---- a run, part by part
 
@@ -202,3 +191,18 @@ elem-high two kp krp left at B h = rw (le-ltb kp 8 h)
 pub size-fit : (g k : ℕ) → g < 2 ^ k → size g ≤ k
 unfolding size
 size-fit g k h = size-small g g k h
+
+-- how many bits a number has, by the leading zeros of a word
+size-zeros : (k f g : ℕ) → g ≤ f → g < 2 ^ k → leadingZeros k g + sizeF f g ≡ k
+unfolding leadingZeros sizeF
+size-zeros zero f zero h l = omega (arith, size-end f)
+size-zeros zero f (suc g) h l = absurd (omega arith)
+size-zeros (suc k) f zero h l = omega (arith, size-end f)
+size-zeros (suc k) zero (suc g) h l = absurd (omega arith)
+size-zeros (suc k) (suc f) (suc g) h l =
+    let e : 2 ^ suc k ≡ 2 ^ k * 2 = pow-suc 2 k in
+    omega (arith, size-zeros k f (suc g / 2) (omega arith) (omega arith))
+
+pub size-lead : (g : ℕ) → g < 2 ^ 64 → (leadingZeros 64 g ≤ 64) × (64 - leadingZeros 64 g ≡ size g)
+unfolding size
+size-lead g h = let e = size-zeros 64 g g (omega arith) h in (omega (arith, e), omega (arith, e))

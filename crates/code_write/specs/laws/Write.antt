@@ -37,7 +37,7 @@ use Rattle.code.specs.Fold.{foldZ}
 use Rattle.code.specs.laws.Fold.{range-fold}
 use Rattle.code.specs.OneCode.{code}
 use Rattle.code_write.specs.laws.Pack.{packed-length, packed-bytes, packed-written, packed-once}
-use Rattle.code_write.specs.Write.{bytesOf, inRange, componentFault, callFault, writeFault, Measures}
+use Rattle.code_write.specs.Write.{bytesOf, inRange, componentFault, callFault, writeFault, Measures, sizedOf}
 use Rattle.code_write.specs.declared.call.Sized.{Sized}
 
 -- ---- the bytes of a component: the only ones that hold its code, filled up
@@ -172,18 +172,29 @@ module _ (mode : ℕ) (zs : List ℤ) (o : List ℕ) (at : ℕ) (fits : at + len
 
 -- ---- what was judged, in the code's forms
 
-pub measure-9 : (mode : ℕ) (zs : List ℤ) → inRange zs ≡ false → Measures (componentFault mode zs) (length (bytesOf mode zs)) (record { number = 9; size = 0 })
-unfolding componentFault
-measure-9 mode zs e = record { number = fails _ _ _ _ e refl; size = λ z. absurd (omega arith) }
+-- a component, measured
+module _ (mode : ℕ) (zs : List ℤ) where
+  by-fault : (n : ℕ) → n ≡ componentFault mode zs → sizedOf n (length (bytesOf mode zs)) ≡ sizedOf (componentFault mode zs) (length (bytesOf mode zs))
+  by-fault n e = ap (λ (f : ℕ). sizedOf f (length (bytesOf mode zs))) e
 
-module _ (mode : ℕ) (zs : List ℤ) (size : ℕ) (e : inRange zs ≡ true) (s : size ≡ length (bytesOf mode zs)) where
-  pub measure-6 : 65535 < size → Measures (componentFault mode zs) (length (bytesOf mode zs)) (record { number = 6; size = 0 })
-  unfolding componentFault
-  measure-6 h = record { number = passes _ _ _ _ e (fails _ _ _ _ (lt-leb (length (bytesOf mode zs)) 65535 (omega arith)) refl); size = λ z. absurd (omega arith) }
+  pub measure-9 : inRange zs ≡ false → record { number = 9; size = 0 } ≡ sizedOf (componentFault mode zs) (length (bytesOf mode zs))
+  unfolding componentFault sizedOf
+  measure-9 e = by-fault 9 (fails _ _ _ _ e refl)
 
-  pub measure-0 : size ≤ 65535 → Measures (componentFault mode zs) (length (bytesOf mode zs)) (record { number = 0; size = size })
-  unfolding componentFault
-  measure-0 h = record { number = passes _ _ _ _ e (passes _ _ _ _ (le-leb (length (bytesOf mode zs)) 65535 (omega arith)) refl); size = λ z. s }
+  module _ (size : ℕ) (e : inRange zs ≡ true) (s : size ≡ length (bytesOf mode zs)) where
+    pub measure-6 : 65535 < size → record { number = 6; size = 0 } ≡ sizedOf (componentFault mode zs) (length (bytesOf mode zs))
+    unfolding componentFault sizedOf
+    measure-6 h = by-fault 6 (passes _ _ _ _ e (fails _ _ _ _ (lt-leb (length (bytesOf mode zs)) 65535 (omega arith)) refl))
+
+    pub measure-0 : size ≤ 65535 → record { number = 0; size = size } ≡ sizedOf (componentFault mode zs) (length (bytesOf mode zs))
+    unfolding componentFault sizedOf
+    measure-0 h = rw s (by-fault 0 (passes _ _ _ _ e (passes _ _ _ _ (le-leb (length (bytesOf mode zs)) 65535 (omega (arith, s))) refl)))
+
+-- what is said in one equation, in two
+pub sized-measures : (f b : ℕ) (r : Sized) → r ≡ sizedOf f b → Measures f b r
+unfolding sizedOf
+sized-measures zero b r e = rw e (record { number = refl; size = λ z. refl })
+sized-measures (suc n) b r e = rw e (record { number = refl; size = λ z. absurd (omega arith) })
 
 -- what a component without a fault has
 pub record Fine (mode : ℕ) (zs : List ℤ) : Type 0 where
@@ -230,7 +241,10 @@ module _ (mode : ℕ) (zs : List ℤ) (out : List ℕ) where
   unfolding writeFault
   write-call x e h = refused _ x _ out (stops _ _ _ (λ z. h (e ∙ z)) e) h
 
-  module _ (x : ℕ) (c : x ≡ callFault mode (length zs)) (z : x ≡ 0) (s : Sized) (m : Measures (componentFault mode zs) (length (bytesOf mode zs)) s) where
+  module _ (x : ℕ) (c : x ≡ callFault mode (length zs)) (z : x ≡ 0) (s : Sized) (q : s ≡ sizedOf (componentFault mode zs) (length (bytesOf mode zs))) where
+    m : Measures (componentFault mode zs) (length (bytesOf mode zs)) s
+    m = sized-measures (componentFault mode zs) (length (bytesOf mode zs)) s q
+
     pub write-component : (s .number ≡ 0 → ⊥) → Wrote (writeFault mode zs (length out)) (bytesOf mode zs) out out (Refused (s .number))
     unfolding writeFault
     write-component h = refused _ (s .number) _ out (goes-on _ _ _ (sym c ∙ z) (stops _ _ _ (λ y. h (m .number ∙ y)) (m .number))) h

@@ -1,16 +1,21 @@
+-- `code::read::fill` meets its contract. The loop's invariant (`Filling`): the list is filled up to i, and the rest is what is read from the state on;
+-- a turn goes by a word, or by the element read bit by bit. Assumes nothing.
 use Prim.Native.Nat.{_-_}
 use mathlib.Core.Path.{_≡_, refl, _∙_}
 use native.Mathlib.Omega.{arith}
 use borrow.Author.Needs.{needs}
 use lib.ListN.{length}
 use Rattle.bits.specs.Bits.{bitsOf}
-use Rattle.code.specs.laws.Filling.{Filling, filling-start, filling-fine, filling-end, turn-next, turn-bad}
+use Rattle.code.specs.Fill.{Filling}
+use Rattle.code.specs.laws.Filling.{filling-start, filling-end, elem-fine, turn-next, turn-bad}
+use Rattle.code.specs.laws.Quick.{filling-long, quick-next, quick-same}
 use Rattle.code.proofs.read.fill.Statement.{statement}
 use Rattle.code.proofs.read.fill.Tie as tie
 use Rattle.code.proofs.read.fill.Reads as reads
 use Rattle.code.proofs.read.fill.Lts as lts
 use Rattle.code.proofs.element.read_element.Reads as read-element-reads
 use Rattle.code.proofs.read.place.Reads as place-reads
+use Rattle.code.proofs.read.quick_turn.Reads as quick-turn-reads
 
 abbrev Inv-loop : tie.InvT-loop
 Inv-loop s two out₀ n c₀ i₀ out c i = Filling two (length out₀) (bitsOf s) out c i
@@ -19,43 +24,127 @@ abbrev μ-loop : tie.MeasureT-loop
 μ-loop s two out₀ n c₀ i₀ out c i = length out₀ - i
 
 loop-holds : tie.Need-loop-holds Inv-loop μ-loop
-loop-holds c = let a = c .before in filling-start (a .args .two) (length (a .args .list .now)) (bitsOf (a .args .s .now)) (a .args .list .now) refl (a .pre .2)
+loop-holds c =
+    let a = c .before in
+    filling-start (a .args .two) (length (a .args .list .now)) (bitsOf (a .args .s .now)) (a .args .list .now) refl (a .pre .2)
 
-sub-read-element : tie.Need-sub-read-element Inv-loop μ-loop
-sub-read-element c = search needs
-
-read-element-requires : tie.Need-read-element-requires Inv-loop μ-loop
-read-element-requires c κs = (c .before .before .before .pre .0, c .before .loop .inv .kps, c .before .loop .inv .krs)
-
-place-requires : tie.Need-place-requires Inv-loop μ-loop
-place-requires c κs =
-    let l = c .before .before .before .loop in
-    let n : length (l .list) ≡ length (c .before .before .before .before .before .args .list .now) = l .inv .clear .len in
-    (omega (arith, n, c .before .before .before .before .before .pre .1), omega (arith, n, c .before .before .loop-test .taken), rw n (filling-fine (c .before .before .before .before .before .args .two) (length (c .before .before .before .before .before .args .list .now)) (bitsOf (c .before .before .before .before .before .args .s .now)) (l .list) (l .c) (l .i) (l .inv) (c .before .before .loop-test .taken) _ (c .before .read-element .ensures)))
-
-enum-known-r : tie.Need-enum-known-r Inv-loop μ-loop
-enum-known-r c = search needs
-
-same-length : tie.Need-same-length Inv-loop μ-loop
-same-length c = c .before .before .before .before .place .kept .0 ∙ c .before .before .before .before .before .before .before .before .loop .inv .clear .len
-
-returns : tie.Need-returns Inv-loop μ-loop
-returns c = let l = c .before .before .before .before .before .before .before .before .loop in turn-bad (c .before .before .before .before .before .before .before .before .before .before .args .two) (length (c .before .before .before .before .before .before .before .before .before .before .args .list .now)) (bitsOf (c .before .before .before .before .before .before .before .before .before .before .args .s .now)) (l .list) (c .before .before .before .before .place .last .0) (l .c) (l .i) (c .before .before .before .before .before .before .read-element .result) (c .before .before .before .before .place .result) (l .inv) (c .before .before .before .before .before .before .before .loop-test .taken) (c .before .before .before .before .before .before .read-element .ensures) (c .before .before .before .before .place .ensures .0) _ (c .before .r .given .1)
+quick-turn-requires : tie.Need-quick-turn-requires Inv-loop μ-loop
+quick-turn-requires c κs =
+    let l = c .before .before .loop in
+    let s = c .before .before .before .before in
+    let a = s .args in
+    let n : length (l .list) ≡ length (a .list .now) = l .inv .clear .len in (
+      s .pre .0,
+      omega (arith, n, s .pre .1),
+      omega (arith, n, c .before .loop-test .taken),
+      filling-long (a .two) (length (a .list .now)) (bitsOf (a .s .now)) (l .list) (l .c) (l .i) (l .inv),
+    )
 
 enum-known-j : tie.Need-enum-known-j Inv-loop μ-loop
 enum-known-j c = search needs
 
 loop-less : tie.Need-loop-less Inv-loop μ-loop
-loop-less c = let l = c .before .before .before .before .before .before .before .before .loop in omega (arith, turn-next (c .before .before .before .before .before .before .before .before .before .before .args .two) (length (c .before .before .before .before .before .before .before .before .before .before .args .list .now)) (bitsOf (c .before .before .before .before .before .before .before .before .before .before .args .s .now)) (l .list) (c .before .before .before .before .place .last .0) (l .c) (l .i) (c .before .before .before .before .before .before .read-element .result) (c .before .before .before .before .place .result) (l .inv) (c .before .before .before .before .before .before .before .loop-test .taken) (c .before .before .before .before .before .before .read-element .ensures) (c .before .before .before .before .place .ensures .0) _ _ (c .before .before .before .before .place .ensures .1) (c .before .j .given .1) .1, c .before .before .before .before .before .before .before .loop-test .taken)
+loop-less c =
+    let q = c .before .before .before .before in
+    let l = q .before .before .before .loop in
+    let a = q .before .before .before .before .before .args in
+    let t = q .quick-turn in
+    let r = quick-next (a .two) (bitsOf (a .s .now)) (l .list) (l .c) (l .i) (length (a .list .now)) (t .last .1 .1 .1 .0) (t .result) (l .inv) (t .ensures) in
+    omega (arith, r _ _ (c .before .j .given .1) .1, q .before .before .loop-test .taken)
 
 loop-again : tie.Need-loop-again Inv-loop μ-loop
-loop-again c = let l = c .before .before .before .before .before .before .before .before .loop in turn-next (c .before .before .before .before .before .before .before .before .before .before .args .two) (length (c .before .before .before .before .before .before .before .before .before .before .args .list .now)) (bitsOf (c .before .before .before .before .before .before .before .before .before .before .args .s .now)) (l .list) (c .before .before .before .before .place .last .0) (l .c) (l .i) (c .before .before .before .before .before .before .read-element .result) (c .before .before .before .before .place .result) (l .inv) (c .before .before .before .before .before .before .before .loop-test .taken) (c .before .before .before .before .before .before .read-element .ensures) (c .before .before .before .before .place .ensures .0) _ _ (c .before .before .before .before .place .ensures .1) (c .before .j .given .1) .0
+loop-again c =
+    let q = c .before .before .before .before in
+    let l = q .before .before .before .loop in
+    let a = q .before .before .before .before .before .args in
+    let t = q .quick-turn in
+    let r = quick-next (a .two) (bitsOf (a .s .now)) (l .list) (l .c) (l .i) (length (a .list .now)) (t .last .1 .1 .1 .0) (t .result) (l .inv) (t .ensures) in
+    r _ _ (c .before .j .given .1) .0
+
+enum-told : tie.Need-enum-told Inv-loop μ-loop
+enum-told c = search needs
+
+sub-read-element : tie.Need-sub-read-element Inv-loop μ-loop
+sub-read-element c = search needs
+
+read-element-requires : tie.Need-read-element-requires Inv-loop μ-loop
+read-element-requires c κs =
+    let l = c .before .before .before .before .before .before in
+    (l .before .before .pre .0, l .loop .inv .kps, l .loop .inv .krs)
+
+place-requires : tie.Need-place-requires Inv-loop μ-loop
+place-requires c κs =
+    let q = c .before .before .before .before .before in
+    let l = q .before .before .before .loop in
+    let s = q .before .before .before .before .before in
+    let a = s .args in
+    let h = q .before .before .loop-test .taken in
+    let n : length (q .quick-turn .last .1 .1 .1 .0) ≡ length (a .list .now) = q .quick-turn .kept .1 .1 .1 .0 ∙ l .inv .clear .len in
+    let f = elem-fine (a .two) (l .c .kp) (l .c .krp) (length (a .list .now)) (l .i) (l .c .at) (bitsOf (a .s .now)) h in
+    (omega (arith, n, s .pre .1), omega (arith, n, h), rw (n, c .before .read-element .ensures) f)
+
+enum-known-r : tie.Need-enum-known-r Inv-loop μ-loop
+enum-known-r c = search needs
+
+same-length : tie.Need-same-length Inv-loop μ-loop
+same-length c =
+    let p = c .before .before .before .before in
+    let q = p .before .before .before .before .before .before in
+    p .place .kept .0 ∙ q .quick-turn .kept .1 .1 .1 .0 ∙ q .before .before .before .loop .inv .clear .len
+
+returns : tie.Need-returns Inv-loop μ-loop
+returns c =
+    let p = c .before .before .before .before in
+    let e = p .before .before .read-element in
+    let q = p .before .before .before .before .before .before in
+    let l = q .before .before .before .loop in
+    let a = q .before .before .before .before .before .args in
+    let n = length (a .list .now) in
+    let t = q .quick-turn in
+    let same = quick-same (a .two) (bitsOf (a .s .now)) (l .list) (l .c) (l .i) n (t .last .1 .1 .1 .0) (t .result) (l .inv) (t .ensures) in
+    turn-bad (a .two) n (bitsOf (a .s .now)) (t .last .1 .1 .1 .0) (p .place .last .0) (l .c) (l .i) (e .result) (p .place .result)
+    (same (p .before .before .before .enum-told .given .1)) (q .before .before .loop-test .taken) (e .ensures) (p .place .ensures .0) _ (c .before .r .given .1)
+
+enum-known-j-2 : tie.Need-enum-known-j-2 Inv-loop μ-loop
+enum-known-j-2 c = search needs
+
+loop-less-2 : tie.Need-loop-less-2 Inv-loop μ-loop
+loop-less-2 c =
+    let p = c .before .before .before .before in
+    let e = p .before .before .read-element in
+    let q = p .before .before .before .before .before .before in
+    let l = q .before .before .before .loop in
+    let a = q .before .before .before .before .before .args in
+    let n = length (a .list .now) in
+    let t = q .quick-turn in
+    let h = q .before .before .loop-test .taken in
+    let same = quick-same (a .two) (bitsOf (a .s .now)) (l .list) (l .c) (l .i) n (t .last .1 .1 .1 .0) (t .result) (l .inv) (t .ensures) in
+    let r = turn-next (a .two) n (bitsOf (a .s .now)) (t .last .1 .1 .1 .0) (p .place .last .0) (l .c) (l .i) (e .result) (p .place .result)
+    (same (p .before .before .before .enum-told .given .1)) h (e .ensures) (p .place .ensures .0) in
+    omega (arith, r _ _ (p .place .ensures .1) (c .before .j2 .given .1) .1, h)
+
+loop-again-2 : tie.Need-loop-again-2 Inv-loop μ-loop
+loop-again-2 c =
+    let p = c .before .before .before .before in
+    let e = p .before .before .read-element in
+    let q = p .before .before .before .before .before .before in
+    let l = q .before .before .before .loop in
+    let a = q .before .before .before .before .before .args in
+    let n = length (a .list .now) in
+    let t = q .quick-turn in
+    let same = quick-same (a .two) (bitsOf (a .s .now)) (l .list) (l .c) (l .i) n (t .last .1 .1 .1 .0) (t .result) (l .inv) (t .ensures) in
+    let r = turn-next (a .two) n (bitsOf (a .s .now)) (t .last .1 .1 .1 .0) (p .place .last .0) (l .c) (l .i) (e .result) (p .place .result)
+    (same (p .before .before .before .enum-told .given .1)) (q .before .before .loop-test .taken) (e .ensures) (p .place .ensures .0) in
+    r _ _ (p .place .ensures .1) (c .before .j2 .given .1) .0
 
 same-length-2 : tie.Need-same-length-2 Inv-loop μ-loop
 same-length-2 c = c .before .loop .inv .clear .len
 
 returns-2 : tie.Need-returns-2 Inv-loop μ-loop
-returns-2 c = let l = c .before .loop in filling-end (c .before .before .before .args .two) (length (c .before .before .before .args .list .now)) (bitsOf (c .before .before .before .args .s .now)) (l .list) (l .c) (l .i) (c .loop-test .left) (l .inv)
+returns-2 c =
+    let l = c .before .loop in
+    let a = c .before .before .before .args in
+    filling-end (a .two) (length (a .list .now)) (bitsOf (a .s .now)) (l .list) (l .c) (l .i) (c .loop-test .left) (l .inv)
 
 pub fill-spec : {M : Type 1} → statement M
 fill-spec =
@@ -64,14 +153,19 @@ fill-spec =
     Inv-loop
     μ-loop
     loop-holds
+    quick-turn-requires
+    enum-known-j
+    loop-less
+    loop-again
+    enum-told
     sub-read-element
     read-element-requires
     place-requires
     enum-known-r
     same-length
     returns
-    enum-known-j
-    loop-less
-    loop-again
+    enum-known-j-2
+    loop-less-2
+    loop-again-2
     same-length-2
     returns-2)

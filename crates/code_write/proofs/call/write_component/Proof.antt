@@ -1,7 +1,7 @@
 use mathlib.Core.Path.{sym, _∙_}
 use native.Mathlib.Omega.{arith}
 use lib.ListN.{length}
-use Rattle.code_write.specs.laws.Write.{called, fine, write-call, write-component, write-room, write-done}
+use Rattle.code_write.specs.laws.Write.{called, fine, write-call, write-component, write-room, write-done, sized-measures}
 use borrow.Author.Needs.{needs}
 use Rattle.code_write.proofs.call.write_component.Statement.{statement}
 use Rattle.code_write.proofs.call.write_component.Tie as tie
@@ -28,10 +28,10 @@ returns-3 c = write-room (c .before .before .before .before .before .before .arg
 
 put-component-requires : tie.Need-put-component-requires
 put-component-requires c κs =
-    let m = c .before .before .before .measure-component in (
+    let m = sized-measures _ _ _ (c .before .before .before .measure-component .ensures) in (
       omega (arith, called (c .before .before .before .before .before .before .before .args .mode) (length (c .before .before .before .before .before .before .before .args .list .now)) (sym (c .before .before .before .before .if1 .left) ∙ c .before .before .before .before .before .call-judge .ensures) .long),
-      fine (c .before .before .before .before .before .before .before .args .mode) (c .before .before .before .before .before .before .before .args .list .now) (sym (c .before .before .if2 .left) ∙ m .ensures .number) .range,
-      omega (arith, m .ensures .size (c .before .before .if2 .left), c .before .if3 .left),
+      fine (c .before .before .before .before .before .before .before .args .mode) (c .before .before .before .before .before .before .before .args .list .now) (sym (c .before .before .if2 .left) ∙ m .number) .range,
+      omega (arith, m .size (c .before .before .if2 .left), c .before .if3 .left),
     )
 
 same-length : tie.Need-same-length

@@ -1,3 +1,4 @@
+-- `code_write::put::zeros_from` meets its contract. The loop's invariant: z zeros are counted, at most `most`, and those from j on are the others. Assumes nothing.
 use Prim.Native.Nat.{_+_, _-_, _≤_}
 use mathlib.Core.Path.{_≡_, sym, _∙_}
 use mathlib.Core.List.{map}
@@ -13,16 +14,19 @@ use Rattle.code_write.proofs.put.zeros_from.Lts as lts
 use Rattle.code_write.proofs.put.folded_at.Reads as folded-at-reads
 
 abbrev Inv-loop : tie.InvT-loop
-Inv-loop xs i z₀ j₀ z j = (z ≤ j) × (z + zerosOf (drop j (map foldZ xs)) ≡ zerosOf (drop i (map foldZ xs)))
+Inv-loop xs i most z₀ j₀ z j = (z ≤ j) × (z ≤ most) × (z + zerosOf (drop j (map foldZ xs)) ≡ zerosOf (drop i (map foldZ xs)))
 
 abbrev μ-loop : tie.MeasureT-loop
-μ-loop xs i z₀ j₀ z j = length xs - j
+μ-loop xs i most z₀ j₀ z j = length xs - j
 
 loop-holds : tie.Need-loop-holds Inv-loop μ-loop
-loop-holds c = (omega arith, omega arith)
+loop-holds c = (omega arith, omega arith, omega arith)
+
+returns : tie.Need-returns Inv-loop μ-loop
+returns c = omega (arith, c .if1 .taken, c .before .before .loop .inv .2)
 
 folded-at-requires : tie.Need-folded-at-requires Inv-loop μ-loop
-folded-at-requires c κs = (omega arith, c .before .before .pre .1)
+folded-at-requires c κs = (omega arith, c .before .before .before .pre .1)
 
 add-z : tie.Need-add-z Inv-loop μ-loop
 add-z c = omega arith
@@ -35,21 +39,25 @@ loop-less c = omega arith
 
 loop-again : tie.Need-loop-again Inv-loop μ-loop
 loop-again c =
-    let l = c .before .before .before .loop in
-    let xs = c .before .before .before .before .args .xs .now in
-    (omega arith, omega (arith, l .inv .1, zeros-more (map foldZ xs) (l .j) (omega (arith, length-map xs foldZ)) (sym (c .before .folded-at .ensures) ∙ c .if1 .taken)))
-
-returns : tie.Need-returns Inv-loop μ-loop
-returns c =
-    let l = c .before .before .before .loop in
-    let xs = c .before .before .before .before .args .xs .now in
-    omega (arith, l .inv .1, zeros-stop (map foldZ xs) (l .j) (omega (arith, length-map xs foldZ)) (λ e. c .if1 .left (c .before .folded-at .ensures ∙ e)))
+    let f = c .before in
+    let l = f .before .before .before .loop in
+    let xs = f .before .before .before .before .args .xs .now in
+    let m = zeros-more (map foldZ xs) (l .j) (omega (arith, length-map xs foldZ)) (sym (f .folded-at .ensures) ∙ c .if2 .taken) in
+    (omega arith, omega (arith, f .before .if1 .left, l .inv .1), omega (arith, l .inv .2, m))
 
 returns-2 : tie.Need-returns-2 Inv-loop μ-loop
 returns-2 c =
+    let f = c .before in
+    let l = f .before .before .before .loop in
+    let xs = f .before .before .before .before .args .xs .now in
+    let m = zeros-stop (map foldZ xs) (l .j) (omega (arith, length-map xs foldZ)) (λ e. c .if2 .left (f .folded-at .ensures ∙ e)) in
+    omega (arith, l .inv .1, l .inv .2, m)
+
+returns-3 : tie.Need-returns-3 Inv-loop μ-loop
+returns-3 c =
     let l = c .before .loop in
     let xs = c .before .before .args .xs .now in
-    omega (arith, l .inv .1, zeros-past (map foldZ xs) (l .j) (omega (arith, length-map xs foldZ)))
+    omega (arith, l .inv .1, l .inv .2, zeros-past (map foldZ xs) (l .j) (omega (arith, length-map xs foldZ)))
 
 pub zeros-from-spec : {M : Type 1} → statement M
 zeros-from-spec =
@@ -58,10 +66,11 @@ zeros-from-spec =
     Inv-loop
     μ-loop
     loop-holds
+    returns
     folded-at-requires
     add-z
     add-j
     loop-less
     loop-again
-    returns
-    returns-2)
+    returns-2
+    returns-3)

@@ -7,6 +7,7 @@ use denote.Ref.{now}
 use borrow.Author.Needs.{needs}
 use Rattle.bands.specs.Bands.{coefficientsFault}
 use Rattle.code_write.specs.Write.{Measures, bytesOf, componentFault}
+use Rattle.code_write.specs.laws.Write.{sized-measures}
 use Rattle.frame_write.specs.Encode.{listOf, partOf}
 use Rattle.frame_write.specs.laws.Encode.{part-judged, part-measured}
 use Rattle.frame_write.proofs.size.part_size.Statement.{statement}
@@ -34,7 +35,7 @@ returns-2 c =
     let e = f .ensures ∙ ap (coefficientsFault (s .args .q .v)) (l .load-part .ensures) in
     part-measured (s .args .mode) (s .args .q .v) (listed s) (f .result) e (c .before .before .if1 .left) (c .measure-component .result)
     (subst (λ (x : List ℤ). Measures (componentFault (s .args .mode) x) (length (bytesOf (s .args .mode) x)) (c .measure-component .result))
-    (l .load-part .ensures) (c .measure-component .ensures))
+    (l .load-part .ensures) (sized-measures _ _ _ (c .measure-component .ensures)))
 
 pub part-size-spec : {M : Type 1} → statement M
 part-size-spec =

@@ -1,0 +1,70 @@
+-- `code::read::quick_single` meets its contract: the single value in the word is the one at its place (`word-quick`). Assumes nothing.
+use Prim.Native.Nat.{_-_}
+use mathlib.Core.Bool.{false}
+use mathlib.Core.Path.{sym, _∙_}
+use native.Mathlib.Omega.{arith}
+use lib.ListN.{length}
+use Rattle.bits.specs.Bits.{bitsOf, numBits}
+use Rattle.code.specs.laws.Filling.{elem-fine}
+use Rattle.code.specs.laws.Quick.{word-inside, word-quick}
+use Rattle.code.specs.laws.Steps.{elem-low-one}
+use borrow.Author.Needs.{needs}
+use Rattle.code.proofs.read.quick_single.Statement.{statement}
+use Rattle.code.proofs.read.quick_single.Tie as tie
+use Rattle.code.proofs.read.quick_single.Reads as reads
+use Rattle.code.proofs.read.quick_single.Lts as lts
+use Rattle.bits.proofs.word.look.Reads as look-reads
+use Rattle.code.proofs.read.onward.Reads as onward-reads
+use Rattle.code.proofs.read.place.Reads as place-reads
+use Rattle.code.proofs.word.single_in.Reads as single-in-reads
+
+look-requires : tie.Need-look-requires
+look-requires c κs = search needs
+
+single-in-requires : tie.Need-single-in-requires
+single-in-requires c κs = search needs
+
+place-requires : tie.Need-place-requires
+place-requires c κs =
+    let l = c .before .before in
+    let s = l .before .before in
+    let a = s .args in
+    let n = length (a .list .now) in
+    let P = numBits 57 (l .look .result) in
+    let q = c .before .single-in .ensures ∙ sym (elem-low-one (a .c .kp) (a .c .krp) (n - a .i) 0 P (s .pre .1)) in
+    (s .pre .0 .1, s .pre .0 .2, rw q (elem-fine false (a .c .kp) (a .c .krp) n (a .i) 0 P (s .pre .0 .2)))
+
+onward-requires : tie.Need-onward-requires
+onward-requires c κs =
+    let e = c .before .before .before in
+    let l = e .before in
+    let s = l .before .before in
+    let a = s .args in
+    let n = length (a .list .now) in
+    let w = l .look .result in
+    let q = e .single-in .ensures ∙ sym (elem-low-one (a .c .kp) (a .c .krp) (n - a .i) 0 (numBits 57 w) (s .pre .1)) in (
+      omega (arith, s .pre .2, s .pre .0 .0),
+      rw (c .before .place .ensures .0) (word-inside false (a .c .kp) (a .c .krp) n (a .i) 0 w _ (omega arith) (s .pre .0 .2) q),
+    )
+
+same-length : tie.Need-same-length
+same-length c = search needs
+
+returns : tie.Need-returns
+returns c =
+    let p = c .before .before .place in
+    let e = c .before .before .before .before in
+    let l = e .before in
+    let s = l .before .before in
+    let a = s .args in
+    let n = length (a .list .now) in
+    let w = l .look .result in
+    let q = e .single-in .ensures ∙ sym (elem-low-one (a .c .kp) (a .c .krp) (n - a .i) 0 (numBits 57 w) (s .pre .1)) in
+    rw (c .onward .ensures, p .ensures .0, p .ensures .1)
+    (word-quick false (bitsOf (a .s .now)) (a .list .now) (a .c) (a .i) (a .c .at) 0 w _
+    (l .look .ensures) (omega arith) (omega arith) (s .pre .0 .3) (s .pre .0 .2) q)
+
+pub quick-single-spec : {M : Type 1} → statement M
+quick-single-spec =
+    tie.close
+    (tie.spec look-requires single-in-requires place-requires onward-requires same-length returns)

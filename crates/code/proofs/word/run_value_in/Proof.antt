@@ -1,0 +1,106 @@
+-- `code::word::run_value_in` meets its contract: the zeros, the sign, the GR number, then the value is judged; each ends in the word. Assumes nothing.
+use mathlib.Core.Path.{sym, _∙_}
+use native.Mathlib.Omega.{arith}
+use Rattle.bits.specs.Bits.{numBits}
+use Rattle.bits.specs.laws.Here.{num-there}
+use Rattle.bits.specs.laws.Word.{num-within}
+use Rattle.code.specs.laws.Steps.{run1-cut, run2-cut, run3-cut, run3-got}
+use borrow.Author.Needs.{needs}
+use Rattle.code.proofs.word.run_value_in.Statement.{statement}
+use Rattle.code.proofs.word.run_value_in.Tie as tie
+use Rattle.code.proofs.word.run_value_in.Reads as reads
+use Rattle.code.proofs.word.run_value_in.Lts as lts
+use Rattle.bits.proofs.word.golomb_in.Reads as golomb-in-reads
+use Rattle.bits.proofs.word.number_in.Reads as number-in-reads
+use Rattle.code.proofs.element.judge_run.Reads as judge-run-reads
+
+number-in-requires : tie.Need-number-in-requires
+number-in-requires c κs = search needs
+
+enum-told : tie.Need-enum-told
+enum-told c = search needs
+
+enum-known-z : tie.Need-enum-known-z
+enum-known-z c = search needs
+
+number-in-requires-2 : tie.Need-number-in-requires-2
+number-in-requires-2 c κs =
+    let z = c .before in
+    (num-within _ _ _ _ _ (z .before .before .before .pre .0) (sym (z .before .before .number-in .ensures) ∙ z .z .given .1), omega arith)
+
+enum-told-2 : tie.Need-enum-told-2
+enum-told-2 c = search needs
+
+enum-known-sign : tie.Need-enum-known-sign
+enum-known-sign c = search needs
+
+golomb-in-requires : tie.Need-golomb-in-requires
+golomb-in-requires c κs =
+    let g = c .before in
+    let z = g .before .before .before .before in
+    let s = z .before .before .before in
+    let a = num-within _ _ _ _ _ (s .pre .0) (sym (z .before .before .number-in .ensures) ∙ z .z .given .1) in
+    (num-within _ _ _ _ _ a (sym (g .before .before .number-in2 .ensures) ∙ g .sign .given .1), omega (arith, s .pre .2))
+
+enum-told-3 : tie.Need-enum-told-3
+enum-told-3 c = search needs
+
+enum-known-g : tie.Need-enum-known-g
+enum-known-g c = search needs
+
+judge-run-requires : tie.Need-judge-run-requires
+judge-run-requires c κs =
+    let g = c .before .before .before .before .before in
+    let s = g .before .before .before .before .before .before .before in
+    (s .pre .1, s .pre .2, num-there 1 _ (numBits 57 (s .args .w)) _ _ (sym (g .before .before .number-in2 .ensures) ∙ g .sign .given .1) .0)
+
+returns : tie.Need-returns
+returns c =
+    let a = c .before .before .before .args in
+    sym (run1-cut (a .c .kp) (a .c .krp) (a .left) (numBits 57 (a .w)) _ (sym (c .before .before .number-in .ensures) ∙ c .enum-told .given .1))
+
+returns-2 : tie.Need-returns-2
+returns-2 c =
+    let z = c .before .before .before .before in
+    let a = z .before .before .before .args in
+    let e = sym (z .before .before .number-in .ensures) ∙ z .z .given .1 in
+    sym (run2-cut (a .c .kp) (a .c .krp) (a .left) (numBits 57 (a .w)) _ _ _ e (sym (c .before .before .number-in2 .ensures) ∙ c .enum-told2 .given .1))
+
+returns-3 : tie.Need-returns-3
+returns-3 c =
+    let g = c .before .before .before .before in
+    let z = g .before .before .before .before in
+    let a = z .before .before .before .args in
+    let e = sym (z .before .before .number-in .ensures) ∙ z .z .given .1 in
+    let f = sym (g .before .before .number-in2 .ensures) ∙ g .sign .given .1 in
+    sym (run3-cut (a .c .kp) (a .c .krp) (a .left) (numBits 57 (a .w)) _ _ _ _ _ e f (sym (c .before .before .golomb-in .ensures) ∙ c .enum-told3 .given .1))
+
+returns-4 : tie.Need-returns-4
+returns-4 c =
+    let v = c .before .before in
+    let g = v .before .before .before .before in
+    let z = g .before .before .before .before in
+    let a = z .before .before .before .args in
+    let e = sym (z .before .before .number-in .ensures) ∙ z .z .given .1 in
+    let f = sym (g .before .before .number-in2 .ensures) ∙ g .sign .given .1 in
+    let h = sym (v .before .before .golomb-in .ensures) ∙ v .g .given .1 in
+    c .judge-run .ensures ∙ sym (run3-got (a .c .kp) (a .c .krp) (a .left) (numBits 57 (a .w)) _ _ _ _ _ _ _ e f h)
+
+pub run-value-in-spec : {M : Type 1} → statement M
+run-value-in-spec =
+    tie.close
+    (tie.spec
+    number-in-requires
+    enum-told
+    enum-known-z
+    number-in-requires-2
+    enum-told-2
+    enum-known-sign
+    golomb-in-requires
+    enum-told-3
+    enum-known-g
+    judge-run-requires
+    returns
+    returns-2
+    returns-3
+    returns-4)

@@ -1,0 +1,38 @@
+-- `code::word::single_in` meets its contract: the GR number is cut, or it is judged. Assumes nothing.
+use mathlib.Core.Path.{sym, ap, _∙_}
+use Rattle.bits.specs.declared.Num.{Num}
+use Rattle.code.specs.ReadList.{oneElem}
+use Rattle.code.specs.laws.Steps.{one-cut}
+use borrow.Author.Needs.{needs}
+use Rattle.code.proofs.word.single_in.Statement.{statement}
+use Rattle.code.proofs.word.single_in.Tie as tie
+use Rattle.code.proofs.word.single_in.Reads as reads
+use Rattle.code.proofs.word.single_in.Lts as lts
+use Rattle.bits.proofs.word.golomb_in.Reads as golomb-in-reads
+use Rattle.code.proofs.element.judge_one.Reads as judge-one-reads
+
+golomb-in-requires : tie.Need-golomb-in-requires
+golomb-in-requires c κs = search needs
+
+enum-told : tie.Need-enum-told
+enum-told c = search needs
+
+enum-known-g : tie.Need-enum-known-g
+enum-known-g c = search needs
+
+judge-one-requires : tie.Need-judge-one-requires
+judge-one-requires c κs = search needs
+
+returns : tie.Need-returns
+returns c =
+    let a = c .before .before .before .args .c in
+    sym (one-cut (a .kp) (a .krp) _ (sym (c .before .before .golomb-in .ensures) ∙ c .enum-told .given .1))
+
+returns-2 : tie.Need-returns-2
+returns-2 c =
+    let g = c .before .before in
+    let a = g .before .before .before .args .c in
+    c .judge-one .ensures ∙ ap (λ (n : Num). oneElem (a .kp) (a .krp) n) (sym (sym (g .before .before .golomb-in .ensures) ∙ g .g .given .1))
+
+pub single-in-spec : {M : Type 1} → statement M
+single-in-spec = tie.close (tie.spec golomb-in-requires enum-told enum-known-g judge-one-requires returns returns-2)
