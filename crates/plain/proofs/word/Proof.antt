@@ -1,0 +1,13 @@
+-- `word` meets its contract. Assumes nothing.
+use Rattle.colour.specs.Colour.{wordOf}
+use mir.Facts.{toZ-ofZ}
+use borrow.Author.Needs.{needs}
+use Rattle.plain.proofs.word.Statement.{statement}
+use Rattle.plain.proofs.word.Tie as tie
+
+returns : tie.Need-returns
+unfolding wordOf
+returns c = cc (toZ-ofZ (c .before .before .before .before .fits .y), toZ-ofZ (c .before .before .before .before .fits .cb), toZ-ofZ (c .before .before .before .before .fits .cr))
+
+pub word-spec : {M : Type 1} → statement M
+word-spec = tie.close (tie.spec (λ c κs. search needs) (λ c κs. search needs) (λ c κs. search needs) (λ c κs. search needs) returns)
