@@ -11,35 +11,45 @@ use Rattle.plain.proofs.component.Tie as tie
 
 returns : tie.Need-returns
 returns c =
-    let a = c .before .before .before .before .before .before .args in
     let d = c .before .before .before .read-component in
-    part-refused (a .mode) (a .q .v) (now (a .code)) (now (a .work)) (d .last .1 .1 .0) (d .result) (c .before .before .before .before .before .before .pre .0) (d .ensures) (c .before .reading-number .result)
+    let pre = c .before .before .before .before .before .before .pre in
+    let a = c .before .before .before .before .before .before .args in
+    part-refused (a .mode) (a .q .v) (now (a .code)) (now (a .work)) (d .last .1 .1 .0) (d .result) (pre .0) (d .ensures) (c .before .reading-number .result)
     (c .before .reading-number .ensures) (c .if1 .taken)
 
 fit-requires : tie.Need-fit-requires
 fit-requires c κs =
-    let a = c .before .before .before .before .before .before .before .args in
+    let reading-number = c .before .before .reading-number in
     let d = c .before .before .before .before .read-component in
-    let g = part-good (a .mode) (a .q .v) (now (a .code)) (now (a .work)) (d .last .1 .1 .0) (d .result) (c .before .before .before .before .before .before .before .pre .0) (d .ensures) (c .before .before .reading-number .result)
-    (c .before .before .reading-number .ensures) (c .before .if1 .left) in
-    (g .0, g .1, c .before .before .before .before .before .before .before .pre .1)
+    let pre = c .before .before .before .before .before .before .before .pre in
+    let a = c .before .before .before .before .before .before .before .args in
+    let g = part-good (a .mode) (a .q .v) (now (a .code)) (now (a .work)) (d .last .1 .1 .0) (d .result) (pre .0) (d .ensures) (reading-number .result)
+    (reading-number .ensures) (c .before .if1 .left) in
+    (g .0, g .1, pre .1)
 
 returns-2 : tie.Need-returns-2
 returns-2 c =
-    let a = c .before .before .before .before .before .before .before .before .before .before .before .before .before .args in
-    let d = c .before .before .before .before .before .before .before .before .before .before .read-component in
+    let if2 = c .before .before .before .if2 in
     let f = c .before .before .before .before .before .fit in
-    part-bad (a .mode) (a .q .v) (now (a .code)) (now (a .work)) (d .last .1 .1 .0) (d .result) (c .before .before .before .before .before .before .before .before .before .before .before .before .before .pre .0) (d .ensures) (c .before .before .before .before .before .before .before .before .reading-number .result)
-    (c .before .before .before .before .before .before .before .before .reading-number .ensures) (c .before .before .before .before .before .before .before .if1 .left) (f .last .0) (f .result) (f .ensures) (c .before .clear .last .0) (c .before .before .before .if2 .taken)
-    (c .before .clear .ensures ∙ ap (λ (k : ℕ). replicate k (pos 0)) (f .kept .0 ∙ d .kept .1 .1 .0 ∙ c .before .before .before .before .before .before .before .before .before .before .before .before .before .pre .0))
+    let if1 = c .before .before .before .before .before .before .before .if1 in
+    let reading-number = c .before .before .before .before .before .before .before .before .reading-number in
+    let d = c .before .before .before .before .before .before .before .before .before .before .read-component in
+    let pre = c .before .before .before .before .before .before .before .before .before .before .before .before .before .pre in
+    let a = c .before .before .before .before .before .before .before .before .before .before .before .before .before .args in
+    part-bad (a .mode) (a .q .v) (now (a .code)) (now (a .work)) (d .last .1 .1 .0) (d .result) (pre .0) (d .ensures) (reading-number .result)
+    (reading-number .ensures) (if1 .left) (f .last .0) (f .result) (f .ensures) (c .before .clear .last .0) (if2 .taken)
+    (c .before .clear .ensures ∙ ap (λ (k : ℕ). replicate k (pos 0)) (f .kept .0 ∙ d .kept .1 .1 .0 ∙ pre .0))
 
 returns-3 : tie.Need-returns-3
 returns-3 c =
-    let a = c .before .before .before .before .before .before .before .before .before .before .args in
-    let d = c .before .before .before .before .before .before .before .read-component in
     let f = c .before .before .fit in
-    part-done (a .mode) (a .q .v) (now (a .code)) (now (a .work)) (d .last .1 .1 .0) (d .result) (c .before .before .before .before .before .before .before .before .before .before .pre .0) (d .ensures) (c .before .before .before .before .before .reading-number .result)
-    (c .before .before .before .before .before .reading-number .ensures) (c .before .before .before .before .if1 .left) (f .last .0) (f .result) (f .ensures) (c .if2 .left)
+    let if1 = c .before .before .before .before .if1 in
+    let reading-number = c .before .before .before .before .before .reading-number in
+    let d = c .before .before .before .before .before .before .before .read-component in
+    let pre = c .before .before .before .before .before .before .before .before .before .before .pre in
+    let a = c .before .before .before .before .before .before .before .before .before .before .args in
+    part-done (a .mode) (a .q .v) (now (a .code)) (now (a .work)) (d .last .1 .1 .0) (d .result) (pre .0) (d .ensures) (reading-number .result)
+    (reading-number .ensures) (if1 .left) (f .last .0) (f .result) (f .ensures) (c .if2 .left)
 
 pub component-spec : {M : Type 1} → statement M
 component-spec =

@@ -25,44 +25,74 @@ shared-slice-copy-out-even : tie.Need-shared-slice-copy-out-even
 shared-slice-copy-out-even c = omega (arith, c .pre .0 .low (c .args .c) (c .pre .1), c .pre .0 .len)
 
 mul-even-3 : tie.Need-mul-even-3
-mul-even-3 c = omega (arith, c .before .before .pre .0 .high (c .prev .result) (omega (arith, c .prev .ensures, c .before .before .pre .1)))
+mul-even-3 c =
+    let pre = c .before .before .pre in
+    omega (arith, pre .0 .high (c .prev .result) (omega (arith, c .prev .ensures, pre .1)))
 
 add-even-2 : tie.Need-add-even-2
-add-even-2 c = omega (arith, c .before .before .pre .0 .high (c .prev .result) (omega (arith, c .prev .ensures, c .before .before .pre .1)))
+add-even-2 c =
+    let pre = c .before .before .pre in
+    omega (arith, pre .0 .high (c .prev .result) (omega (arith, c .prev .ensures, pre .1)))
 
 mul-even-4 : tie.Need-mul-even-4
-mul-even-4 c = omega (arith, c .before .before .pre .0 .high (c .prev .result) (omega (arith, c .prev .ensures, c .before .before .pre .1)))
+mul-even-4 c =
+    let pre = c .before .before .pre in
+    omega (arith, pre .0 .high (c .prev .result) (omega (arith, c .prev .ensures, pre .1)))
 
 shared-slice-copy-out-even-2 : tie.Need-shared-slice-copy-out-even-2
-shared-slice-copy-out-even-2 c = omega (arith, c .before .before .pre .0 .high (c .prev .result) (omega (arith, c .prev .ensures, c .before .before .pre .1)), c .before .before .pre .0 .len)
+shared-slice-copy-out-even-2 c =
+    let pre = c .before .before .pre in
+    omega (arith, pre .0 .high (c .prev .result) (omega (arith, c .prev .ensures, pre .1)), pre .0 .len)
 
 mul-even-5 : tie.Need-mul-even-5
-mul-even-5 c = omega (arith, c .before .before .before .pre .0 .high (c .before .before .before .args .c) (c .before .before .before .pre .1))
+mul-even-5 c =
+    let pre = c .before .before .before .pre in
+    let args = c .before .before .before .args in
+    omega (arith, pre .0 .high (args .c) (pre .1))
 
 add-even-3 : tie.Need-add-even-3
-add-even-3 c = omega (arith, c .before .before .before .pre .0 .high (c .before .before .before .args .c) (c .before .before .before .pre .1))
+add-even-3 c =
+    let pre = c .before .before .before .pre in
+    let args = c .before .before .before .args in
+    omega (arith, pre .0 .high (args .c) (pre .1))
 
 mul-even-6 : tie.Need-mul-even-6
-mul-even-6 c = omega (arith, c .before .before .before .pre .0 .high (c .before .before .before .args .c) (c .before .before .before .pre .1))
+mul-even-6 c =
+    let pre = c .before .before .before .pre in
+    let args = c .before .before .before .args in
+    omega (arith, pre .0 .high (args .c) (pre .1))
 
 shared-slice-copy-out-even-3 : tie.Need-shared-slice-copy-out-even-3
-shared-slice-copy-out-even-3 c = omega (arith, c .before .before .before .pre .0 .high (c .before .before .before .args .c) (c .before .before .before .pre .1), c .before .before .before .pre .0 .len)
+shared-slice-copy-out-even-3 c =
+    let pre = c .before .before .before .pre in
+    let args = c .before .before .before .args in
+    omega (arith, pre .0 .high (args .c) (pre .1), pre .0 .len)
 
 even-requires : tie.Need-even-requires
 even-requires c κs =
-    let p = c .before .before .before .before .pre .0 in
-    let i = c .before .before .before .before .args .c in
-    let h = c .before .before .before .before .pre .1 in
-    (back-near w32 (p .near-low i h) tt, back-near w32 (p .near-high (c .before .before .prev .result) (omega (arith, c .before .before .prev .ensures, h))) tt, back-near w32 (p .near-high i h) tt)
+    let prev = c .before .before .prev in
+    let pre = c .before .before .before .before .pre in
+    let args = c .before .before .before .before .args in
+    let p = pre .0 in
+    let i = args .c in
+    let h = pre .1 in (
+      back-near w32 (p .near-low i h) tt,
+      back-near w32 (p .near-high (prev .result) (omega (arith, prev .ensures, h))) tt,
+      back-near w32
+          (p .near-high i h) tt,
+    )
 
 returns : tie.Need-returns
 returns c =
-    let p = c .before .before .before .before .before .pre .0 in
+    let prev = c .before .before .before .prev in
+    let pre = c .before .before .before .before .before .pre in
     let a = c .before .before .before .before .before .args in
-    let h = c .before .before .before .before .before .pre .1 in
+    let p = pre .0 in
+    let h = pre .1 in
     let S : ℕ → ℤ = at (now (a .src)) in
-    back-ok w32 (c .even .result) (c .even .ok) ∙ even-step (λ (i : ℕ). S (a .l + a .step * i)) (λ (i : ℕ). S (a .h + a .step * i)) (a .c) (c .even .ensures) (back w32 (p .near-low (a .c) h) tt)
-    (back w32 (p .near-high (c .before .before .before .prev .result) (omega (arith, c .before .before .before .prev .ensures, h))) tt ∙ ap (λ (i : ℕ). S (a .h + a .step * i)) (c .before .before .before .prev .ensures))
+    back-ok w32 (c .even .result) (c .even .ok) ∙ even-step (λ (i : ℕ). S (a .l + a .step * i)) (λ (i : ℕ). S (a .h + a .step * i)) (a .c)
+    (c .even .ensures) (back w32 (p .near-low (a .c) h) tt)
+    (back w32 (p .near-high (prev .result) (omega (arith, prev .ensures, h))) tt ∙ ap (λ (i : ℕ). S (a .h + a .step * i)) (prev .ensures))
     (back w32 (p .near-high (a .c) h) tt)
 
 pub even-at-spec : {M : Type 1} → statement M

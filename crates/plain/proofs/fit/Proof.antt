@@ -6,16 +6,26 @@ use Rattle.plain.proofs.fit.Statement.{statement}
 use Rattle.plain.proofs.fit.Tie as tie
 
 returns : tie.Need-returns
-returns c = fit-stops (c .before .before .before .before .args .q .v) (now (c .before .before .before .before .args .work)) (c .before .before .sum .last .0) (c .before .before .sum .result) (c .before .before .sum .ensures) (c .if1 .taken)
+returns c =
+    let the-sum = c .before .before .sum in
+    let args = c .before .before .before .before .args in
+    fit-stops (args .q .v) (now (args .work)) (the-sum .last .0) (the-sum .result) (the-sum .ensures) (c .if1 .taken)
 
 scale-requires : tie.Need-scale-requires
 scale-requires c κs =
-    let g = mid-good (c .before .before .before .before .before .args .q .v) (now (c .before .before .before .before .before .args .work)) (c .before .before .before .sum .last .0) (c .before .before .before .sum .result) (c .before .before .before .sum .ensures) (c .before .if1 .left) (c .before .before .before .before .before .pre .0) (c .before .before .before .before .before .pre .1) in
-    (g .0, g .1, c .before .before .before .before .before .pre .2)
+    let the-sum = c .before .before .before .sum in
+    let pre = c .before .before .before .before .before .pre in
+    let args = c .before .before .before .before .before .args in
+    let g = mid-good (args .q .v) (now (args .work)) (the-sum .last .0) (the-sum .result) (the-sum .ensures) (c .before .if1 .left) (pre .0) (pre .1) in
+    (g .0, g .1, pre .2)
 
 returns-2 : tie.Need-returns-2
 returns-2 c =
-    fit-goes (c .before .before .before .before .before .before .before .args .q .v) (now (c .before .before .before .before .before .before .before .args .work)) (c .before .before .before .before .before .sum .last .0) (c .before .before .before .before .before .sum .result) (c .before .before .before .before .before .sum .ensures) (c .before .before .before .if1 .left) (c .before .scale .last .0) (c .before .scale .result) (c .before .scale .ensures)
+    let if1 = c .before .before .before .if1 in
+    let the-sum = c .before .before .before .before .before .sum in
+    let args = c .before .before .before .before .before .before .before .args in
+    fit-goes (args .q .v) (now (args .work)) (the-sum .last .0) (the-sum .result) (the-sum .ensures) (if1 .left) (c .before .scale .last .0)
+    (c .before .scale .result) (c .before .scale .ensures)
 
 pub fit-spec : {M : Type 1} → statement M
 fit-spec = tie.close (tie.spec (λ c κs. search needs) (λ c. search needs) returns scale-requires (λ c. search needs) returns-2)

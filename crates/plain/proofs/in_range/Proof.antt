@@ -10,10 +10,16 @@ returns : tie.Need-returns
 returns c = in-low (c .before .args .v) (test-l (negsuc 32766) true (c .before .fits .v) (c .if1 .taken))
 
 returns-2 : tie.Need-returns-2
-returns-2 c = in-high (c .before .before .args .v) (test-r (pos 32767) true (c .before .before .fits .v) (c .if2 .taken))
+returns-2 c =
+    let args = c .before .before .args in
+    let fits = c .before .before .fits in
+    in-high (args .v) (test-r (pos 32767) true (fits .v) (c .if2 .taken))
 
 returns-3 : tie.Need-returns-3
-returns-3 c = in-mid (c .before .before .args .v) (test-l (negsuc 32766) false (c .before .before .fits .v) (c .before .if1 .left)) (test-r (pos 32767) false (c .before .before .fits .v) (c .if2 .left))
+returns-3 c =
+    let args = c .before .before .args in
+    let fits = c .before .before .fits in
+    in-mid (args .v) (test-l (negsuc 32766) false (fits .v) (c .before .if1 .left)) (test-r (pos 32767) false (fits .v) (c .if2 .left))
 
 pub in-range-spec : {M : Type 1} → statement M
 in-range-spec = tie.close (tie.spec returns returns-2 returns-3)

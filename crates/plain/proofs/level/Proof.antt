@@ -5,7 +5,10 @@ use Rattle.plain.proofs.level.Statement.{statement}
 use Rattle.plain.proofs.level.Tie as tie
 
 columns-requires : tie.Need-columns-requires
-columns-requires c κs = (c .before .before .before .before .before .before .pre .0, c .before .before .before .rows .kept .1 .1 .0 ∙ c .before .before .before .before .before .before .pre .1, c .before .before .before .rows .ensures)
+columns-requires c κs =
+    let the-rows = c .before .before .before .rows in
+    let pre = c .before .before .before .before .before .before .pre in
+    (pre .0, the-rows .kept .1 .1 .0 ∙ pre .1, the-rows .ensures)
 
 returns : tie.Need-returns
 returns c = c .before .columns .ensures

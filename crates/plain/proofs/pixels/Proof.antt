@@ -20,32 +20,50 @@ loop-holds : tie.Need-loop-holds Inv-loop μ-loop
 loop-holds c = (omega arith, refl, below-none _)
 
 pixel-requires : tie.Need-pixel-requires Inv-loop μ-loop
-pixel-requires c κs = (c .loop-test .taken, c .before .before .before .pre .1, c .before .before .before .pre .2, c .before .before .before .pre .3)
+pixel-requires c κs =
+    let pre = c .before .before .before .pre in
+    (c .loop-test .taken, pre .1, pre .2, pre .3)
 
 loop-again : tie.Need-loop-again Inv-loop μ-loop
 loop-again c =
     let l = c .before .before .loop in
-    let a = c .before .before .before .before .args in (
+    let pre = c .before .before .before .before .pre in
+    let args = c .before .before .before .before .args in
+    let a = args in (
       omega (arith, c .before .loop-test .taken),
       length-set (l .words) (l .i) _ ∙ l .inv .1,
-      put-any 0 (λ n. n) (wordAt (now (a .ys)) (now (a .cbs)) (now (a .crs))) (l .words) (l .i) _ (omega (arith, c .before .before .before .before .pre .0, l .inv, c .before .loop-test .taken))
+      put-any 0 (λ n. n) (wordAt (now (a .ys)) (now (a .cbs)) (now (a .crs))) (l .words) (l .i) _ (omega (arith, pre .0, l .inv, c .before .loop-test .taken))
           (λ n k. omega arith) (c .pixel .ensures) (l .inv .2),
     )
 
 returns : tie.Need-returns Inv-loop μ-loop
-returns c = record { len = c .before .loop .inv .1 ∙ c .before .before .before .pre .0; word = λ i h. c .before .loop .inv .2 i (omega (arith, c .loop-test .left)) }
+returns c =
+    let pre = c .before .before .before .pre in
+    record { len = c .before .loop .inv .1 ∙ pre .0; word = λ i h. c .before .loop .inv .2 i (omega (arith, c .loop-test .left)) }
 
 mul-words : tie.Need-mul-words Inv-loop μ-loop
-mul-words c = omega (arith, c .before .before .before .before .pre .0, c .before .before .loop .inv, c .before .loop-test .taken)
+mul-words c =
+    let loop = c .before .before .loop in
+    let pre = c .before .before .before .before .pre in
+    omega (arith, pre .0, loop .inv, c .before .loop-test .taken)
 
 slice-write-words : tie.Need-slice-write-words Inv-loop μ-loop
-slice-write-words c = omega (arith, c .before .before .before .before .pre .0, c .before .before .loop .inv, c .before .loop-test .taken)
+slice-write-words c =
+    let loop = c .before .before .loop in
+    let pre = c .before .before .before .before .pre in
+    omega (arith, pre .0, loop .inv, c .before .loop-test .taken)
 
 add-i : tie.Need-add-i Inv-loop μ-loop
-add-i c = omega (arith, c .before .before .before .before .pre .0, c .before .before .loop .inv, c .before .loop-test .taken)
+add-i c =
+    let loop = c .before .before .loop in
+    let pre = c .before .before .before .before .pre in
+    omega (arith, pre .0, loop .inv, c .before .loop-test .taken)
 
 loop-less : tie.Need-loop-less Inv-loop μ-loop
-loop-less c = omega (arith, c .before .before .before .before .pre .0, c .before .before .loop .inv, c .before .loop-test .taken)
+loop-less c =
+    let loop = c .before .before .loop in
+    let pre = c .before .before .before .before .pre in
+    omega (arith, pre .0, loop .inv, c .before .loop-test .taken)
 
 same-length : tie.Need-same-length Inv-loop μ-loop
 same-length c = c .before .loop .inv .1

@@ -1,8 +1,7 @@
 -- `quant` meets its contract: the value at the band's place in the set, which is good. Assumes nothing.
 use Prim.Native.Nat.{ℕ, _≤_, _<_}
-use mathlib.Core.Path.{_≡_, sym, subst, ap, _∙_}
+use mathlib.Core.Path.{sym, subst, ap}
 use lib.ListN.{getD}
-use native.Mathlib.Omega.{arith}
 use borrow.Author.Needs.{needs}
 use Rattle.bands.specs.laws.Band.{band-below, quant-low, quant-high}
 use Rattle.plain.proofs.quant.Statement.{statement}
@@ -10,9 +9,11 @@ use Rattle.plain.proofs.quant.Tie as tie
 
 returns : tie.Need-returns
 returns c =
-    let e = ap (λ (i : ℕ). getD (c .before .before .args .t1 .v) i 0) (c .before .band .ensures) in
-    let k = c .before .before .args .k in
-    (e, subst (λ (n : ℕ). 6 ≤ n) (sym e) (quant-low (c .before .before .args .t1 .v) k (c .before .before .pre .0)), subst (λ (n : ℕ). n ≤ 15) (sym e) (quant-high (c .before .before .args .t1 .v) k (c .before .before .pre .0)))
+    let pre = c .before .before .pre in
+    let args = c .before .before .args in
+    let e = ap (λ (i : ℕ). getD (args .t1 .v) i 0) (c .before .band .ensures) in
+    let k = args .k in
+    (e, subst (λ (n : ℕ). 6 ≤ n) (sym e) (quant-low (args .t1 .v) k (pre .0)), subst (λ (n : ℕ). n ≤ 15) (sym e) (quant-high (args .t1 .v) k (pre .0)))
 
 copies : tie.Need-element-copy-out-result
 copies c = subst (λ (i : ℕ). i < 10) (sym (c .band .ensures)) (band-below (c .before .args .k))

@@ -32,25 +32,52 @@ add-a-2 : tie.Need-add-a-2
 add-a-2 c = omega (arith, c .before .pre .0 .fits, row-in (c .before .args .r - c .before .args .n) (c .before .args .n) (c .before .args .n) (omega arith))
 
 add-line-2 : tie.Need-add-line-2
-add-line-2 c = omega (arith, c .before .pre .0 .fits, row-in (c .before .args .r - c .before .args .n) (c .before .args .n) (c .before .args .n) (omega arith))
+add-line-2 c = omega (
+  arith,
+  c .before .pre .0 .fits,
+  row-in (c .before .args .r - c .before .args .n) (c .before .args .n) (c .before .args .n)
+      (omega arith),
+)
 
 mul-line-2 : tie.Need-mul-line-2
-mul-line-2 c = omega (arith, c .before .pre .0 .fits, row-in (c .before .args .r - c .before .args .n) (c .before .args .n) (c .before .args .n) (omega arith))
+mul-line-2 c = omega (
+  arith,
+  c .before .pre .0 .fits,
+  row-in (c .before .args .r - c .before .args .n) (c .before .args .n) (c .before .args .n)
+      (omega arith),
+)
 
 add-line-3 : tie.Need-add-line-3
-add-line-3 c = omega (arith, c .before .pre .0 .fits, row-in (c .before .args .r - c .before .args .n) (c .before .args .n) (c .before .args .n) (omega arith))
+add-line-3 c = omega (
+  arith,
+  c .before .pre .0 .fits,
+  row-in (c .before .args .r - c .before .args .n) (c .before .args .n) (c .before .args .n)
+      (omega arith),
+)
 
 line-requires : tie.Need-line-requires
 line-requires c κs = let a = c .before .args in (low-line (now (a .src)) (a .from) (a .n) (c .before .pre .0) (a .r) (c .if1 .taken), c .before .pre .2)
 
 returns : tie.Need-returns
-returns c = let a = c .before .before .args in back-ok w32 (c .line .result) (c .line .ok) ∙ c .line .ensures ∙ low-is (now (a .src)) (a .from) (a .n) (c .before .before .pre .0) (a .r) (a .x) (c .before .if1 .taken) (c .before .before .pre .2)
+returns c =
+    let pre = c .before .before .pre in
+    let args = c .before .before .args in
+    let a = args in back-ok w32 (c .line .result) (c .line .ok) ∙ c .line .ensures ∙ low-is (now (a .src)) (a .from) (a .n) (pre .0) (a .r) (a .x)
+    (c .before .if1 .taken) (pre .2)
 
 line-requires-2 : tie.Need-line-requires-2
-line-requires-2 c κs = let a = c .before .args in (high-line (now (a .src)) (a .from) (a .n) (c .before .pre .0) (a .r) (c .if1 .left) (c .before .pre .1), c .before .pre .2)
+line-requires-2 c κs = let a = c .before .args in (
+  high-line (now (a .src)) (a .from) (a .n) (c .before .pre .0) (a .r) (c .if1 .left)
+      (c .before .pre .1),
+  c .before .pre .2,
+)
 
 returns-2 : tie.Need-returns-2
-returns-2 c = let a = c .before .before .args in back-ok w32 (c .line2 .result) (c .line2 .ok) ∙ c .line2 .ensures ∙ high-is (now (a .src)) (a .from) (a .n) (c .before .before .pre .0) (a .r) (a .x) (c .before .if1 .left) (c .before .before .pre .2)
+returns-2 c =
+    let pre = c .before .before .pre in
+    let args = c .before .before .args in
+    let a = args in back-ok w32 (c .line2 .result) (c .line2 .ok) ∙ c .line2 .ensures ∙ high-is (now (a .src)) (a .from) (a .n) (pre .0) (a .r)
+    (a .x) (c .before .if1 .left) (pre .2)
 
 pub row-spec : {M : Type 1} → statement M
 row-spec =

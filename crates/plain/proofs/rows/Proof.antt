@@ -24,17 +24,24 @@ loop-holds c = (omega arith, done-none _ _)
 
 row-requires : tie.Need-row-requires Inv-loop μ-loop
 row-requires c κs =
-    let k = c .before .loop .k in
-    (c .before .before .pre .0, div-lt-iff-lt-mul {k = 2 * c .before .before .args .n} {x = k} {y = 2 * c .before .before .args .n} (omega (arith, c .before .before .pre .0 .some)) .1 (c .loop-test .taken), mod-lt k (omega (arith, c .before .before .pre .0 .some)))
+    let pre = c .before .before .pre in
+    let args = c .before .before .args in
+    let k = c .before .loop .k in (
+      pre .0,
+      div-lt-iff-lt-mul {k = 2 * args .n} {x = k} {y = 2 * args .n} (omega (arith, pre .0 .some)) .1 (c .loop-test .taken),
+      mod-lt k (omega
+          (arith, pre .0 .some)),
+    )
 
 loop-again : tie.Need-loop-again Inv-loop μ-loop
 loop-again c =
     let l = c .before .before .loop in
+    let pre = c .before .before .before .pre in
     let a = c .before .before .before .args in
     let v = back-ok w32 (c .row .result) (c .row .ok) ∙ c .row .ensures in (
       omega (arith, c .before .loop-test .taken),
       done-put (λ (i : ℕ). rowsAt (a .n) (at (drop (a .from) (now (a .src)))) (i / (2 * a .n)) (i % (2 * a .n)))
-          (l .k) (now (a .dst)) (l .dst) _ (omega (arith, c .before .loop-test .taken, c .before .before .before .pre .0 .fits, c .before .before .before .pre .1)) v (l .inv .1),
+          (l .k) (now (a .dst)) (l .dst) _ (omega (arith, c .before .loop-test .taken, pre .0 .fits, pre .1)) v (l .inv .1),
     )
 
 returns : tie.Need-returns Inv-loop μ-loop
@@ -44,22 +51,38 @@ mul-loop : tie.Need-mul-loop Inv-loop μ-loop
 mul-loop c = omega (arith, c .before .pre .0 .fits, c .before .pre .0 .small, c .before .pre .0 .some, c .before .pre .1, c .loop .inv)
 
 div-row : tie.Need-div-row Inv-loop μ-loop
-div-row c = omega (arith, c .before .before .pre .0 .some)
+div-row c =
+    let pre = c .before .before .pre in
+    omega (arith, pre .0 .some)
 
 rem-row : tie.Need-rem-row Inv-loop μ-loop
-rem-row c = omega (arith, c .before .before .pre .0 .some)
+rem-row c =
+    let pre = c .before .before .pre in
+    omega (arith, pre .0 .some)
 
 mul-t11 : tie.Need-mul-t11 Inv-loop μ-loop
-mul-t11 c = omega (arith, c .before .before .before .pre .0 .fits, c .before .before .before .pre .1, c .before .before .loop .inv .0, c .before .before .loop .inv .1 .same, c .before .loop-test .taken)
+mul-t11 c =
+    let loop = c .before .before .loop in
+    let pre = c .before .before .before .pre in
+    omega (arith, pre .0 .fits, pre .1, loop .inv .0, loop .inv .1 .same, c .before .loop-test .taken)
 
 slice-set-from-dst : tie.Need-slice-set-from-dst Inv-loop μ-loop
-slice-set-from-dst c = omega (arith, c .before .before .before .pre .0 .fits, c .before .before .before .pre .1, c .before .before .loop .inv .0, c .before .before .loop .inv .1 .same, c .before .loop-test .taken)
+slice-set-from-dst c =
+    let loop = c .before .before .loop in
+    let pre = c .before .before .before .pre in
+    omega (arith, pre .0 .fits, pre .1, loop .inv .0, loop .inv .1 .same, c .before .loop-test .taken)
 
 add-k : tie.Need-add-k Inv-loop μ-loop
-add-k c = omega (arith, c .before .before .before .pre .0 .fits, c .before .before .before .pre .1, c .before .before .loop .inv .0, c .before .before .loop .inv .1 .same, c .before .loop-test .taken)
+add-k c =
+    let loop = c .before .before .loop in
+    let pre = c .before .before .before .pre in
+    omega (arith, pre .0 .fits, pre .1, loop .inv .0, loop .inv .1 .same, c .before .loop-test .taken)
 
 loop-less : tie.Need-loop-less Inv-loop μ-loop
-loop-less c = omega (arith, c .before .before .before .pre .0 .fits, c .before .before .before .pre .1, c .before .before .loop .inv .0, c .before .before .loop .inv .1 .same, c .before .loop-test .taken)
+loop-less c =
+    let loop = c .before .before .loop in
+    let pre = c .before .before .before .pre in
+    omega (arith, pre .0 .fits, pre .1, loop .inv .0, loop .inv .1 .same, c .before .loop-test .taken)
 
 same-length : tie.Need-same-length Inv-loop μ-loop
 same-length c = c .before .loop .inv .1 .same
@@ -67,5 +90,5 @@ same-length c = c .before .loop .inv .1 .same
 pub rows-spec : {M : Type 1} → statement M
 rows-spec =
     tie.close
-    (tie.spec Inv-loop μ-loop (λ c. omega (arith, c .pre .0 .small)) loop-holds mul-loop div-row rem-row row-requires mul-t11 slice-set-from-dst add-k loop-less loop-again
-    same-length returns)
+    (tie.spec Inv-loop μ-loop (λ c. omega (arith, c .pre .0 .small)) loop-holds mul-loop div-row rem-row row-requires mul-t11 slice-set-from-dst
+    add-k loop-less loop-again same-length returns)

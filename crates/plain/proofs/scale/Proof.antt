@@ -2,7 +2,7 @@
 use Prim.Native.Nat.{ℕ, _-_, _^_}
 use mathlib.Core.Path.{_≡_, sym, ap, subst, _∙_}
 use native.Mathlib.Omega.{arith}
-use lib.IntN.{ℤ, pos, _*ℤ_}
+use lib.IntN.{pos}
 use denote.Ref.{now}
 use mir.Syntax.{w32}
 use mir.Val.{toZ, ofZ}
@@ -37,7 +37,9 @@ factor-near : (c : tie.After-factor Inv-loop μ-loop) → Near 16384 (c .factor 
 factor-near c = subst (Near 16384) (sym (c .factor .ensures)) (power-near (c .before .quant .result) (c .before .quant .ensures .2))
 
 times-requires : tie.Need-times-requires Inv-loop μ-loop
-times-requires c κs = (back-near w32 (near (c .before .before .before .before)) tt, back-near w32 (factor-near c) tt)
+times-requires c κs =
+    let state = c .before .before .before .before in
+    (back-near w32 (near (state)) tt, back-near w32 (factor-near c) tt)
 
 -- the value at this place
 value : (c : tie.After-times Inv-loop μ-loop) → let a = c .before .before .before .before .before .before .args in
@@ -50,33 +52,51 @@ value c =
 
 returns : tie.Need-returns Inv-loop μ-loop
 returns c =
+    let loop-test = c .before .before .before .before .before .before .loop-test in
     let l = c .before .before .before .before .before .before .before .loop in
-    scale-bad (c .before .before .before .before .before .before .before .before .args .q .v) (now (c .before .before .before .before .before .before .before .before .args .work)) (c .before .before .before .before .before .before .before .before .pre .0) (l .work) (l .k) (l .inv) (c .before .before .before .before .before .before .loop-test .taken) _ (value (c .before .before)) (l .work)
+    let pre = c .before .before .before .before .before .before .before .before .pre in
+    let args = c .before .before .before .before .before .before .before .before .args in
+    scale-bad (args .q .v) (now (args .work)) (pre .0) (l .work) (l .k) (l .inv) (loop-test .taken) _ (value (c .before .before)) (l .work)
     (sym (c .before .in-range .ensures) ∙ not-true (c .before .in-range .result) (c .if1 .taken))
 
 loop-again : tie.Need-loop-again Inv-loop μ-loop
 loop-again c =
+    let loop-test = c .before .before .before .before .before .before .loop-test in
     let l = c .before .before .before .before .before .before .before .loop in
-    scale-next (c .before .before .before .before .before .before .before .before .args .q .v) (now (c .before .before .before .before .before .before .before .before .args .work)) (c .before .before .before .before .before .before .before .before .pre .0) (l .work) (l .k) (l .inv) (c .before .before .before .before .before .before .loop-test .taken) _ (value (c .before .before))
+    let pre = c .before .before .before .before .before .before .before .before .pre in
+    let args = c .before .before .before .before .before .before .before .before .args in
+    scale-next (args .q .v) (now (args .work)) (pre .0) (l .work) (l .k) (l .inv) (loop-test .taken) _ (value (c .before .before))
     (sym (c .before .in-range .ensures) ∙ not-false (c .before .in-range .result) (c .if1 .left))
 
 returns-2 : tie.Need-returns-2 Inv-loop μ-loop
-returns-2 c = scale-end (c .before .before .args .q .v) (now (c .before .before .args .work)) (c .before .before .pre .0) (c .before .loop .work) (c .before .loop .k) (c .before .loop .inv) (c .loop-test .left)
+returns-2 c =
+    let pre = c .before .before .pre in
+    let args = c .before .before .args in
+    scale-end (args .q .v) (now (args .work)) (pre .0) (c .before .loop .work) (c .before .loop .k) (c .before .loop .inv) (c .loop-test .left)
 
 same-length : tie.Need-same-length Inv-loop μ-loop
-same-length c = c .before .before .before .before .before .before .before .loop .inv .done .same
+same-length c =
+    let loop = c .before .before .before .before .before .before .before .loop in
+    loop .inv .done .same
 
 same-length-2 : tie.Need-same-length-2 Inv-loop μ-loop
 same-length-2 c = c .before .loop .inv .done .same
 
 slice-copy-out-times : tie.Need-slice-copy-out-times Inv-loop μ-loop
-slice-copy-out-times c = omega (arith, c .before .loop .inv .done .same, c .before .before .pre .0, c .loop-test .taken)
+slice-copy-out-times c =
+    let pre = c .before .before .pre in
+    omega (arith, c .before .loop .inv .done .same, pre .0, c .loop-test .taken)
 
 slice-set-from-v : tie.Need-slice-set-from-v Inv-loop μ-loop
-slice-set-from-v c = omega (arith, c .before .before .before .before .before .before .before .loop .inv .done .same, c .before .before .before .before .before .before .before .before .pre .0, c .before .before .before .before .before .before .loop-test .taken)
+slice-set-from-v c =
+    let loop-test = c .before .before .before .before .before .before .loop-test in
+    let loop = c .before .before .before .before .before .before .before .loop in
+    let pre = c .before .before .before .before .before .before .before .before .pre in
+    omega (arith, loop .inv .done .same, pre .0, loop-test .taken)
 
 pub scale-spec : {M : Type 1} → statement M
 scale-spec =
     tie.close
-    (tie.spec Inv-loop μ-loop loop-holds (λ c. omega arith) slice-copy-out-times (λ c κs. (c .before .before .before .pre .2, c .before .loop-test .taken)) (λ c κs. search needs) times-requires
+    (tie.spec Inv-loop μ-loop loop-holds (λ c. omega arith) slice-copy-out-times (λ c κs.
+    (c .before .before .before .pre .2, c .before .loop-test .taken)) (λ c κs. search needs) times-requires
     (λ c κs. search needs) same-length returns (λ c. omega arith) slice-set-from-v (λ c. omega arith) (λ c. omega arith) loop-again same-length-2 returns-2)

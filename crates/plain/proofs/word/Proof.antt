@@ -7,7 +7,9 @@ use Rattle.plain.proofs.word.Tie as tie
 
 returns : tie.Need-returns
 unfolding wordOf
-returns c = cc (toZ-ofZ (c .before .before .before .before .fits .y), toZ-ofZ (c .before .before .before .before .fits .cb), toZ-ofZ (c .before .before .before .before .fits .cr))
+returns c =
+    let fits = c .before .before .before .before .fits in
+    cc (toZ-ofZ (fits .y), toZ-ofZ (fits .cb), toZ-ofZ (fits .cr))
 
 pub word-spec : {M : Type 1} → statement M
 word-spec = tie.close (tie.spec (λ c κs. search needs) (λ c κs. search needs) (λ c κs. search needs) (λ c κs. search needs) returns)

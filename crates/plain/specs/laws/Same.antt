@@ -1,13 +1,12 @@
 -- The plain decoder and the product give the same: two equations with the same definition, one the other way round.
-use Prim.Native.Nat.{ℕ, _+_, _*_, _<_}
-use mathlib.Core.Path.{_≡_, refl, sym, ap, _∙_}
+use Prim.Native.Nat.{ℕ, _+_, _*_}
+use mathlib.Core.Path.{_≡_, sym, ap, _∙_}
 use mathlib.Core.List.{List}
 use native.Mathlib.Omega.{arith}
 use borrow.Author.Tests.{eq-eqb}
 use lib.IntN.{ℤ}
 use Rattle.whole.specs.laws.Row.{passes}
 use Rattle.code.specs.Read.{readingNumber, readingBits}
-use Rattle.tile_back.specs.Component.{componentFault, samplesOf}
 use Rattle.tile_back.specs.Word.{wordAt}
 use Rattle.plain.specs.Plain.{samplesInto}
 use Rattle.plain.specs.Same.{Plane, PlainSame}

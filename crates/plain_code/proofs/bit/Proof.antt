@@ -1,3 +1,4 @@
+-- `bit` meets its contract: the bit of a byte list, high bit first. Assumes nothing.
 use denote.Ref.{now}
 use mathlib.Core.Path.{sym, ap, _∙_}
 use Rattle.bits.specs.Bits.{val}
@@ -5,8 +6,6 @@ use Rattle.bits.specs.laws.Bit.{bitsOf-at, val-odd}
 use borrow.Author.Needs.{needs}
 use Rattle.plain_code.proofs.bit.Statement.{statement}
 use Rattle.plain_code.proofs.bit.Tie as tie
-use Rattle.plain_code.proofs.bit.Reads as reads
-use Rattle.plain_code.proofs.bit.Lts as lts
 
 shared-slice-read-result : tie.Need-shared-slice-read-result
 shared-slice-read-result c = search needs

@@ -1,12 +1,10 @@
+-- `clean_tail` meets its contract: too many bits, or the number that they make. Assumes nothing.
 use denote.Ref.{now}
 use Rattle.code.specs.laws.Read.{tail-long, tail-cut, tail-got}
 use borrow.Author.Needs.{needs}
 use Rattle.plain_code.proofs.clean_tail.Statement.{statement}
 use native.Mathlib.Omega.{arith}
 use Rattle.plain_code.proofs.clean_tail.Tie as tie
-use Rattle.plain_code.proofs.clean_tail.Reads as reads
-use Rattle.plain_code.proofs.clean_tail.Lts as lts
-use Rattle.plain_code.proofs.number.Reads as number-reads
 
 mul-left : tie.Need-mul-left
 mul-left c = search needs
@@ -15,7 +13,10 @@ sub-left : tie.Need-sub-left
 sub-left c = search needs
 
 returns : tie.Need-returns
-returns c = tail-long (now (c .before .before .args .s)) (c .before .before .args .at) (c .before .before .pre .1) (omega arith)
+returns c =
+    let pre = c .before .before .pre in
+    let args = c .before .before .args in
+    tail-long (now (args .s)) (args .at) (pre .1) (omega arith)
 
 number-requires : tie.Need-number-requires
 number-requires c κs = search needs
@@ -27,10 +28,18 @@ enum-known-v : tie.Need-enum-known-v
 enum-known-v c = search needs
 
 returns-2 : tie.Need-returns-2
-returns-2 c = tail-cut (now (c .before .before .before .before .before .args .s)) (c .before .before .before .before .before .args .at) (c .before .before .before .before .before .pre .1) (c .before .before .number .result) (c .before .before .number .ensures) (c .enum-told .given .1)
+returns-2 c =
+    let number = c .before .before .number in
+    let pre = c .before .before .before .before .before .pre in
+    let args = c .before .before .before .before .before .args in
+    tail-cut (now (args .s)) (args .at) (pre .1) (number .result) (number .ensures) (c .enum-told .given .1)
 
 returns-3 : tie.Need-returns-3
-returns-3 c = tail-got (now (c .before .before .before .before .before .before .args .s)) (c .before .before .before .before .before .before .args .at) (c .before .before .before .before .before .before .pre .1) (c .before .before .before .number .result) _ _ (λ h. omega arith) (c .before .before .before .number .ensures) (c .before .v .given .1)
+returns-3 c =
+    let number = c .before .before .before .number in
+    let pre = c .before .before .before .before .before .before .pre in
+    let args = c .before .before .before .before .before .before .args in
+    tail-got (now (args .s)) (args .at) (pre .1) (number .result) _ _ (λ h. omega arith) (number .ensures) (c .before .v .given .1)
 
 pub clean-tail-spec : {M : Type 1} → statement M
 clean-tail-spec =

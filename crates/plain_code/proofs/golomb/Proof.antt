@@ -1,17 +1,11 @@
-use Prim.Native.Nat.{_+_, _*_, _<_, _^_, _%_}
-use mathlib.Core.Path.{_≡_, sym, _∙_}
+-- `golomb` meets its contract: cut in its ones, cut in its low bits, or the number, which is small enough to shift. Assumes nothing.
+use mathlib.Core.Path.{sym, _∙_}
 use native.Mathlib.Omega.{arith}
-use lib.ListN.{drop}
-use Rattle.bits.specs.Bits.{bitsOf, onesOf, numOf}
-use Rattle.bits.specs.declared.Num.the-variants.{Got}
+use Rattle.bits.specs.Bits.{bitsOf}
 use Rattle.bits.specs.laws.Bit.{gr-bounds, gr-cut, gr-cut-low, gr-got}
 use borrow.Author.Needs.{needs}
 use Rattle.plain_code.proofs.golomb.Statement.{statement}
 use Rattle.plain_code.proofs.golomb.Tie as tie
-use Rattle.plain_code.proofs.golomb.Reads as reads
-use Rattle.plain_code.proofs.golomb.Lts as lts
-use Rattle.plain_code.proofs.number.Reads as number-reads
-use Rattle.plain_code.proofs.ones.Reads as ones-reads
 
 ones-requires : tie.Need-ones-requires
 ones-requires c κs = search needs
@@ -34,33 +28,44 @@ enum-known-b c = search needs
 shl-t12 : tie.Need-shl-t12
 shl-t12 c = search needs
 
--- what the two calls gave, as the spec has it
-both : (c : tie.After-known-told2) → (onesOf 0 (c .before .before .before .before .before .before .before .before .before .args .from) (drop (c .before .before .before .before .before .before .before .before .before .args .from) (bitsOf (c .before .before .before .before .before .before .before .before .before .args .s .now))) ≡ Got (c .before .before .before .before .before .v .given .0 .0) (c .before .before .before .before .before .v .given .0 .1 .0)) × (numOf (c .before .before .before .before .before .before .before .before .before .args .k) 0 (c .before .before .before .before .before .v .given .0 .1 .0) (drop (c .before .before .before .before .before .v .given .0 .1 .0) (bitsOf (c .before .before .before .before .before .before .before .before .before .args .s .now))) ≡ Got (c .before .b .given .0 .0) (c .before .b .given .0 .1 .0))
-both c = (sym (c .before .before .before .before .before .before .before .ones .ensures) ∙ c .before .before .before .before .before .v .given .1, sym (c .before .before .before .number .ensures) ∙ c .before .b .given .1)
-
-bounds : (c : tie.After-known-told2) → (c .before .before .before .before .before .v .given .0 .0 * 2 ^ c .before .before .before .before .before .before .before .before .before .args .k % 2 ^ 64 ≡ c .before .before .before .before .before .v .given .0 .0 * 2 ^ c .before .before .before .before .before .before .before .before .before .args .k) × (c .before .before .before .before .before .v .given .0 .0 * 2 ^ c .before .before .before .before .before .before .before .before .before .args .k + c .before .b .given .0 .0 < 2 ^ 31)
-bounds c =
-    let st = c .before .before .before .before .before .before .before .before .before in
-    gr-bounds (st .args .k) (st .args .from) (st .args .s .now) _ _ _ _ (st .pre .1) (st .pre .0) (both c .0) (both c .1)
-
 add-t13 : tie.Need-add-t13
-add-t13 c = omega (arith, bounds c .0, bounds c .1)
+add-t13 c =
+    let number = c .before .before .before .number in
+    let v = c .before .before .before .before .before .v in
+    let ones = c .before .before .before .before .before .before .before .ones in
+    let pre = c .before .before .before .before .before .before .before .before .before .pre in
+    let a = c .before .before .before .before .before .before .before .before .before .args in
+    let e = sym (ones .ensures) ∙ v .given .1 in
+    let f = sym (number .ensures) ∙ c .before .b .given .1 in
+    let g = gr-bounds (a .k) (a .from) (a .s .now) _ _ _ _ (pre .1) (pre .0) e f in
+    omega (arith, g .0, g .1)
 
 returns : tie.Need-returns
 returns c =
+    let ones = c .before .before .ones in
     let a = c .before .before .before .before .args in
-    sym (gr-cut (a .k) (a .from) (bitsOf (a .s .now)) (sym (c .before .before .ones .ensures) ∙ c .enum-told .given .1))
+    sym (gr-cut (a .k) (a .from) (bitsOf (a .s .now)) (sym (ones .ensures) ∙ c .enum-told .given .1))
 
 returns-2 : tie.Need-returns-2
 returns-2 c =
+    let number = c .before .before .number in
+    let the-v = c .before .before .before .before .v in
+    let ones = c .before .before .before .before .before .before .ones in
     let a = c .before .before .before .before .before .before .before .before .args in
-    let v = c .before .before .before .before .v .given in
-    sym (gr-cut-low (a .k) (a .from) (bitsOf (a .s .now)) _ _ (sym (c .before .before .before .before .before .before .ones .ensures) ∙ v .1) (sym (c .before .before .number .ensures) ∙ c .enum-told2 .given .1))
+    let v = the-v .given in
+    sym (gr-cut-low (a .k) (a .from) (bitsOf (a .s .now)) _ _ (sym (ones .ensures) ∙ v .1) (sym (number .ensures) ∙ c .enum-told2 .given .1))
 
 returns-3 : tie.Need-returns-3
 returns-3 c =
+    let number = c .before .before .before .number in
+    let v = c .before .before .before .before .before .v in
+    let ones = c .before .before .before .before .before .before .before .ones in
+    let pre = c .before .before .before .before .before .before .before .before .before .pre in
     let a = c .before .before .before .before .before .before .before .before .before .args in
-    rw (bounds c .0) (sym (gr-got (a .k) (a .from) (bitsOf (a .s .now)) _ _ _ _ (both c .0) (both c .1)))
+    let e = sym (ones .ensures) ∙ v .given .1 in
+    let f = sym (number .ensures) ∙ c .before .b .given .1 in
+    let g = gr-bounds (a .k) (a .from) (a .s .now) _ _ _ _ (pre .1) (pre .0) e f in
+    rw (g .0) (sym (gr-got (a .k) (a .from) (bitsOf (a .s .now)) _ _ _ _ e f))
 
 pub golomb-spec : {M : Type 1} → statement M
 golomb-spec =

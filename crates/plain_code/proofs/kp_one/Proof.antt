@@ -1,12 +1,9 @@
+-- `kp_one` meets its contract, by cases. Assumes nothing.
 use mathlib.Core.Path.{sym, _∙_}
 use Rattle.code.specs.laws.Steps.{kp-zero, kp-some}
 use borrow.Author.Needs.{needs}
 use Rattle.plain_code.proofs.kp_one.Statement.{statement}
 use Rattle.plain_code.proofs.kp_one.Tie as tie
-use Rattle.plain_code.proofs.kp_one.Reads as reads
-use Rattle.plain_code.proofs.kp_one.Lts as lts
-use Rattle.plain_code.proofs.less.Reads as less-reads
-use Rattle.plain_code.proofs.more.Reads as more-reads
 
 more-requires : tie.Need-more-requires
 more-requires c κs = search needs

@@ -1,12 +1,9 @@
+-- `kp_two` meets its contract, by cases. Assumes nothing.
 use mathlib.Core.Path.{sym, _∙_}
 use Rattle.code.specs.laws.Steps.{kp-00, kp-01, kp-10, kp-11}
 use borrow.Author.Needs.{needs}
 use Rattle.plain_code.proofs.kp_two.Statement.{statement}
 use Rattle.plain_code.proofs.kp_two.Tie as tie
-use Rattle.plain_code.proofs.kp_two.Reads as reads
-use Rattle.plain_code.proofs.kp_two.Lts as lts
-use Rattle.plain_code.proofs.less.Reads as less-reads
-use Rattle.plain_code.proofs.more.Reads as more-reads
 
 more-requires : tie.Need-more-requires
 more-requires c κs = search needs
@@ -15,7 +12,9 @@ less-requires : tie.Need-less-requires
 less-requires c κs = search needs
 
 returns : tie.Need-returns
-returns c = c .more .ensures ∙ sym (kp-00 _ _ _ (c .before .before .if1 .taken) (c .before .if2 .taken))
+returns c =
+    let if1 = c .before .before .if1 in
+    c .more .ensures ∙ sym (kp-00 _ _ _ (if1 .taken) (c .before .if2 .taken))
 
 returns-2 : tie.Need-returns-2
 returns-2 c = sym (kp-01 _ _ _ (c .before .if1 .taken) (c .if2 .left))
@@ -24,7 +23,9 @@ returns-3 : tie.Need-returns-3
 returns-3 c = sym (kp-10 _ _ _ (c .before .if1 .left) (c .if3 .taken))
 
 returns-4 : tie.Need-returns-4
-returns-4 c = c .less .ensures ∙ sym (kp-11 _ _ _ (c .before .before .if1 .left) (c .before .if3 .left))
+returns-4 c =
+    let if1 = c .before .before .if1 in
+    c .less .ensures ∙ sym (kp-11 _ _ _ (if1 .left) (c .before .if3 .left))
 
 pub kp-two-spec : {M : Type 1} → statement M
 kp-two-spec =

@@ -16,7 +16,9 @@ returns-2 c = sym (kr-one _ _ (c .if2 .taken))
 
 returns-3 : tie.Need-returns-3
 unfolding krAfter
-returns-3 c = c .more .ensures ∙ sym (kr-more _ _ (c .before .before .if1 .left) (c .before .if2 .left))
+returns-3 c =
+    let if1 = c .before .before .if1 in
+    c .more .ensures ∙ sym (kr-more _ _ (if1 .left) (c .before .if2 .left))
 
 pub kr-after-spec : {M : Type 1} → statement M
 kr-after-spec = tie.close (tie.spec (λ c. search needs) (λ c κs. search needs) returns (λ c κs. search needs) returns-2 returns-3)

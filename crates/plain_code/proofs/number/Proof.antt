@@ -1,3 +1,4 @@
+-- `number` meets its contract. The loop keeps what is still to be read. Assumes nothing.
 use Prim.Native.Nat.{suc, _≤_, _<_, _-_, _^_}
 use mathlib.Core.Bool.{false}
 use mathlib.Core.Path.{_≡_, refl, sym, _∙_}
@@ -8,9 +9,6 @@ use Rattle.bits.specs.Bits.{bitsOf, numOf}
 use Rattle.bits.specs.laws.Bit.{num-step, num-cut, length-bitsOf, grow, digit-lt, num-end}
 use Rattle.plain_code.proofs.number.Statement.{statement}
 use Rattle.plain_code.proofs.number.Tie as tie
-use Rattle.plain_code.proofs.number.Reads as reads
-use Rattle.plain_code.proofs.number.Lts as lts
-use Rattle.plain_code.proofs.bit.Reads as bit-reads
 
 abbrev Inv-loop : tie.InvT-loop
 Inv-loop s from k n₀ at₀ left₀ n at left = (left ≤ k) × (n < 2 ^ (k - left)) × (numOf left n at (drop at (bitsOf s)) ≡ numOf k 0 from (drop from (bitsOf s)))
@@ -27,20 +25,26 @@ mul-if1 c = omega arith
 returns : tie.Need-returns Inv-loop μ-loop
 returns c =
     let l = c .before .before .loop in
-    let s = c .before .before .before .before .args .s .now in
+    let args = c .before .before .before .before .args in
+    let s = args .s .now in
     let h : length (bitsOf s) ≤ l .at = rw length-bitsOf (omega arith) in
     sym (num-cut (bitsOf s) (l .left) (l .n) (l .at) (omega arith) h) ∙ l .inv .2
 
 mul-n : tie.Need-mul-n Inv-loop μ-loop
-mul-n c = let p : 2 ^ (c .before .before .before .before .args .k - c .before .before .loop .left) ≤ 2 ^ 32 = pow-mono {j = 32} (omega arith) in omega arith
+mul-n c =
+    let loop = c .before .before .loop in
+    let args = c .before .before .before .before .args in
+    let p : 2 ^ (args .k - loop .left) ≤ 2 ^ 32 = pow-mono {j = 32} (omega arith) in omega arith
 
 bit-requires : tie.Need-bit-requires Inv-loop μ-loop
 bit-requires c κs = omega arith
 
 add-n : tie.Need-add-n Inv-loop μ-loop
 add-n c =
-    let p : 2 ^ (c .before .before .before .before .before .args .k - c .before .before .before .loop .left) ≤ 2 ^ 32 = pow-mono {j = 32} (omega arith) in
-    let b : c .bit .result < 2 = digit-lt (getD (bitsOf (c .before .before .before .before .before .args .s .now)) (c .before .before .before .loop .at) false) (c .bit .ensures) in
+    let loop = c .before .before .before .loop in
+    let args = c .before .before .before .before .before .args in
+    let p : 2 ^ (args .k - loop .left) ≤ 2 ^ 32 = pow-mono {j = 32} (omega arith) in
+    let b : c .bit .result < 2 = digit-lt (getD (bitsOf (args .s .now)) (loop .at) false) (c .bit .ensures) in
     omega arith
 
 add-at : tie.Need-add-at Inv-loop μ-loop
@@ -58,7 +62,7 @@ loop-again c =
     let a = c .before .before .before .before .before .args in
     let s = a .s .now in
     let h : l .at < length (bitsOf s) = rw length-bitsOf (omega arith) in
-    let b : c .bit .result < 2 = digit-lt (getD (bitsOf (c .before .before .before .before .before .args .s .now)) (c .before .before .before .loop .at) false) (c .bit .ensures) in
+    let b : c .bit .result < 2 = digit-lt (getD (bitsOf (a .s .now)) (l .at) false) (c .bit .ensures) in
     let e : a .k - (l .left - 1) ≡ suc (a .k - l .left) = omega arith in
     (omega arith, rw e (grow _ _ _ (l .inv .1) b), rw (c .bit .ensures) (sym (num-step (bitsOf s) (l .left) (l .n) (l .at) (omega arith) h) ∙ l .inv .2))
 

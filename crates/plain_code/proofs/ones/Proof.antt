@@ -1,3 +1,4 @@
+-- `ones` meets its contract. The loop keeps what is still to be counted. Assumes nothing.
 use Prim.Native.Nat.{_≤_, _<_, _*_, _-_}
 use mathlib.Core.Path.{_≡_, refl, sym, _∙_}
 use native.Mathlib.Omega.{arith}
@@ -38,21 +39,24 @@ loop-less c = omega arith
 loop-again : tie.Need-loop-again Inv-loop μ-loop
 loop-again c =
     let l = c .before .before .before .loop in
-    let s = c .before .before .before .before .before .args .s .now in
+    let args = c .before .before .before .before .before .args in
+    let s = args .s .now in
     let h : l .at < length (bitsOf s) = rw length-bitsOf (omega arith) in
     (omega arith, sym (ones-more (bitsOf s) (l .v) (l .at) h (bit-one _ (c .before .bit .ensures) (c .if1 .left))) ∙ l .inv .1)
 
 returns : tie.Need-returns Inv-loop μ-loop
 returns c =
     let l = c .before .before .before .loop in
-    let s = c .before .before .before .before .before .args .s .now in
+    let args = c .before .before .before .before .before .args in
+    let s = args .s .now in
     let h : l .at < length (bitsOf s) = rw length-bitsOf (omega arith) in
     sym (ones-stop (bitsOf s) (l .v) (l .at) h (bit-none _ (c .before .bit .ensures) (c .if1 .taken))) ∙ l .inv .1
 
 returns-2 : tie.Need-returns-2 Inv-loop μ-loop
 returns-2 c =
+    let args = c .before .before .before .args in
     let l = c .before .loop in
-    let s = c .before .before .before .args .s .now in
+    let s = args .s .now in
     let h : length (bitsOf s) ≤ l .at = rw length-bitsOf (omega arith) in
     sym (ones-cut (bitsOf s) (l .v) (l .at) h) ∙ l .inv .1
 

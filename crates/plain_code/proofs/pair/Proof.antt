@@ -12,26 +12,39 @@ use Rattle.plain_code.proofs.pair.Tie as tie
 
 number-requires : tie.Need-number-requires
 number-requires c κs =
-    let h : size (c .before .before .g .given .0 .0) ≤ 31 = size-fit _ 31 (gr-lt _ _ _ _ _ (omega arith) (c .before .before .before .before .before .before .before .pre .0) (sym (c .before .before .before .before .golomb .ensures) ∙ c .before .before .g .given .1)) in
-    (c .before .before .before .before .before .before .before .pre .0, omega (arith, c .bit-size .ensures))
+    let g = c .before .before .g in
+    let golomb = c .before .before .before .before .golomb in
+    let pre = c .before .before .before .before .before .before .before .pre in
+    let h : size (g .given .0 .0) ≤ 31 = size-fit _ 31 (gr-lt _ _ _ _ _ (omega arith) (pre .0) (sym (golomb .ensures) ∙ g .given .1)) in
+    (pre .0, omega (arith, c .bit-size .ensures))
 
 returns : tie.Need-returns
 returns c =
+    let golomb = c .before .before .golomb in
     let a = c .before .before .before .before .before .args in
-    sym (two-cut (a .c .kp) (a .c .krp) (a .left) (bitsOf (a .s .now)) _ (sym (c .before .before .golomb .ensures) ∙ c .enum-told .given .1))
+    sym (two-cut (a .c .kp) (a .c .krp) (a .left) (bitsOf (a .s .now)) _ (sym (golomb .ensures) ∙ c .enum-told .given .1))
 
 returns-2 : tie.Need-returns-2
 returns-2 c =
+    let number = c .before .before .number in
+    let bit-size = c .before .before .before .bit-size in
+    let g = c .before .before .before .before .before .g in
+    let golomb = c .before .before .before .before .before .before .before .golomb in
     let a = c .before .before .before .before .before .before .before .before .before .before .args in
-    let e = sym (c .before .before .before .before .before .before .before .golomb .ensures) ∙ c .before .before .before .before .before .g .given .1 in
-    sym (two-cut-low (a .c .kp) (a .c .krp) (a .left) (bitsOf (a .s .now)) _ _ _ _ e (c .before .before .before .bit-size .ensures) (sym (c .before .before .number .ensures) ∙ c .enum-told2 .given .1))
+    let e = sym (golomb .ensures) ∙ g .given .1 in
+    sym (two-cut-low (a .c .kp) (a .c .krp) (a .left) (bitsOf (a .s .now)) _ _ _ _ e (bit-size .ensures) (sym (number .ensures) ∙ c .enum-told2 .given .1))
 
 returns-3 : tie.Need-returns-3
 returns-3 c =
+    let the-a = c .before .before .a in
+    let number = c .before .before .before .before .number in
+    let bit-size = c .before .before .before .before .before .bit-size in
+    let g = c .before .before .before .before .before .before .before .g in
+    let golomb = c .before .before .before .before .before .before .before .before .before .golomb in
     let a = c .before .before .before .before .before .before .before .before .before .before .before .before .args in
-    let e = sym (c .before .before .before .before .before .before .before .before .before .golomb .ensures) ∙ c .before .before .before .before .before .before .before .g .given .1 in
-    let f = sym (c .before .before .before .before .number .ensures) ∙ c .before .before .a .given .1 in
-    c .judge-pair .ensures ∙ sym (two-got (a .c .kp) (a .c .krp) (a .left) (bitsOf (a .s .now)) _ _ _ _ _ _ e (c .before .before .before .before .before .bit-size .ensures) f)
+    let e = sym (golomb .ensures) ∙ g .given .1 in
+    let f = sym (number .ensures) ∙ the-a .given .1 in
+    c .judge-pair .ensures ∙ sym (two-got (a .c .kp) (a .c .krp) (a .left) (bitsOf (a .s .now)) _ _ _ _ _ _ e (bit-size .ensures) f)
 
 pub pair-spec : {M : Type 1} → statement M
 pair-spec =

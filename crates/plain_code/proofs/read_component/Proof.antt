@@ -22,22 +22,32 @@ through e =
 
 read-code-requires : tie.Need-read-code-requires
 read-code-requires c κs =
-    let p = through (c .before .before .before .before) in
-    (p .small, c .before .before .clear .kept .0 ∙ p .full, c .before .before .clear .ensures ∙ ap (λ (k : ℕ). replicate k (pos 0)) (sym (c .before .before .clear .kept .0)))
+    let clear = c .before .before .clear in
+    let state = c .before .before .before .before in
+    let p = through (state) in
+    (p .small, clear .kept .0 ∙ p .full, clear .ensures ∙ ap (λ (k : ℕ). replicate k (pos 0)) (sym (clear .kept .0)))
 
 returns-2 : tie.Need-returns-2
 returns-2 c =
-    let a = c .before .before .before .before .before .before .before .before .before .before .before .before .before .before .args in
+    let if2 = c .before .before .before .if2 in
+    let reading-number = c .before .before .before .before .reading-number in
     let d = c .before .before .before .before .before .before .read-code in
-    let zeros = c .before .clear2 .ensures ∙ ap (λ (k : ℕ). replicate k (pos 0)) (d .kept .1 .1 .0 ∙ c .before .before .before .before .before .before .before .before .before .clear .kept .0 ∙ through (c .before .before .before .before .before .before .before .before .before .before .before) .full) in
-    code-refused (a .mode) (now (a .s)) (now (a .list)) (c .before .before .before .before .before .before .before .before .before .before .before .before .shell .result) (c .before .before .before .before .before .before .before .before .before .before .before .before .shell .ensures) (c .before .before .before .before .before .before .before .before .before .before .before .if1 .left) (d .last .1 .1 .0) _ (d .result) (d .ensures)
-    (λ z. c .before .before .before .if2 .taken (c .before .before .before .before .reading-number .ensures ∙ z)) zeros
+    let clear = c .before .before .before .before .before .before .before .before .before .clear in
+    let state = c .before .before .before .before .before .before .before .before .before .before .before in
+    let if1 = c .before .before .before .before .before .before .before .before .before .before .before .if1 in
+    let shell = c .before .before .before .before .before .before .before .before .before .before .before .before .shell in
+    let a = c .before .before .before .before .before .before .before .before .before .before .before .before .before .before .args in
+    let zeros = c .before .clear2 .ensures ∙ ap (λ (k : ℕ). replicate k (pos 0)) (d .kept .1 .1 .0 ∙ clear .kept .0 ∙ through (state) .full) in
+    code-refused (a .mode) (now (a .s)) (now (a .list)) (shell .result) (shell .ensures) (if1 .left) (d .last .1 .1 .0) _ (d .result) (d .ensures)
+    (λ z. if2 .taken (reading-number .ensures ∙ z)) zeros
 
 returns-3 : tie.Need-returns-3
 returns-3 c =
-    let a = c .before .before .before .before .before .before .before .before .before .before .before .args in
     let d = c .before .before .before .read-code in
-    code-taken (a .mode) (now (a .s)) (now (a .list)) (c .before .before .before .before .before .before .before .before .before .shell .result) (c .before .before .before .before .before .before .before .before .before .shell .ensures) (c .before .before .before .before .before .before .before .before .if1 .left) (d .last .1 .1 .0) (d .last .1 .1 .0) (d .result)
+    let if1 = c .before .before .before .before .before .before .before .before .if1 in
+    let shell = c .before .before .before .before .before .before .before .before .before .shell in
+    let a = c .before .before .before .before .before .before .before .before .before .before .before .args in
+    code-taken (a .mode) (now (a .s)) (now (a .list)) (shell .result) (shell .ensures) (if1 .left) (d .last .1 .1 .0) (d .last .1 .1 .0) (d .result)
     (d .ensures) (sym (c .before .reading-number .ensures) ∙ c .if2 .left)
 
 pub read-component-spec : {M : Type 1} → statement M

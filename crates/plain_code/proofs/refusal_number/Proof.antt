@@ -1,10 +1,9 @@
+-- `refusal_number` meets its contract, by cases. Assumes nothing.
 use mathlib.Core.Path.{ap, sym}
 use Rattle.code.specs.ReadList.{refusalNumber}
 use borrow.Author.Needs.{needs}
 use Rattle.plain_code.proofs.refusal_number.Statement.{statement}
 use Rattle.plain_code.proofs.refusal_number.Tie as tie
-use Rattle.plain_code.proofs.refusal_number.Reads as reads
-use Rattle.plain_code.proofs.refusal_number.Lts as lts
 
 enum-told : tie.Need-enum-told
 enum-told c = search needs

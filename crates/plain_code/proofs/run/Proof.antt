@@ -12,20 +12,27 @@ use Rattle.plain_code.proofs.run.Tie as tie
 
 returns : tie.Need-returns
 returns c =
+    let if1 = c .before .before .before .if1 in
+    let b = c .before .before .before .before .before .b in
+    let number = c .before .before .before .before .before .before .before .number in
     let a = c .before .before .before .before .before .before .before .before .before .args in
-    let e = sym (c .before .before .before .before .before .before .before .number .ensures) ∙ c .before .before .before .before .before .b .given .1 in
+    let e = sym (number .ensures) ∙ b .given .1 in
     ap (Zeros (1 * 2 ^ (a .c .kp / 8) % 2 ^ 64)) (c .state .ensures)
-    ∙ sym (run-full (a .c .kp) (a .c .krp) (a .left) (bitsOf (a .s .now)) _ _ _ _ _ e (c .before .before .before .if1 .taken) (shift-one (a .c .kp / 8) (omega arith)) (c .before .more .ensures))
+    ∙ sym (run-full (a .c .kp) (a .c .krp) (a .left) (bitsOf (a .s .now)) _ _ _ _ _ e (if1 .taken) (shift-one (a .c .kp / 8) (omega arith))
+    (c .before .more .ensures))
 
 returns-2 : tie.Need-returns-2
 returns-2 c =
+    let number = c .before .before .number in
     let a = c .before .before .before .before .args in
-    sym (run-cut (a .c .kp) (a .c .krp) (a .left) (bitsOf (a .s .now)) _ (sym (c .before .before .number .ensures) ∙ c .enum-told .given .1))
+    sym (run-cut (a .c .kp) (a .c .krp) (a .left) (bitsOf (a .s .now)) _ (sym (number .ensures) ∙ c .enum-told .given .1))
 
 returns-3 : tie.Need-returns-3
 returns-3 c =
+    let b = c .before .before .before .b in
+    let number = c .before .before .before .before .before .number in
     let a = c .before .before .before .before .before .before .before .args in
-    let e = sym (c .before .before .before .before .before .number .ensures) ∙ c .before .before .before .b .given .1 in
+    let e = sym (number .ensures) ∙ b .given .1 in
     c .run-value .ensures ∙ sym (run-some (a .c .kp) (a .c .krp) (a .left) (bitsOf (a .s .now)) _ _ _ e (c .before .if1 .left))
 
 pub run-spec : {M : Type 1} → statement M

@@ -1,5 +1,4 @@
 -- `shell` meets its contract: each return is read off the row of `shellFault`, the mode by its two tests. Assumes nothing.
-use Prim.Native.Nat.{ℕ}
 use mathlib.Core.Path.{_≡_, refl}
 use mathlib.Core.Bool.{true}
 use mathlib.Core.Logic.{⊎-elim}

@@ -8,17 +8,25 @@ use Rattle.plain_code.proofs.single.Tie as tie
 
 returns : tie.Need-returns
 returns c =
-    let a = c .before .before .before .before .before .before .args .c in
-    sym (one-wide (a .kp) (a .krp) _ _ _ (sym (c .before .before .before .before .golomb .ensures) ∙ c .before .before .g .given .1) (c .if1 .taken))
+    let g = c .before .before .g in
+    let golomb = c .before .before .before .before .golomb in
+    let args = c .before .before .before .before .before .before .args in
+    let a = args .c in
+    sym (one-wide (a .kp) (a .krp) _ _ _ (sym (golomb .ensures) ∙ g .given .1) (c .if1 .taken))
 
 returns-2 : tie.Need-returns-2
 returns-2 c = cc
 
 returns-3 : tie.Need-returns-3
 returns-3 c =
-    let a = c .before .before .before .before .before .before .before .before .before .args .c in
-    let e = sym (c .before .before .before .before .before .before .before .golomb .ensures) ∙ c .before .before .before .before .before .g .given .1 in
-    ap (One 0 (c .before .before .before .before .before .g .given .0 .0)) (c .state .ensures) ∙ sym (one-ok (a .kp) (a .krp) _ _ _ _ _ e (c .before .before .before .if1 .left) (c .before .before .kp-one .ensures) (c .before .kr-after .ensures))
+    let kp-one = c .before .before .kp-one in
+    let if1 = c .before .before .before .if1 in
+    let g = c .before .before .before .before .before .g in
+    let golomb = c .before .before .before .before .before .before .before .golomb in
+    let args = c .before .before .before .before .before .before .before .before .before .args in
+    let a = args .c in
+    let e = sym (golomb .ensures) ∙ g .given .1 in
+    ap (One 0 (g .given .0 .0)) (c .state .ensures) ∙ sym (one-ok (a .kp) (a .krp) _ _ _ _ _ e (if1 .left) (kp-one .ensures) (c .before .kr-after .ensures))
 
 pub single-spec : {M : Type 1} → statement M
 single-spec =

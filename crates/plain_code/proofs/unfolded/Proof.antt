@@ -1,3 +1,4 @@
+-- `unfolded` meets its contract: even or odd. Assumes nothing.
 use mathlib.Core.Path.{sym, _∙_}
 use Prim.Native.Nat.{_/_}
 use native.Mathlib.Omega.{arith}
@@ -5,8 +6,6 @@ use Rattle.code.specs.laws.Fold.{unfold-even, unfold-odd, small-toZ, less-fits,
 use borrow.Author.Needs.{needs}
 use Rattle.plain_code.proofs.unfolded.Statement.{statement}
 use Rattle.plain_code.proofs.unfolded.Tie as tie
-use Rattle.plain_code.proofs.unfolded.Reads as reads
-use Rattle.plain_code.proofs.unfolded.Lts as lts
 
 cast-result : tie.Need-cast-result
 cast-result c = search needs
