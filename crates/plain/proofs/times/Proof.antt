@@ -1,0 +1,10 @@
+-- `times` meets its contract: it fits. Assumes nothing.
+use mir.Syntax.{w32}
+use Rattle.whole.specs.Calc.{fits, val, arg, mul}
+use Rattle.plain.proofs.times.Statement.{statement}
+use Rattle.plain.proofs.times.Tie as tie
+
+pub times-spec : {M : Type 1} → statement M
+times-spec =
+    tie.close
+    (tie.spec (λ c. fits (mul (arg w32 (c .pre .0) tt) (arg w32 (c .pre .1) tt) tt)) (λ c. val (mul (arg w32 (c .pre .0) tt) (arg w32 (c .pre .1) tt) tt)))

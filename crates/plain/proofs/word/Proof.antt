@@ -1,0 +1,15 @@
+-- `word` meets its contract. Assumes nothing.
+use Rattle.colour.specs.Colour.{wordOf}
+use mir.Facts.{toZ-ofZ}
+use borrow.Author.Needs.{needs}
+use Rattle.plain.proofs.word.Statement.{statement}
+use Rattle.plain.proofs.word.Tie as tie
+
+returns : tie.Need-returns
+unfolding wordOf
+returns c =
+    let fits = c .before .before .before .before .fits in
+    cc (toZ-ofZ (fits .y), toZ-ofZ (fits .cb), toZ-ofZ (fits .cr))
+
+pub word-spec : {M : Type 1} → statement M
+word-spec = tie.close (tie.spec (λ c κs. search needs) (λ c κs. search needs) (λ c κs. search needs) (λ c κs. search needs) returns)

@@ -1,0 +1,4 @@
+pub mod Fit
+pub mod Lines
+pub mod Parts
+pub mod Same

@@ -1,0 +1,361 @@
+// Document 02's request Nine: a plain decoder for an auditor, from a component's code to a tile's pixels, as document 01 says it, to be held beside the
+// paper line by line: sums and scaling a place at a time, the wavelet by its indices, colour a pixel at a time in 64 bits. It calls no function of the
+// product; what both mean is said once, by the definitions that the contracts name, and specs/Same says that both give the same.
+ghost use mathlib.Core.Path.{_≡_};
+ghost use Prim.Native.Nat.{ℕ, _+_, _*_, _-_, min, _<_, _≤_, _^_};
+ghost use lib.IntN.{pos, _+ℤ_, _*ℤ_};
+ghost use lib.ListN.{length, drop};
+ghost use Rattle.whole.specs.laws.Near.{Near};
+ghost use Rattle.whole.specs.Tab.{at};
+ghost use Rattle.whole.specs.laws.Tab.{AllNear};
+ghost use Rattle.bands.specs.Bands.{QuantGood, bandOf, quantAt, inRange};
+ghost use Rattle.wave_back.specs.Line.{rowAvg, colAvg, evenZ, oddZ, evenAt};
+ghost use Rattle.wave_back.specs.Tile.{tileBack};
+ghost use Rattle.wave_back.specs.laws.Level.{levelFrom};
+ghost use Rattle.colour.specs.Colour.{clampByte, redOf, greenOf, blueOf, pack565, wordOf};
+ghost use Rattle.tile_back.specs.Word.{Plane, wordAt};
+ghost use Rattle.plain.specs.Plain.{Component, Sampled, Words};
+ghost use Rattle.plain.specs.laws.Fit.{Sums, Scales, Fitted};
+ghost use Rattle.plain.specs.laws.Lines.{Line, lineOf, Level, rowsAt, Passed};
+use bands::Quant;
+
+// ---- bands: sums and scaling
+
+// Where in the set the quantiser of place k stands: the list has HL1, LH1, HH1, .., LL3, the set LL3, LH3, HL3, .., HH1.
+fn band(k: usize) -> usize
+    requires { ⌜ k < 4096 ⌝ }
+    ensures { λ r. ⌜ r ≡ bandOf k ⌝ }
+{
+    match k {
+        0..=1023 => 8,
+        1024..=2047 => 7,
+        2048..=3071 => 9,
+        3072..=3327 => 5,
+        3328..=3583 => 4,
+        3584..=3839 => 6,
+        3840..=3903 => 2,
+        3904..=3967 => 1,
+        3968..=4031 => 3,
+        _ => 0,
+    }
+}
+
+// 9 "outside -32,767 to 32,767": whether it is not so.
+fn in_range(v: i32) -> bool
+    ensures { λ r. ⌜ r ≡ inRange v ⌝ }
+{
+    if v < -32767 {
+        return false;
+    }
+    if v > 32767 {
+        return false;
+    }
+    true
+}
+
+fn plus(a: i32, b: i32) -> i32
+    requires { ⌜ Near 2097152 a × Near 32767 b ⌝ }
+    ensures { λ r. ⌜ r ≡ a +ℤ b ⌝ }
+{
+    a + b
+}
+
+fn times(a: i32, m: i32) -> i32
+    requires { ⌜ Near 32767 a × Near 16384 m ⌝ }
+    ensures { λ r. ⌜ r ≡ a *ℤ m ⌝ }
+{
+    a * m
+}
+
+// 2^(n-1)
+fn factor(n: u8) -> i32
+    requires { ⌜ (6 ≤ n) × (n ≤ 15) ⌝ }
+    ensures { λ r. ⌜ r ≡ pos (2 ^ (n - 1)) ⌝ }
+{
+    (1u32 << (n - 1)) as i32
+}
+
+// The quantiser of place k.
+fn quant(q: Quant, k: usize) -> u8
+    requires { ⌜ QuantGood (q .v) × (k < 4096) ⌝ }
+    ensures { λ r. ⌜ (r ≡ quantAt (q .v) k) × (6 ≤ r) × (r ≤ 15) ⌝ }
+{
+    let b = band(k);
+    q.v[b]
+}
+
+// "LL3 holds its first value and then differences; sum first": the last 64 places, 0 or 9.
+fn sum(work: &mut [i32]) -> u8
+    requires { ⌜ (length (now work) ≡ 4096) × AllNear 32767 (now work) ⌝ }
+    ensures { λ r. ⌜ Sums (now (work .entry)) (now (work .exit)) r ⌝ }
+{
+    let mut s = 0;
+    let mut i = 0;
+    while i < 64 {
+        s = plus(s, work[4032 + i]);
+        if !in_range(s) {
+            return 9;
+        }
+        work[4032 + i] = s;
+        i += 1;
+    }
+    0
+}
+
+// "then scale. Scaling is times 2^(q-1)": every place by its own band's quantiser, 0 or 9.
+fn scale(work: &mut [i32], q: Quant) -> u8
+    requires { ⌜ (length (now work) ≡ 4096) × AllNear 32767 (now work) × QuantGood (q .v) ⌝ }
+    ensures { λ r. ⌜ Scales (q .v) (now (work .entry)) (now (work .exit)) r ⌝ }
+{
+    let mut k = 0;
+    while k < 4096 {
+        let v = times(work[k], factor(quant(q, k)));
+        if !in_range(v) {
+            return 9;
+        }
+        work[k] = v;
+        k += 1;
+    }
+    0
+}
+
+fn fit(work: &mut [i32], q: Quant) -> u8
+    requires { ⌜ (length (now work) ≡ 4096) × AllNear 32767 (now work) × QuantGood (q .v) ⌝ }
+    ensures { λ r. ⌜ Fitted (q .v) (now (work .entry)) (now (work .exit)) r ⌝ }
+{
+    let n = sum(work);
+    if n != 0 {
+        return n;
+    }
+    scale(work, q)
+}
+
+// A component: its number, "code, then LL3 sums and scaling (9)", and where it is 0 its coefficients.
+pub fn component(mode: u8, q: Quant, code: &[u8], work: &mut [i32]) -> u8
+    requires { ⌜ (length (now work) ≡ 4096) × QuantGood (q .v) ⌝ }
+    ensures { λ r. ⌜ Component mode (q .v) (now (code .entry)) (now (work .entry)) (now (work .exit)) r ⌝ }
+{
+    let read = plain_code::read_component(mode, code, work);
+    let n = plain_code::reading_number(read);
+    if n != 0 {
+        return n;
+    }
+    let m = fit(work, q);
+    if m != 0 {
+        plain_code::clear(work);
+        return m;
+    }
+    m
+}
+
+// ---- the wavelet, by its indices
+
+// "x[2n] = L[n] - floor((H[n-1] + H[n] + 1)/2)"
+fn even(l: i32, g: i32, h: i32) -> i32
+    requires { ⌜ Near 268435456 l × Near 268435456 g × Near 268435456 h ⌝ }
+    ensures { λ r. ⌜ r ≡ evenZ l g h ⌝ }
+{
+    l - ((g + h + 1) >> 1)
+}
+
+// "x[2n+1] = 2H[n] + floor((x[2n] + x[2n+2])/2)", where the sample has, along a row, the sum over 2 toward zero.
+fn odd_along(h: i32, x: i32, y: i32) -> i32
+    requires { ⌜ Near 268435456 h × Near 536870913 x × Near 536870913 y ⌝ }
+    ensures { λ r. ⌜ r ≡ oddZ rowAvg h x y ⌝ }
+{
+    2 * h + (x + y) / 2
+}
+
+// And down a column the sum of both halves, each toward zero.
+fn odd_down(h: i32, x: i32, y: i32) -> i32
+    requires { ⌜ Near 268435456 h × Near 536870913 x × Near 536870913 y ⌝ }
+    ensures { λ r. ⌜ r ≡ oddZ colAvg h x y ⌝ }
+{
+    2 * h + (x / 2 + y / 2)
+}
+
+// "H[-1] is H[0]"
+fn prev(c: usize) -> usize
+    ensures { λ r. ⌜ r ≡ c - 1 ⌝ }
+{
+    if c == 0 { 0 } else { c - 1 }
+}
+
+// "x past the end is the last even x"
+fn next(c: usize, n: usize) -> usize
+    requires { ⌜ c < n ⌝ }
+    ensures { λ r. ⌜ r ≡ min (c + 1) (n - 1) ⌝ }
+{
+    if c + 1 < n { c + 1 } else { c }
+}
+
+// x[2c] of the line whose L stands in src from place l on and whose H from place h on, every `step` numbers.
+fn even_at(src: &[i32], l: usize, h: usize, step: usize, n: usize, c: usize) -> i32
+    requires { ⌜ Line (now src) l h step n × (c < n) ⌝ }
+    ensures { λ r. ⌜ r ≡ evenAt (λ (i : ℕ). at (now (src .entry)) (l + step * i)) (λ (i : ℕ). at (now (src .entry)) (h + step * i)) c ⌝ }
+{
+    even(
+        src[l + step * c],
+        src[h + step * prev(c)],
+        src[h + step * c],
+    )
+}
+
+// x[k] of that line, along a row or down a column.
+fn line(src: &[i32], l: usize, h: usize, step: usize, n: usize, k: usize, along: bool) -> i32
+    requires { ⌜ Line (now src) l h step n × (k < 2 * n) ⌝ }
+    ensures { λ r. ⌜ r ≡ lineOf along n (at (now (src .entry))) l h step k ⌝ }
+{
+    let c = k / 2;
+    let x = even_at(src, l, h, step, n, c);
+    if k % 2 == 0 {
+        return x;
+    }
+    let y = even_at(src, l, h, step, n, next(c, n));
+    if along {
+        return odd_along(src[h + step * c], x, y);
+    }
+    odd_down(src[h + step * c], x, y)
+}
+
+// "Rows first (LL with HL, LH with HH)": place x of row r, of 2n rows. The bands HL, LH, HH, LL stand one after the other from place `from` on.
+fn row(src: &[i32], from: usize, n: usize, r: usize, x: usize) -> i32
+    requires { ⌜ Level (now src) from n × (r < 2 * n) × (x < 2 * n) ⌝ }
+    ensures { λ v. ⌜ v ≡ rowsAt n (at (drop from (now (src .entry)))) r x ⌝ }
+{
+    let b = n * n;
+    if r < n {
+        let a = from + r * n;
+        return line(src, a + 3 * b, a, 1, n, x, true);
+    }
+    let a = from + (r - n) * n;
+    line(src, a + b, a + 2 * b, 1, n, x, true)
+}
+
+fn rows(src: &[i32], from: usize, dst: &mut [i32], n: usize)
+    requires { ⌜ Level (now src) from n × (length (now dst) ≡ 4096) ⌝ }
+    ensures { λ _. ⌜ Passed n (at (drop from (now (src .entry)))) (now (dst .exit)) ⌝ }
+{
+    let w = 2 * n;
+    let mut k = 0;
+    while k < w * w {
+        dst[k] = row(src, from, n, k / w, k % w);
+        k += 1;
+    }
+}
+
+// "then columns"
+fn columns(src: &[i32], dst: &mut [i32], from: usize, n: usize)
+    requires { ⌜ Level (now dst) from n × (length (now src) ≡ 4096) × Passed n (at (drop from (now dst))) (now src) ⌝ }
+    ensures { λ _. ⌜ now (dst .exit) ≡ levelFrom from n (now (dst .entry)) ⌝ }
+{
+    let w = 2 * n;
+    let mut k = 0;
+    while k < w * w {
+        dst[from + k] = line(src, k % w, n * w + k % w, w, n, k / w, false);
+        k += 1;
+    }
+}
+
+fn level(work: &mut [i32], tmp: &mut [i32], from: usize, n: usize)
+    requires { ⌜ Level (now work) from n × (length (now tmp) ≡ 4096) ⌝ }
+    ensures { λ _. ⌜ now (work .exit) ≡ levelFrom from n (now (work .entry)) ⌝ }
+{
+    rows(work, from, tmp, n);
+    columns(tmp, work, from, n);
+}
+
+// The three levels of a component's tile.
+fn tile(work: &mut [i32], tmp: &mut [i32])
+    requires { ⌜ (length (now work) ≡ 4096) × (length (now tmp) ≡ 4096) × AllNear 32767 (now work) ⌝ }
+    ensures { λ _. ⌜ now (work .exit) ≡ tileBack (now (work .entry)) ⌝ }
+{
+    level(work, tmp, 3840, 8);
+    level(work, tmp, 3072, 16);
+    level(work, tmp, 0, 32);
+}
+
+// A component: its number, and where it is 0 its 64 x 64 samples.
+pub fn samples(mode: u8, q: Quant, code: &[u8], work: &mut [i32], tmp: &mut [i32]) -> u8
+    requires { ⌜ (length (now work) ≡ 4096) × (length (now tmp) ≡ 4096) × QuantGood (q .v) ⌝ }
+    ensures { λ r. ⌜ Sampled mode (q .v) (now (code .entry)) (now (work .entry)) (now (work .exit)) r ⌝ }
+{
+    let n = component(mode, q, code, work);
+    if n != 0 {
+        return n;
+    }
+    tile(work, tmp);
+    n
+}
+
+// ---- colour, "floor of (sum + 2^20) over 2^21 for each channel, clamped"
+
+fn clamp(x: i64) -> u8
+    ensures { λ r. ⌜ r ≡ clampByte x ⌝ }
+{
+    if x < 0 {
+        return 0;
+    }
+    if x > 255 {
+        return 255;
+    }
+    x as u8
+}
+
+// "S + 91916Cr", with "S = 65536(Y + 4096)"
+fn red(y: i32, cr: i32) -> u8
+    requires { ⌜ Near 268435456 y × Near 268435456 cr ⌝ }
+    ensures { λ r. ⌜ r ≡ redOf y cr ⌝ }
+{
+    clamp((65536 * (y as i64 + 4096) + 91916 * (cr as i64) + 1048576) >> 21)
+}
+
+// "S - 22527Cb - 46819Cr"
+fn green(y: i32, cb: i32, cr: i32) -> u8
+    requires { ⌜ Near 268435456 y × Near 268435456 cb × Near 268435456 cr ⌝ }
+    ensures { λ r. ⌜ r ≡ greenOf y cb cr ⌝ }
+{
+    clamp((65536 * (y as i64 + 4096) - 22527 * (cb as i64) - 46819 * (cr as i64) + 1048576) >> 21)
+}
+
+// "S + 115992Cb"
+fn blue(y: i32, cb: i32) -> u8
+    requires { ⌜ Near 268435456 y × Near 268435456 cb ⌝ }
+    ensures { λ r. ⌜ r ≡ blueOf y cb ⌝ }
+{
+    clamp((65536 * (y as i64 + 4096) + 115992 * (cb as i64) + 1048576) >> 21)
+}
+
+// "Word: floor(R/8) x 2048 + floor(G/4) x 32 + floor(B/8)."
+fn pack(r: u8, g: u8, b: u8) -> u16
+    ensures { λ w. ⌜ w ≡ pack565 r g b ⌝ }
+{
+    (r as u16) / 8 * 2048 + (g as u16) / 4 * 32 + (b as u16) / 8
+}
+
+fn word(y: i32, cb: i32, cr: i32) -> u16
+    requires { ⌜ Near 268435456 y × Near 268435456 cb × Near 268435456 cr ⌝ }
+    ensures { λ w. ⌜ w ≡ wordOf y cb cr ⌝ }
+{
+    pack(red(y, cr), green(y, cb, cr), blue(y, cb))
+}
+
+// The word at place i of a tile.
+fn pixel(ys: &[i32], cbs: &[i32], crs: &[i32], i: usize) -> u16
+    requires { ⌜ (i < 4096) × Plane (now ys) × Plane (now cbs) × Plane (now crs) ⌝ }
+    ensures { λ r. ⌜ r ≡ wordAt (now (ys .entry)) (now (cbs .entry)) (now (crs .entry)) i ⌝ }
+{
+    word(ys[i], cbs[i], crs[i])
+}
+
+// A tile's 4,096 pixels.
+pub fn pixels(ys: &[i32], cbs: &[i32], crs: &[i32], words: &mut [u16])
+    requires { ⌜ (length (now words) ≡ 4096) × Plane (now ys) × Plane (now cbs) × Plane (now crs) ⌝ }
+    ensures { λ _. ⌜ Words (now (ys .entry)) (now (cbs .entry)) (now (crs .entry)) (now (words .exit)) ⌝ }
+{
+    let mut i = 0;
+    while i < 4096 {
+        words[i] = pixel(ys, cbs, crs, i);
+        i += 1;
+    }
+}

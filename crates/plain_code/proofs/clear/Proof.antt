@@ -1,0 +1,61 @@
+-- `clear` meets its contract: the places passed are 0. Assumes nothing.
+use mathlib.Core.Path.{_≡_, refl, _∙_}
+use mathlib.Core.List.{_++_}
+use native.Mathlib.Omega.{arith}
+use Prim.Native.Nat.{_≤_, _-_, _+_}
+use lib.ListN.{length, replicate, drop}
+use lib.IntN.{pos}
+use borrow.Author.Needs.{needs}
+use Rattle.whole.specs.laws.Fill.{fill-more, fill-length, fill-all}
+use Rattle.plain_code.proofs.clear.Statement.{statement}
+use Rattle.plain_code.proofs.clear.Tie as tie
+
+abbrev Inv-loop : tie.InvT-loop
+Inv-loop a₀ i₀ a i = (i ≤ length a₀) × (a ≡ replicate i (pos 0) ++ drop i a₀)
+
+abbrev μ-loop : tie.MeasureT-loop
+μ-loop a₀ i₀ a i = length a₀ - i
+
+loop-holds : tie.Need-loop-holds Inv-loop μ-loop
+loop-holds c = (omega arith, refl)
+
+mul-list : tie.Need-mul-list Inv-loop μ-loop
+mul-list c = let e = fill-length (pos 0) (c .before .loop .i) _ _ (c .before .loop .inv .1) (c .before .loop .inv .0) in omega arith
+
+slice-set-of-list : tie.Need-slice-set-of-list Inv-loop μ-loop
+slice-set-of-list c = search needs
+
+add-i : tie.Need-add-i Inv-loop μ-loop
+add-i c = let e = fill-length (pos 0) (c .before .loop .i) _ _ (c .before .loop .inv .1) (c .before .loop .inv .0) in omega arith
+
+loop-less : tie.Need-loop-less Inv-loop μ-loop
+loop-less c = let e = fill-length (pos 0) (c .before .loop .i) _ _ (c .before .loop .inv .1) (c .before .loop .inv .0) in omega arith
+
+loop-again : tie.Need-loop-again Inv-loop μ-loop
+loop-again c = let e = fill-length (pos 0) (c .before .loop .i) _ _ (c .before .loop .inv .1) (c .before .loop .inv .0) in (
+  omega arith,
+  rw
+      (c .before .loop .inv .1) (fill-more (pos 0) (c .before .loop .i) _ (omega arith)),
+)
+
+same-length : tie.Need-same-length Inv-loop μ-loop
+same-length c = let e = fill-length (pos 0) (c .before .loop .i) _ _ (c .before .loop .inv .1) (c .before .loop .inv .0) in e
+
+returns : tie.Need-returns Inv-loop μ-loop
+returns c = let e = fill-length (pos 0) (c .before .loop .i) _ _ (c .before .loop .inv .1) (c .before .loop .inv .0) in c .before .loop .inv .1
+    ∙ fill-all (pos 0) (c .before .loop .i) _ (omega arith) (c .before .loop .inv .0)
+
+pub clear-spec : {M : Type 1} → statement M
+clear-spec =
+    tie.close
+    (tie.spec
+    Inv-loop
+    μ-loop
+    loop-holds
+    mul-list
+    slice-set-of-list
+    add-i
+    loop-less
+    loop-again
+    same-length
+    returns)

@@ -1,0 +1,32 @@
+-- `kp_two` meets its contract, by cases. Assumes nothing.
+use mathlib.Core.Path.{sym, _∙_}
+use Rattle.code.specs.laws.Steps.{kp-00, kp-01, kp-10, kp-11}
+use borrow.Author.Needs.{needs}
+use Rattle.plain_code.proofs.kp_two.Statement.{statement}
+use Rattle.plain_code.proofs.kp_two.Tie as tie
+
+more-requires : tie.Need-more-requires
+more-requires c κs = search needs
+
+less-requires : tie.Need-less-requires
+less-requires c κs = search needs
+
+returns : tie.Need-returns
+returns c =
+    let if1 = c .before .before .if1 in
+    c .more .ensures ∙ sym (kp-00 _ _ _ (if1 .taken) (c .before .if2 .taken))
+
+returns-2 : tie.Need-returns-2
+returns-2 c = sym (kp-01 _ _ _ (c .before .if1 .taken) (c .if2 .left))
+
+returns-3 : tie.Need-returns-3
+returns-3 c = sym (kp-10 _ _ _ (c .before .if1 .left) (c .if3 .taken))
+
+returns-4 : tie.Need-returns-4
+returns-4 c =
+    let if1 = c .before .before .if1 in
+    c .less .ensures ∙ sym (kp-11 _ _ _ (if1 .left) (c .before .if3 .left))
+
+pub kp-two-spec : {M : Type 1} → statement M
+kp-two-spec =
+    tie.close (tie.spec more-requires less-requires returns returns-2 returns-3 returns-4)
