@@ -42,8 +42,7 @@ static void constants(void)
     CHECK(strcmp(xurbalenz_says(14), "a number that has no word here") == 0 && xurbalenz_says(255) == xurbalenz_says(14));
     sprintf(version, "%d.%d.%d", XURBALENZ_VERSION / 10000, XURBALENZ_VERSION / 100 % 100, XURBALENZ_VERSION % 100);
     CHECK(strcmp(version, XURBALENZ_VERSION_TEXT) == 0);
-    CHECK(sizeof session == 8 && offsetof(XurbalenzSession, width) == 2 && offsetof(XurbalenzSession, height) == 4 &&
-          offsetof(XurbalenzSession, mode) == 6);
+    CHECK(XURBALENZ_RECORD_LAYOUT && sizeof session == 16 && xurbalenz_record_16() == 16);
     CHECK(XURBALENZ_TILES(70, 40) == 2 && XURBALENZ_TILES(64, 64) == 1 && XURBALENZ_TILES(4096, 2048) == 2048);
     CHECK(XURBALENZ_FRAME_ROOM(1, 1) == 72 + 19 + 3 * 65535);
 }
@@ -99,6 +98,50 @@ static void frames(uint8_t mode)
     for (i = 0; i < 70 * 40 && picture[i] == 0xFFFF; i++) {
     }
     CHECK(i == 70 * 40 && picture[i] == 0); /* all white, and the word behind the channel as it was */
+}
+
+/* The record with a byte of one of its numbers put off by so much. */
+static XurbalenzSession bent(XurbalenzSession s, size_t at, int by)
+{
+    uint8_t *byte = (uint8_t *)&s + at;
+    *byte = (uint8_t)(*byte + by);
+    return s;
+}
+
+/* A record in which columns, rows, words or the glass is off by one is 12 in both calls, and takes a good sync; what stands behind the glass is
+   not judged. The session is ready; out gets our headers, and our frame behind them. */
+static void records(uint8_t mode)
+{
+    static const uint8_t quant[10] = XURBALENZ_DEFAULT_QUANT;
+    static const size_t places[4] = {offsetof(XurbalenzSession, columns), offsetof(XurbalenzSession, rows), offsetof(XurbalenzSession, words),
+                                     offsetof(XurbalenzSession, glass)};
+    XurbalenzSession fresh = XURBALENZ_FRESH, s = xurbalenz_session_of(4, 70, 40, mode), four = s, three = xurbalenz_session_of(3, 70, 40, 0);
+    uint8_t *frame = out + XURBALENZ_HEADERS_SIZE;
+    size_t size = 9, tiles = 9, i;
+    int by;
+    CHECK(xurbalenz_write_headers(70, 40, mode, out, XURBALENZ_HEADERS_SIZE, &size) == XURBALENZ_DONE);
+    CHECK(xurbalenz_write_frame(70, 40, mode, quant, 5, pixels, sizeof pixels, y, XURBALENZ_LIST, scratch, XURBALENZ_LIST, frame,
+                                sizeof out - XURBALENZ_HEADERS_SIZE, &size) == XURBALENZ_DONE);
+    CHECK(fresh.headers == 0 && fresh.columns == 0 && fresh.rows == 0 && fresh.words == 0 && fresh.glass == 0);
+    CHECK(s.columns == 2 && s.rows == 1 && s.words == 2800 && s.glass == 0);
+    CHECK(session.headers == 4 && session.columns == 2 && session.rows == 1 && session.words == 2800 && session.glass == 0);
+    CHECK(xurbalenz_read_header(&three, out + 34, 13) == XURBALENZ_DONE && three.headers == 4 && three.words == 2800);
+    for (i = 0; i < 4; i++) {
+        for (by = -1; by <= 1; by += 2) {
+            s = bent(four, places[i], by);
+            CHECK(xurbalenz_read_frame(&s, frame, size, picture, 70 * 40, y, XURBALENZ_LIST, cb, XURBALENZ_LIST, cr, XURBALENZ_LIST, scratch,
+                                       XURBALENZ_LIST, &tiles) == XURBALENZ_ORDER &&
+                  tiles == 0);
+            three = bent(xurbalenz_session_of(3, 70, 40, 0), places[i], by);
+            CHECK(xurbalenz_read_header(&three, out + 34, 13) == XURBALENZ_ORDER && three.headers == 3);
+            CHECK(xurbalenz_read_header(&s, out, 12) == XURBALENZ_DONE);
+            CHECK(s.headers == 1 && s.mode == 0 && s.width == 0 && s.height == 0 && s.columns == 0 && s.rows == 0 && s.words == 0 && s.glass == 0);
+        }
+    }
+    memset((uint8_t *)&four + 13, 0xFF, 3);
+    CHECK(xurbalenz_read_frame(&four, frame, size, picture, 70 * 40, y, XURBALENZ_LIST, cb, XURBALENZ_LIST, cr, XURBALENZ_LIST, scratch,
+                               XURBALENZ_LIST, &tiles) == XURBALENZ_DONE &&
+          tiles == 2);
 }
 
 /* Do the numbers of a list have this value? */
@@ -159,8 +202,10 @@ int main(void)
     components(XURBALENZ_RLGR1);
     components(XURBALENZ_RLGR3);
     frames(XURBALENZ_RLGR1);
+    records(XURBALENZ_RLGR1);
     works(XURBALENZ_RLGR1);
     frames(XURBALENZ_RLGR3);
+    records(XURBALENZ_RLGR3);
     works(XURBALENZ_RLGR3);
     printf("six_calls: %d checks, %d faults\n", checks, faults);
     return faults != 0;

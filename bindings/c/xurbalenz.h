@@ -47,8 +47,8 @@ extern "C" {
 #endif
 
 /* The version of this header: 10,000 x major + 100 x minor + patch, and as text. The Rust crate has the same. */
-#define XURBALENZ_VERSION 200
-#define XURBALENZ_VERSION_TEXT "0.2.0"
+#define XURBALENZ_VERSION 300
+#define XURBALENZ_VERSION_TEXT "0.3.0"
 
 /* ---- the numbers the fitter sees ---- */
 
@@ -119,21 +119,50 @@ static inline const char *xurbalenz_says(uint8_t number)
 
 /* ---- the session record ---- */
 
-/* How many headers are in (0 to 4), the channel's width and height, and the mode. All 0 when fresh: XurbalenzSession s = {0, 0, 0, 0};
-   Only xurbalenz_read_header changes it. A record that no calls could have made (a stray write, a stale copy) is answered 12 where a record
-   is judged, and a good sync still starts it over. */
+/* How many headers are in (0 to 4), the mode, the channel's width and height; tile columns, tile rows and words of the picture, which follow from
+   the size; and the glass, 0: words of 16 bits. All 0 when fresh: XurbalenzSession s = XURBALENZ_FRESH;
+   Only xurbalenz_read_header changes it. A record that no calls could have made (a stray write, a stale copy, one of the numbers wrong) is
+   answered 12 where a record is judged, and a good sync still starts it over. The bytes behind glass are never read. */
 typedef struct XurbalenzSession {
     uint8_t headers;
+    uint8_t mode;
     uint16_t width;
     uint16_t height;
-    uint8_t mode;
+    uint8_t columns;
+    uint8_t rows;
+    uint32_t words;
+    uint8_t glass;
 } XurbalenzSession;
 
+#define XURBALENZ_FRESH {0, 0, 0, 0, 0, 0, 0, 0}
+
+#define XURBALENZ_RECORD_LAYOUT                                                                                                                     \
+    (sizeof(XurbalenzSession) == 16 && offsetof(XurbalenzSession, headers) == 0 && offsetof(XurbalenzSession, mode) == 1 &&                         \
+     offsetof(XurbalenzSession, width) == 2 && offsetof(XurbalenzSession, height) == 4 && offsetof(XurbalenzSession, columns) == 6 &&               \
+     offsetof(XurbalenzSession, rows) == 7 && offsetof(XurbalenzSession, words) == 8 && offsetof(XurbalenzSession, glass) == 12)
 #if defined(__cplusplus) && __cplusplus >= 201103L
-static_assert(sizeof(XurbalenzSession) == 8, "the archive lays the record out in 8 bytes");
+static_assert(XURBALENZ_RECORD_LAYOUT, "the archive lays the record out in 16 bytes");
 #elif defined(__STDC_VERSION__) && __STDC_VERSION__ >= 201112L
-_Static_assert(sizeof(XurbalenzSession) == 8, "the archive lays the record out in 8 bytes");
+_Static_assert(XURBALENZ_RECORD_LAYOUT, "the archive lays the record out in 16 bytes");
 #endif
+
+/* The record of four numbers, as they were kept somewhere; the others are worked out from them. */
+static inline XurbalenzSession xurbalenz_session_of(uint8_t headers, uint16_t width, uint16_t height, uint8_t mode)
+{
+    XurbalenzSession s = XURBALENZ_FRESH;
+    s.headers = headers;
+    s.mode = mode;
+    s.width = width;
+    s.height = height;
+    s.columns = (uint8_t)((width + 63) / 64); /* at most 64 where the size is allowed */
+    s.rows = (uint8_t)((height + 63) / 64);
+    s.words = (uint32_t)width * height;
+    return s;
+}
+
+/* The bytes of the record, 16. The name carries the layout: the two calls that take a record call this one too (see the end of this header), so
+   a program compiled with this header does not link with an archive whose record is laid out otherwise. */
+uint8_t xurbalenz_record_16(void);
 
 /* ---- bytes from the network: the collector ---- */
 
@@ -199,13 +228,13 @@ void xurbalenz_collect_reset(XurbalenzCollector *c);
 
 /*
  * Reads one header block; the message is that block and nothing else. They are due in this order: sync (CCC0), versions (CCC1), channels
- * (CCC2), context (CCC3). A good sync is always due and starts the session over: record 1, 0, 0, 0; keep the picture.
+ * (CCC2), context (CCC3). A good sync is always due and starts the session over: one header in, all else 0; keep the picture.
  *
  * Judged in this order: head of 6 bytes there (1), type CCC0 to CCC3 (3), due (12), blockLen (4), whole block there (1), fields in wire
  * order (5), bytes after the block (4).
  *
- * Afterwards: done - the record has the header in it (width and height with channels, mode with the context); refused - the record is what
- * it was.
+ * Afterwards: done - the record has the header in it (width, height and what follows from them with channels, mode with the context);
+ * refused - the record is what it was.
  */
 uint8_t xurbalenz_read_header(XurbalenzSession *s, const uint8_t *message, size_t message_len);
 
@@ -278,6 +307,26 @@ uint8_t xurbalenz_write_headers(size_t width, size_t height, uint8_t mode, uint8
 uint8_t xurbalenz_write_frame(size_t width, size_t height, uint8_t mode, const uint8_t quant[10], uint32_t index, const uint8_t *pixels,
                               size_t pixels_len, int32_t *list, size_t list_len, int32_t *scratch, size_t scratch_len, uint8_t *out,
                               size_t out_len, size_t *size);
+
+/* ---- the record's layout ---- */
+
+/* What the names xurbalenz_read_header and xurbalenz_read_frame stand for from here on: the calls above, and the name of the layout. */
+static inline uint8_t xurbalenz_read_header_16(XurbalenzSession *s, const uint8_t *message, size_t message_len)
+{
+    (void)xurbalenz_record_16();
+    return xurbalenz_read_header(s, message, message_len);
+}
+
+static inline uint8_t xurbalenz_read_frame_16(XurbalenzSession *s, const uint8_t *message, size_t message_len, uint16_t *picture,
+                                              size_t picture_len, int32_t *y, size_t y_len, int32_t *cb, size_t cb_len, int32_t *cr, size_t cr_len,
+                                              int32_t *scratch, size_t scratch_len, size_t *tiles)
+{
+    (void)xurbalenz_record_16();
+    return xurbalenz_read_frame(s, message, message_len, picture, picture_len, y, y_len, cb, cb_len, cr, cr_len, scratch, scratch_len, tiles);
+}
+
+#define xurbalenz_read_header xurbalenz_read_header_16
+#define xurbalenz_read_frame xurbalenz_read_frame_16
 
 /* ---- frames with the work lists in one struct ---- */
 

@@ -65,6 +65,7 @@ mod archive {
             taken: *mut usize,
         ) -> u8;
         pub fn xurbalenz_collect_reset(c: *mut Collector);
+        pub fn xurbalenz_record_16() -> u8;
     }
 }
 
@@ -93,9 +94,17 @@ const _: () = assert!(core::mem::size_of::<Collector>() == 32 && core::mem::alig
 // many elements, and what is `&mut` overlaps nothing else. The archive has no state of its own and keeps no pointer. Its functions have no
 // precondition and are proved to touch only what is lent.
 
+// The bytes of the archive's record, by the name that carries its layout. Every call that takes the record makes this one too, so that the crate does
+// not link with an archive whose record is laid out otherwise.
+#[inline]
+fn record_16() -> u8 {
+    unsafe { archive::xurbalenz_record_16() }
+}
+
 /// Reads one header block: the number. Refused, the record is what it was.
 #[inline]
 pub fn read_header(s: &mut Session, message: &[u8]) -> u8 {
+    record_16();
     unsafe { archive::xurbalenz_read_header(s, message.as_ptr(), message.len()) }
 }
 
@@ -111,6 +120,7 @@ pub fn read_frame(
     scratch: &mut [i32],
 ) -> (u8, usize) {
     let mut tiles = 0;
+    record_16();
     let number = unsafe {
         archive::xurbalenz_read_frame(
             s,

@@ -113,7 +113,8 @@ impl Default for Quant {
     }
 }
 
-/// The session's record: how many headers are in, the channel's size, the mode. Fresh by `Default`; only a done header changes it.
+/// The session's record: how many headers are in, the channel's size, the mode, and what follows from the size. Fresh by `Default`; only a done
+/// header changes it.
 ///
 /// ```
 /// use xurbalenz::{read_header, Session};
@@ -126,17 +127,27 @@ impl Default for Quant {
 #[derive(Clone, Copy, Debug, Default, PartialEq, Eq, Hash)]
 pub struct Session {
     headers: u8,
+    mode: u8,
     width: u16,
     height: u16,
-    mode: u8,
+    columns: u8,
+    rows: u8,
+    words: u32,
+    glass: u8,
 }
 
-// The archive lays the record out as C does.
-const _: () = assert!(core::mem::size_of::<Session>() == 8 && core::mem::align_of::<Session>() == 2);
+// The archive lays the record out as C does. Its calls are made together with `xurbalenz_record_16`, so that another layout does not link.
+const _: () = {
+    use core::mem::{align_of, offset_of, size_of};
+    assert!(size_of::<Session>() == 16 && align_of::<Session>() == 4);
+    assert!(offset_of!(Session, headers) == 0 && offset_of!(Session, mode) == 1 && offset_of!(Session, width) == 2);
+    assert!(offset_of!(Session, height) == 4 && offset_of!(Session, columns) == 6 && offset_of!(Session, rows) == 7);
+    assert!(offset_of!(Session, words) == 8 && offset_of!(Session, glass) == 12);
+};
 
 impl Session {
-    /// A record that was kept somewhere, by its four numbers. One that no calls could have made is answered [`Refusal::Order`] wherever a
-    /// record is judged; a good sync starts it over.
+    /// A record that was kept somewhere, by its four numbers; the others are worked out from them. One that no calls could have made is answered
+    /// [`Refusal::Order`] wherever a record is judged; a good sync starts it over.
     ///
     /// ```
     /// use xurbalenz::{header_blocks, read_header, write_headers, Mode, Refusal, Session};
@@ -151,7 +162,9 @@ impl Session {
     /// # Ok::<(), Refusal>(())
     /// ```
     pub const fn of_numbers(headers: u8, width: u16, height: u16, mode: u8) -> Session {
-        Session { headers, width, height, mode }
+        // A size that is allowed has at most 64 columns and 32 rows.
+        let (columns, rows) = (width.div_ceil(64) as u8, height.div_ceil(64) as u8);
+        Session { headers, mode, width, height, columns, rows, words: width as u32 * height as u32, glass: 0 }
     }
 
     /// Its four numbers: headers, width, height, mode.
@@ -172,6 +185,26 @@ impl Session {
     /// The channel's height, 0 before the channels header.
     pub const fn height(self) -> u16 {
         self.height
+    }
+
+    /// Tile columns of the channel, 0 before the channels header.
+    pub const fn columns(self) -> u8 {
+        self.columns
+    }
+
+    /// Tile rows of the channel, 0 before the channels header.
+    pub const fn rows(self) -> u8 {
+        self.rows
+    }
+
+    /// Words of the channel's picture, width x height: 0 before the channels header.
+    ///
+    /// ```
+    /// let session = xurbalenz::Session::of_numbers(3, 70, 40, 0);
+    /// assert_eq!((session.columns(), session.rows(), session.words()), (2, 1, 2_800));
+    /// ```
+    pub const fn words(self) -> u32 {
+        self.words
     }
 
     /// The mode, none before the context header.

@@ -89,6 +89,35 @@ fn header_refusals() {
 }
 
 #[test]
+fn record_refusals() {
+    let good = Frame::of(1, vec![Tile::grey(0, 0)]).bytes();
+    let (two, three) = (Session::of_numbers(2, 0, 0, 0), Session::of_numbers(3, 100, 70, 0));
+    assert_eq!(header(two, &channels(100, 70)), (0, three));
+    assert_eq!((three.columns(), three.rows(), three.words()), (2, 2, 7000));
+    assert_eq!(header(three, &context(1)), (0, READY));
+    let before = [(Session::of_numbers(1, 0, 0, 0), versions()), (two, channels(100, 70)), (three, context(1))];
+    // columns, rows, words and the glass, each one more and one less than it should be: no calls could have made such a record
+    for at in [6, 7, 8, 12] {
+        for by in [1, 255] {
+            assert_eq!(frame(bent(READY, at, by), &good, &words(7000)).number, 12);
+            for (session, block) in &before {
+                assert_eq!(header(*session, block).0, 0);
+                assert_eq!(header(bent(*session, at, by), block).0, 12);
+            }
+            // a good sync starts it over
+            assert_eq!(header(bent(READY, at, by), &sync()), (0, Session::of_numbers(1, 0, 0, 0)));
+        }
+    }
+    // what stands behind the glass is not judged
+    let mut s = READY;
+    // SAFETY: these three bytes are the record's own, and no number's.
+    unsafe { std::ptr::addr_of_mut!(s).cast::<u8>().add(13).write_bytes(0xFF, 3) };
+    let (mut picture, [mut y, mut cb, mut cr, mut t]) = (words(7000), [[7; LIST]; 4]);
+    assert_eq!(xurbalenz::edge::read_frame(&mut s, &good, &mut picture, &mut y, &mut cb, &mut cr, &mut t), (0, 1));
+    assert_eq!(s, READY);
+}
+
+#[test]
 fn frame_refusals_before_the_message() {
     let good = Frame::of(1, vec![Tile::grey(0, 0)]).bytes();
     let short = words(6999);

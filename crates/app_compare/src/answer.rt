@@ -2,7 +2,8 @@
 ghost use mathlib.Core.Path.{_≡_};
 ghost use Prim.Native.Nat.{_*_};
 ghost use lib.ListN.{length, getD};
-ghost use Rattle.tile_diff.specs.Tiles.{tilesOver, linesOf};
+ghost use Rattle.session.specs.Header.{tilesOver};
+ghost use Rattle.tile_diff.specs.Tiles.{linesOf};
 use app_text::lines::OUT;
 use tile_diff::count::Line;
 use tile_diff::count::Next;

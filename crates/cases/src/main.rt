@@ -95,17 +95,13 @@ fn ones(mode: u8, bits: usize) {
 
 // ---- headers
 
-fn fresh() -> Session {
-    Session {
-        headers: 0,
-        width: 0,
-        height: 0,
-        mode: 0,
-    }
-}
-
 fn is_record(s: Session, headers: u8, width: u16, height: u16, mode: u8) -> bool {
     s.headers == headers && s.width == width && s.height == height && s.mode == mode
+}
+
+// Columns, rows and words of a record (document 02, request Six), and the glass, 0.
+fn is_sized(s: Session, columns: u8, rows: u8, words: u32) -> bool {
+    s.columns == columns && s.rows == rows && s.words == words && s.glass == 0
 }
 
 // "Headers for 64 x 64, RLGR3", and the four blocks read back.
@@ -169,8 +165,12 @@ fn headers() {
         b"headers for 64 x 64, RLGR3, bytes",
         check::same(&out, &want),
     );
-    let f = app_calls::calls::headers_back(fresh(), &out);
+    let f = app_calls::calls::headers_back(session::of_numbers(0, 0, 0, 0), &out);
     told(b"headers read back", is_record(f.session, 4, 64, 64, 4));
+    told(
+        b"one column, one row, 4,096 words",
+        is_sized(f.session, 1, 1, 4096),
+    );
 }
 
 // The header writer's number for a width.
@@ -181,12 +181,7 @@ fn width_written(width: usize) -> u8 {
 
 // The header reader's number for a channels block with this width.
 fn width_read(low: u8, high: u8) -> u8 {
-    let s = Session {
-        headers: 2,
-        width: 0,
-        height: 0,
-        mode: 0,
-    };
+    let s = session::of_numbers(2, 0, 0, 0);
     let block: [u8; 12] = [0xC2, 0xCC, 12, 0, 0, 0, 1, 0, low, high, 1, 0];
     session::header_number(panel::read_header(s, &block))
 }
@@ -196,6 +191,84 @@ fn widths() {
     told(b"width 4,097 not written: field", width_written(4097) == 5);
     told(b"width 4,096 taken", width_read(0, 16) == 0);
     told(b"width 4,097 refused: field", width_read(1, 16) == 5);
+}
+
+// ---- the record (document 02, request Six)
+
+// 70 x 40 with three headers in, or four, and columns, rows, words and glass as they are given.
+fn record_of(headers: u8, mode: u8, columns: u8, rows: u8, words: u32, glass: u8) -> Session {
+    Session {
+        headers: headers,
+        mode: mode,
+        width: 70,
+        height: 40,
+        columns: columns,
+        rows: rows,
+        words: words,
+        glass: glass,
+    }
+}
+
+// The header call's number with such a record, on a good context block.
+fn context_read(columns: u8, rows: u8, words: u32, glass: u8) -> u8 {
+    let s = record_of(3, 0, columns, rows, words, glass);
+    let block: [u8; 13] = [0xC3, 0xCC, 13, 0, 0, 0, 1, 0xFF, 0, 0x40, 0, 0x28, 0x28];
+    session::header_number(panel::read_header(s, &block))
+}
+
+// The frame call's number with such a record, on a message that is cut, with a picture that is too short: 12 comes before both.
+fn frame_read(columns: u8, rows: u8, words: u32, glass: u8) -> u8 {
+    let s = record_of(4, 4, columns, rows, words, glass);
+    let mut picture = [0x1234u16; 2799];
+    shown_by(s, &[], &mut picture)
+}
+
+// Each call's number with such a record: 12 and 12 where no calls could have made it.
+fn refused(columns: u8, rows: u8, words: u32, glass: u8) -> bool {
+    context_read(columns, rows, words, glass) == 12 && frame_read(columns, rows, words, glass) == 12
+}
+
+// A good sync starts any record over.
+fn sync_read(columns: u8, rows: u8, words: u32, glass: u8) -> bool {
+    let before = record_of(4, 4, columns, rows, words, glass);
+    let block: [u8; 12] = [0xC0, 0xCC, 12, 0, 0, 0, 0xCA, 0xAC, 0xCC, 0xCA, 0, 1];
+    let h = panel::read_header(before, &block);
+    let s = session::header_record(h, before);
+    session::header_number(h) == 0 && is_record(s, 1, 0, 0, 0) && is_sized(s, 0, 0, 0)
+}
+
+fn records() {
+    told(
+        b"70 x 40, 2 columns, 1 row, 2,800 words: context taken",
+        context_read(2, 1, 2800, 0) == 0,
+    );
+    told(
+        b"its frame call: buffer, for a picture of 2,799",
+        frame_read(2, 1, 2800, 0) == 2,
+    );
+    told(
+        b"columns one less, one more: order",
+        refused(1, 1, 2800, 0) && refused(3, 1, 2800, 0),
+    );
+    told(
+        b"rows one less, one more: order",
+        refused(2, 0, 2800, 0) && refused(2, 2, 2800, 0),
+    );
+    told(
+        b"words one less, one more: order",
+        refused(2, 1, 2799, 0) && refused(2, 1, 2801, 0),
+    );
+    told(
+        b"another glass: order",
+        refused(2, 1, 2800, 1) && refused(2, 1, 2800, 255),
+    );
+    told(
+        b"a good sync is taken by each",
+        sync_read(1, 1, 2800, 0)
+            && sync_read(2, 0, 2800, 0)
+            && sync_read(2, 1, 2801, 0)
+            && sync_read(2, 1, 2800, 1),
+    );
 }
 
 // ---- frames
@@ -238,19 +311,18 @@ fn quant_sent(first: u8) -> u8 {
 }
 
 // The frame call on a message: its number.
-fn shown(message: &[u8], picture: &mut [u16]) -> u8 {
-    let s = Session {
-        headers: 4,
-        width: 64,
-        height: 64,
-        mode: 4,
-    };
+fn shown_by(s: Session, message: &[u8], picture: &mut [u16]) -> u8 {
     let mut y = [7i32; 4096];
     let mut cb = [7i32; 4096];
     let mut cr = [7i32; 4096];
     let mut scratch = [7i32; 4096];
     let f = panel::read_frame(s, message, picture, &mut y, &mut cb, &mut cr, &mut scratch);
     frame::call::frame_number(f)
+}
+
+// The same with the record of our own frames.
+fn shown(message: &[u8], picture: &mut [u16]) -> u8 {
+    shown_by(session::of_numbers(4, 64, 64, 4), message, picture)
 }
 
 // The number for our own frame with one byte of it changed, and whether the picture is as it was: 99 where it is not.
@@ -376,6 +448,8 @@ fn main() {
     app_text::lines::say(OUT, b"headers\n");
     headers();
     widths();
+    app_text::lines::say(OUT, b"records\n");
+    records();
     app_text::lines::say(OUT, b"frames\n");
     quants();
     frames();

@@ -42,6 +42,8 @@ use Rattle.demands.specs.Calls.{ReadHeader, sessionAfter, ReadFrame, Rea
 use Rattle.demands.specs.Demands.{firstFault, Untouched, Demand1, OurCalls, OurFrame, Sent, Demand2, Demand3, SmallNumbers, PaperCases, Demands}
 use Rattle.demands.specs.laws.Unique.{one-answer}
 use Rattle.demands.specs.laws.Edge.{one-answer-c}
+use Rattle.demands.specs.laws.ForC.{edge-demands}
+use Rattle.demands.specs.laws.Right.{record-right}
 
 -- ---- the header call
 
@@ -180,7 +182,6 @@ demand-1 = record {
   header-taken = header-taken;
   header-refused = header-refused;
   frame-refused = λ c h. frame-refused c h .0;
-  frame-keeps = λ s s′ m pic y cb cr tmp pic′ y′ cb′ cr′ tmp′ tiles n x. x .session;
   lists-untouched = lists-untouched;
   lists-zeros = λ c o. cleared _ _ _ _ _ _ _ _ _ _ _ _ _ (c .promise) o;
   list-untouched = λ c e. CodeNumbers.list-untouched _ _ _ _ _ (c .promise) e;
@@ -221,4 +222,5 @@ paper : PaperCases
 paper = record { read = CodeOnesLaws.cases; sent = write-cases; tile = TileOnesLaws.cases; headers = HeaderOnesLaws.cases; tileset = props-cases; writer = SendOnesLaws.cases }
 
 pub demands : Demands
-demands = record { one = demand-1; two = demand-2; three = demand-3; once = one-answer; once-for-c = one-answer-c; small = small-numbers; cases = paper }
+demands =
+    record { one = demand-1; two = demand-2; three = demand-3; once = one-answer; once-for-c = one-answer-c; for-c = edge-demands demand-1 demand-2; six = record-right; small = small-numbers; cases = paper }

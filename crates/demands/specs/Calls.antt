@@ -1,5 +1,5 @@
 -- The six calls as a customer sees them: what was given, what was answered, what lent memory holds afterwards (marked ′), and that the
--- call's promise, which is its `ensures`, holds of them. Nothing else is known of a call.
+-- call's promise, which is its `ensures`, holds of them. Nothing else is known of a call. First the panel's own, then the same six for C.
 use Prim.Native.Nat.{ℕ}
 use mathlib.Core.Path.{_≡_}
 use mathlib.Core.List.{List}
@@ -17,6 +17,7 @@ use Rattle.code_write.specs.Write.{ComponentWritten}
 use Rattle.frame.specs.declared.call.FrameReading.{FrameReading}
 use Rattle.frame.specs.Frame.{FrameRead}
 use Rattle.frame_write.specs.FrameWrite.{FrameWritten}
+use Rattle.panel.specs.Edge.{ReadHeaderCall, frameAnswer, ReadFrameCall, ReadComponentCall, WriteHeadersCall, WriteFrameCall}
 
 -- read_header
 pub record ReadHeader : Type 0 where
@@ -94,3 +95,97 @@ pub record WriteFrame : Type 0 where
 -- what a writer has written: its output up to the length that it says
 abbrev pub sentBy : Writing → List ℕ → List ℕ
 sentBy answer out′ = take (writingLength answer) out′
+
+-- ---- for C (panel/src/edge.rt): `number` is what is returned; `tiles`, `bits` or `size` is what stands behind the last reference; and `session` is the record
+-- behind its reference before the call, `session′` after it
+
+-- xurbalenz_read_header
+pub record CReadHeader : Type 0 where
+  pub session : Session
+  pub message : List ℕ
+  pub session′ : Session
+  pub number : ℕ
+  pub promise : ReadHeaderCall session session′ message number
+
+-- xurbalenz_read_frame
+pub record CReadFrame : Type 0 where
+  pub session : Session
+  pub message : List ℕ
+  pub picture : List ℕ
+  pub y : List ℤ
+  pub cb : List ℤ
+  pub cr : List ℤ
+  pub scratch : List ℤ
+  pub session′ : Session
+  pub picture′ : List ℕ
+  pub y′ : List ℤ
+  pub cb′ : List ℤ
+  pub cr′ : List ℤ
+  pub scratch′ : List ℤ
+  pub tiles : ℕ
+  pub number : ℕ
+  pub promise : ReadFrameCall session session′ message picture y cb cr scratch picture′ y′ cb′ cr′ scratch′ tiles number
+
+-- the call of the panel that it is
+abbrev pub as-frame : CReadFrame → ReadFrame
+as-frame c = record {
+  session = c .session;
+  message = c .message;
+  picture = c .picture;
+  y = c .y;
+  cb = c .cb;
+  cr = c .cr;
+  scratch = c .scratch;
+  picture′ = c .picture′;
+  y′ = c .y′;
+  cb′ = c .cb′;
+  cr′ = c .cr′;
+  scratch′ = c .scratch′;
+  answer = frameAnswer (c .session) (c .message) (c .picture) (c .y) (c .cb) (c .cr) (c .scratch);
+  promise = c .promise .lists;
+}
+
+-- xurbalenz_read_component
+pub record CReadComponent : Type 0 where
+  pub mode : ℕ
+  pub bytes : List ℕ
+  pub list : List ℤ
+  pub list′ : List ℤ
+  pub bits : ℕ
+  pub number : ℕ
+  pub promise : ReadComponentCall mode bytes list list′ bits number
+
+-- xurbalenz_write_headers
+pub record CWriteHeaders : Type 0 where
+  pub width : ℕ
+  pub height : ℕ
+  pub mode : ℕ
+  pub out : List ℕ
+  pub out′ : List ℕ
+  pub size : ℕ
+  pub number : ℕ
+  pub promise : WriteHeadersCall width height mode out out′ size number
+
+-- xurbalenz_write_frame
+pub record CWriteFrame : Type 0 where
+  pub width : ℕ
+  pub height : ℕ
+  pub mode : ℕ
+  pub quant : List ℕ
+  pub index : ℕ
+  pub pixels : List ℕ
+  pub list : List ℤ
+  pub scratch : List ℤ
+  pub out : List ℕ
+  pub list′ : List ℤ
+  pub scratch′ : List ℤ
+  pub out′ : List ℕ
+  pub size : ℕ
+  pub number : ℕ
+  pub promise : WriteFrameCall width height mode quant index pixels list list′ scratch scratch′ out out′ size number
+
+-- ---- any number of header and frame calls, one after the other on one record: from what it was to what it is then
+pub data OnOneRecord : Session → Session → Type 0 where
+  no-call : {s : Session} → OnOneRecord s s
+  header : {t : Session} (c : CReadHeader) → OnOneRecord (c .session′) t → OnOneRecord (c .session) t
+  frame : {t : Session} (c : CReadFrame) → OnOneRecord (c .session′) t → OnOneRecord (c .session) t

@@ -11,7 +11,7 @@ use lib.IntN.{ℤ, pos}
 use lib.ListN.{length, getD, take, drop, replicate}
 use Rattle.whole.specs.Row.{_⇒_∣_, _⨟_}
 use Rattle.whole.specs.Among.{Among, Other}
-use Rattle.wire.specs.Le.{written}
+use Rattle.wire.specs.Le.{written, le16}
 use Rattle.wire.specs.declared.Writing.{Writing}
 use Rattle.wire.specs.Wrote.{writingNumber, writingLength}
 use Rattle.bits.specs.Bits.{bitsOf}
@@ -23,7 +23,7 @@ use Rattle.frame_draw.specs.Shown.{lastTile, wordIn}
 use Rattle.frame_draw.specs.Show.{tileWord}
 use Rattle.frame_blocks.specs.Judged.{judged}
 use Rattle.session.specs.declared.Session.{Session}
-use Rattle.session.specs.Header.{headerFault, recordAfter, headerNumber}
+use Rattle.session.specs.Header.{at, Right, headerFault, recordAfter, headerNumber}
 use Rattle.session.specs.Cases as HeaderOnes
 use Rattle.frame.specs.Frame.{early, framed, Cleared, frameReadingNumber, frameReadingTiles}
 use Rattle.headers.specs.Headers.{headersOf, headersFault}
@@ -41,6 +41,7 @@ use Rattle.frame_write.specs.FrameWrite.{argFault, sendFault}
 use Rattle.frame_readback.specs.Own.{wordBack, tileNo}
 use Rattle.panel.specs.Edge.{ReadHeaderCall, ReadFrameCall, ReadComponentCall, WriteComponentCall, WriteHeadersCall, WriteFrameCall}
 use Rattle.demands.specs.Calls.{ReadHeader, sessionAfter, ReadFrame, ReadComponent, WriteComponent, WriteHeaders, WriteFrame, sentBy}
+use Rattle.demands.specs.Calls.{CReadHeader, CReadFrame, as-frame, CReadComponent, CWriteHeaders, CWriteFrame, OnOneRecord}
 
 -- ---- 1. "A frame is drawn whole, or refused by the first fault in document 01's order, with its number. After a refusal the picture and
 -- the session record are exactly what they were, and work memory holds what 01 says."
@@ -69,8 +70,6 @@ pub record Demand1 : Type 0 where
   -- "A refused header or frame changes neither record nor picture."
   pub header-refused : (c : ReadHeader) → headerNumber (c .answer) ≢ 0 → sessionAfter c ≡ c .session
   pub frame-refused : (c : ReadFrame) → frameReadingNumber (c .answer) ≢ 0 → c .picture′ ≡ c .picture
-  -- "a frame call leaves it equal": s′ is the record behind the reference after the call for C, on every answer
-  pub frame-keeps : (s s′ : Session) (m pic : List ℕ) (y cb cr tmp : List ℤ) (pic′ : List ℕ) (y′ cb′ cr′ tmp′ : List ℤ) (tiles n : ℕ) → ReadFrameCall s s′ m pic y cb cr tmp pic′ y′ cb′ cr′ tmp′ tiles n → s′ ≡ s
   -- "Work lists of a frame call are untouched on 12 and 2; after every other frame answer they hold only zeros."
   pub lists-untouched : (c : ReadFrame) → Among (12 ∷ 2 ∷ []) (frameReadingNumber (c .answer)) → Untouched c
   pub lists-zeros : (c : ReadFrame) → Other (12 ∷ 2 ∷ []) (frameReadingNumber (c .answer)) → Cleared (c .y′) (c .cb′) (c .cr′) (c .scratch′)
@@ -80,11 +79,14 @@ pub record Demand1 : Type 0 where
 
 -- ---- writers: "Writers leave their output untouched on every refusal; when done they say the length in bytes, refused 0, and bytes past it are
 -- untouched."
-pub record Sent (bytes out out′ : List ℕ) (answer : Writing) : Type 0 where
-  pub done-length : writingNumber answer ≡ 0 → writingLength answer ≡ length bytes
-  pub done-output : writingNumber answer ≡ 0 → out′ ≡ written bytes out
-  pub refused-length : writingNumber answer ≢ 0 → writingLength answer ≡ 0
-  pub refused-output : writingNumber answer ≢ 0 → out′ ≡ out
+pub record SentC (bytes out out′ : List ℕ) (size number : ℕ) : Type 0 where
+  pub done-length : number ≡ 0 → size ≡ length bytes
+  pub done-output : number ≡ 0 → out′ ≡ written bytes out
+  pub refused-length : number ≢ 0 → size ≡ 0
+  pub refused-output : number ≢ 0 → out′ ≡ out
+
+abbrev pub Sent : List ℕ → List ℕ → List ℕ → Writing → Type 0
+Sent bytes out out′ answer = SentC bytes out out′ (writingLength answer) (writingNumber answer)
 
 -- ---- 2. "An accepted frame changes the picture to what 01's rules say, pixel by pixel, and no other word."
 
@@ -191,6 +193,87 @@ pub record OneAnswerC : Type 0 where
   pub write-frame : (w h mode : ℕ) (q : List ℕ) (index : ℕ) (p : List ℕ) (list l₁ l₂ scratch t₁ t₂ : List ℤ) (out o₁ o₂ : List ℕ) (k₁ k₂ n₁ n₂ : ℕ) →
       WriteFrameCall w h mode q index p list l₁ scratch t₁ out o₁ k₁ n₁ → WriteFrameCall w h mode q index p list l₂ scratch t₂ out o₂ k₂ n₂ → (n₁ ≡ n₂) × (k₁ ≡ k₂) × (l₁ ≡ l₂) × (t₁ ≡ t₂) × (o₁ ≡ o₂)
 
+-- ---- for C: demands 1 and 2 over the calls of panel/src/edge.rt. Each of them is one of the six on the same input, and gives its number and its value; what
+-- is new is that one record, behind a reference, is handed on from call to call.
+
+pub record EdgeDemand1 : Type 0 where
+  pub header-number : (c : CReadHeader) → c .number ≡ headerFault (c .session) (c .message)
+  pub frame-number : (c : CReadFrame) → c .number ≡ firstFault (as-frame c)
+  pub frame-whole : (c : CReadFrame) → c .number ≡ 0 → c .picture′ ≡ framed (c .session .mode) (c .session .width) (c .session .height) (c .message) (c .picture)
+  pub header-taken : (c : CReadHeader) → c .number ≡ 0 → c .session′ ≡ recordAfter (c .session) (c .message)
+  pub header-refused : (c : CReadHeader) → c .number ≢ 0 → c .session′ ≡ c .session
+  pub frame-refused : (c : CReadFrame) → c .number ≢ 0 → c .picture′ ≡ c .picture
+  -- "a frame call leaves it equal", the record, on every answer
+  pub frame-keeps : (c : CReadFrame) → c .session′ ≡ c .session
+  pub lists-untouched : (c : CReadFrame) → Among (12 ∷ 2 ∷ []) (c .number) → Untouched (as-frame c)
+  pub lists-zeros : (c : CReadFrame) → Other (12 ∷ 2 ∷ []) (c .number) → Cleared (c .y′) (c .cb′) (c .cr′) (c .scratch′)
+  pub list-untouched : (c : CReadComponent) → Among (5 ∷ 2 ∷ 6 ∷ []) (c .number) → c .list′ ≡ c .list
+  pub list-zeros : (c : CReadComponent) → Among (1 ∷ 9 ∷ 10 ∷ 11 ∷ []) (c .number) → c .list′ ≡ replicate 4096 (pos 0)
+
+-- our own headers, block by block, and our own frame, read with one record that is handed on
+pub record OurCallsC (h : CWriteHeaders) (one two three four : CReadHeader) (s : CWriteFrame) (f : CReadFrame) : Type 0 where
+  pub headers-done : h .number ≡ 0
+  pub sync : one .message ≡ take 12 (take (h .size) (h .out′))
+  pub versions : two .message ≡ take 10 (drop 12 (take (h .size) (h .out′)))
+  pub channels : three .message ≡ take 12 (drop 22 (take (h .size) (h .out′)))
+  pub context : four .message ≡ take 13 (drop 34 (take (h .size) (h .out′)))
+  pub then-two : two .session ≡ one .session′
+  pub then-three : three .session ≡ two .session′
+  pub then-four : four .session ≡ three .session′
+  pub same-width : s .width ≡ h .width
+  pub same-height : s .height ≡ h .height
+  pub same-mode : s .mode ≡ h .mode
+  pub ten : length (s .quant) ≡ 10
+  pub frame-done : s .number ≡ 0
+  pub frame : f .message ≡ take (s .size) (s .out′)
+  pub then-frame : f .session ≡ four .session′
+  pub y-long : length (f .y) ≡ 4096
+  pub cb-long : length (f .cb) ≡ 4096
+  pub cr-long : length (f .cr) ≡ 4096
+  pub scratch-long : length (f .scratch) ≡ 4096
+  pub room : s .height * s .width ≤ length (f .picture)
+
+pub record OurFrameC (one two three four : CReadHeader) (s : CWriteFrame) (f : CReadFrame) : Type 0 where
+  pub sync-taken : one .number ≡ 0
+  pub versions-taken : two .number ≡ 0
+  pub channels-taken : three .number ≡ 0
+  pub context-taken : four .number ≡ 0
+  pub accepted : f .number ≡ 0
+  pub tiles : f .tiles ≡ tilesNo (s .width) (s .height)
+  pub word : (px py : ℕ) → px < s .width → py < s .height →
+      getD (f .picture′) (py * s .width + px) 0 ≡ wordBack (s .pixels) (s .width) (s .height) (s .quant) (tileNo (s .width) px py) (64 * (py % 64) + px % 64)
+  pub past : (i : ℕ) → s .height * s .width ≤ i → getD (f .picture′) i 0 ≡ getD (f .picture) i 0
+  pub long : length (f .picture′) ≡ length (f .picture)
+
+pub record EdgeDemand2 : Type 0 where
+  pub pixel : (c : CReadFrame) → c .number ≡ 0 → (px py : ℕ) → px < c .session .width → py < c .session .height → getD (c .picture′) (py * c .session .width + px) 0 ≡ shownWord (as-frame c) px py
+  pub past : (c : CReadFrame) (i : ℕ) → c .session .height * c .session .width ≤ i → getD (c .picture′) i 0 ≡ getD (c .picture) i 0
+  pub long : (c : CReadFrame) → length (c .picture′) ≡ length (c .picture)
+  pub tiles : (c : CReadFrame) → c .number ≡ 0 → c .tiles ≡ tileCount (c .message) (setPlace (c .message))
+  pub no-tiles : (c : CReadFrame) → c .number ≢ 0 → c .tiles ≡ 0
+  pub our-frames : (h : CWriteHeaders) (one two three four : CReadHeader) (s : CWriteFrame) (f : CReadFrame) → OurCallsC h one two three four s f → OurFrameC one two three four s f
+  pub frame-writer : (c : CWriteFrame) → c .number ≡ argFault (c .width) (c .height) (c .mode) (c .quant) (length (c .pixels)) (length (c .list)) (length (c .scratch)) ⨟ sendFault (c .index) (c .width) (c .height) (c .mode) (c .quant) (c .pixels) (length (c .out))
+  pub header-writer : (c : CWriteHeaders) → c .number ≡ headersFault (c .width) (c .height) (c .mode) (length (c .out))
+  pub frame-sent : (c : CWriteFrame) → SentC (frameP (c .index) (c .width) (c .height) (c .mode) (c .quant) (c .pixels)) (c .out) (c .out′) (c .size) (c .number)
+  pub headers-sent : (c : CWriteHeaders) → SentC (headersOf (c .width) (c .height) (c .mode)) (c .out) (c .out′) (c .size) (c .number)
+  pub work-untouched : (c : CWriteFrame) → Among (5 ∷ 7 ∷ 2 ∷ []) (c .number) → (c .list′ ≡ c .list) × (c .scratch′ ≡ c .scratch)
+  pub work-zeros : (c : CWriteFrame) → Other (5 ∷ 7 ∷ 2 ∷ []) (c .number) → (c .list′ ≡ replicate 4096 (pos 0)) × (c .scratch′ ≡ replicate 4096 (pos 0))
+
+pub record EdgeDemands : Type 0 where
+  pub one : EdgeDemand1
+  pub two : EdgeDemand2
+
+-- ---- document 02, request Six: tile columns, tile rows and the picture's words in the record "must be right after every call, refused ones included"
+pub record RecordRight : Type 0 where
+  pub fresh : Right (at 0 0 0 0)
+  pub right-after : (c : ReadHeader) → Right (c .session) → Right (sessionAfter c)
+  -- over any list of calls on one record
+  pub right-always : (s t : Session) → OnOneRecord s t → Right s → Right t
+  -- "A record that no calls could have made answers 12 wherever one is judged, but takes a good sync": so does one in which one of the three is wrong
+  pub wrong-header : (c : ReadHeader) → (Right (c .session) → ⊥) → 6 ≤ length (c .message) → 0xCCC1 ≤ le16 (c .message) 0 → le16 (c .message) 0 ≤ 0xCCC3 → headerNumber (c .answer) ≡ 12
+  pub wrong-frame : (c : ReadFrame) → (Right (c .session) → ⊥) → frameReadingNumber (c .answer) ≡ 12
+  pub any-sync : (c d : ReadHeader) → c .message ≡ d .message → le16 (c .message) 0 ≡ 0xCCC0 → c .answer ≡ d .answer
+
 -- ---- "Numbers the fitter sees": none above 13
 pub record SmallNumbers : Type 0 where
   pub read-header : (c : ReadHeader) → headerNumber (c .answer) ≤ 13
@@ -220,5 +303,7 @@ pub record Demands : Type 0 where
   pub three : Demand3
   pub once : OneAnswer
   pub once-for-c : OneAnswerC
+  pub for-c : EdgeDemands
+  pub six : RecordRight
   pub small : SmallNumbers
   pub cases : PaperCases

@@ -1,2 +1,4 @@
 pub mod Edge
+pub mod ForC
+pub mod Right
 pub mod Unique

@@ -4,6 +4,7 @@ use session::Session;
 ghost use mathlib.Core.Path.{_≡_};
 ghost use Prim.Native.Nat.{_+_, _*_, _≤_, _<_};
 ghost use lib.ListN.{length};
+ghost use Rattle.session.specs.Header.{Right};
 ghost use Rattle.frame_layout.specs.Reader.{frameFault, tileCount, setPlace};
 ghost use Rattle.frame_blocks.specs.Judged.{judged};
 ghost use Rattle.frame_draw.specs.Show.{Lists};
@@ -51,15 +52,13 @@ fn is_full(a: usize, b: usize, c: usize, t: usize) -> bool
     t == 4096
 }
 
-// What is judged before the message: the record (12), then the lent memory (2); p is the picture's length.
+// What is judged before the message: the record (12), then the lent memory (2); p is the picture's length, held against the record's words.
 fn call_judge(s: Session, p: usize, a: usize, b: usize, c: usize, t: usize) -> u8
     ensures { λ r. ⌜ r ≡ callFault s p a b c t ⌝ }
 {
-    let w = s.width as usize;
-    let h = s.height as usize;
     if session::is_ready(s) {
         if is_full(a, b, c, t) {
-            if h * w <= p {
+            if s.words as usize <= p {
                 return 0;
             }
             return 2;
@@ -86,16 +85,16 @@ fn front_fault(mode: u8, m: &[u8]) -> u8
 }
 
 // The check pass: the first fault of the whole message.
-fn message_fault(mode: u8, w: usize, h: usize, m: &[u8], work: &mut [i32]) -> u8
-    requires { ⌜ length (now work) ≡ 4096 ⌝ }
-    ensures { λ r. ⌜ r ≡ frameFault judged w h mode (now (m .entry)) ⌝ }
+fn message_fault(s: Session, m: &[u8], work: &mut [i32]) -> u8
+    requires { ⌜ Right s × (length (now work) ≡ 4096) ⌝ }
+    ensures { λ r. ⌜ r ≡ frameFault judged (s .width) (s .height) (s .mode) (now (m .entry)) ⌝ }
 {
-    let f = front_fault(mode, m);
+    let f = front_fault(s.mode, m);
     if f != 0 {
         return f;
     }
     let sp = 14 + wire::le32_at(m, 16);
-    let g = crate::check::check(mode, w, h, m, sp, work);
+    let g = crate::check::check(s, m, sp, work);
     if g != 0 {
         return g;
     }
@@ -154,7 +153,7 @@ pub fn take_frame(
     if early != 0 {
         return FrameReading::Refused(early);
     }
-    let fault = message_fault(mode, w, h, m, tmp);
+    let fault = message_fault(s, m, tmp);
     if fault != 0 {
         clear_all(ys, cbs, crs, tmp);
         return FrameReading::Refused(fault);

@@ -1,13 +1,20 @@
 -- One tile: names for what layout's definitions say, its three components by number, and what a passed check gives.
-use Prim.Native.Nat.{ℕ, zero, suc, _+_, _≤_, _<_}
+use Prim.Native.Nat.{ℕ, zero, suc, _+_, _*_, _≤_, _<_}
 use mathlib.Core.Path.{_≡_}
 use mathlib.Core.List.{List}
 use lib.ListN.{length, getD}
-use lib.Dec.{eqb}
+use lib.Dec.{ltb, eqb}
 use Rattle.wire.specs.Le.{le16}
-use Rattle.whole.specs.Row.{_⇒_∣_, _⨟_}
+use Rattle.whole.specs.Row.{_!_⨾_, _⇒_∣_, _⨟_}
 use Rattle.frame_layout.specs.Bytes.{Tile}
 use Rattle.frame_layout.specs.Reader.{leastHead, bodyJudge, sizeAt, tileAt}
+
+-- the last of these: "place (8)", a tile "that starts outside the channel"
+unfoldable pub placeJudge : ℕ → ℕ → ℕ → ℕ → ℕ
+placeJudge w h x y =
+    ltb (64 * x) w ! 8 ⨾
+    ltb (64 * y) h ! 8 ⨾
+    0
 
 -- "blockLen against its lengths (4), indices (7), place (8)" of the tile at a place of the tileset's data
 unfoldable pub tileFields : ℕ → ℕ → ℕ → List ℕ → ℕ → ℕ

@@ -1,15 +1,31 @@
 // One tile of a tileset without its codes' contents, document 01's "Order. Frame call" (each tile) and "Blocks" (tile): head, kind,
-// least size, presence in the tileset's own data, lengths, indices, place; and the codes of a checked tile as parts of the message.
+// least size, presence in the tileset's own data, lengths, indices, place; and the codes of a checked tile as parts of the message. The place is held
+// against the record's columns and rows, which document 02's request Six keeps there.
+use session::Session;
 ghost use mathlib.Core.Path.{_≡_};
 ghost use Prim.Native.Nat.{_+_, _*_, _≤_, _<_};
 ghost use lib.ListN.{length};
+ghost use Rattle.session.specs.Header.{Right};
 ghost use Rattle.frame_layout.specs.Reader.{bodyJudge, tileAt};
-ghost use Rattle.frame_blocks.specs.Tiles.{tileFields, tileFront, partStart, codeOf, indexOf, TileWhole};
+ghost use Rattle.frame_blocks.specs.Tiles.{placeJudge, tileFields, tileFront, partStart, codeOf, indexOf, TileWhole};
+
+// The place: a tile starts in the channel exactly if its column is below the record's columns, and its row below the rows.
+fn place_judge(s: Session, x: usize, y: usize) -> u8
+    requires { ⌜ Right s ⌝ }
+    ensures { λ r. ⌜ r ≡ placeJudge (s .width) (s .height) x y ⌝ }
+{
+    if s.columns as usize <= x {
+        return 8;
+    }
+    if s.rows as usize <= y {
+        return 8;
+    }
+    0
+}
 
 // the lengths against the size, the indices, the place
 fn body_judge(
-    w: usize,
-    h: usize,
+    s: Session,
     q: usize,
     size: usize,
     ly: usize,
@@ -21,8 +37,8 @@ fn body_judge(
     x: usize,
     y: usize,
 ) -> u8
-    requires { ⌜ (ly < 65536) × (lcb < 65536) × (lcr < 65536) × (x < 65536) × (y < 65536) ⌝ }
-    ensures { λ r. ⌜ r ≡ bodyJudge w h q size ly lcb lcr qy qcb qcr x y ⌝ }
+    requires { ⌜ Right s × (ly < 65536) × (lcb < 65536) × (lcr < 65536) ⌝ }
+    ensures { λ r. ⌜ r ≡ bodyJudge (s .width) (s .height) q size ly lcb lcr qy qcb qcr x y ⌝ }
 {
     if size != 19 + ly + lcb + lcr {
         return 4;
@@ -36,18 +52,12 @@ fn body_judge(
     if q <= qcr {
         return 7;
     }
-    if w <= 64 * x {
-        return 8;
-    }
-    if h <= 64 * y {
-        return 8;
-    }
-    0
+    place_judge(s, x, y)
 }
 
-fn tile_fields(w: usize, h: usize, q: usize, d: &[u8], at: usize) -> u8
-    requires { ⌜ at + 19 ≤ length (now d) ⌝ }
-    ensures { λ r. ⌜ r ≡ tileFields w h q (now (d .entry)) at ⌝ }
+fn tile_fields(s: Session, q: usize, d: &[u8], at: usize) -> u8
+    requires { ⌜ Right s × (at + 19 ≤ length (now d)) ⌝ }
+    ensures { λ r. ⌜ r ≡ tileFields (s .width) (s .height) q (now (d .entry)) at ⌝ }
 {
     let size = wire::le32_at(d, at + 2);
     let qy = wire::byte_at(d, at + 6);
@@ -58,19 +68,19 @@ fn tile_fields(w: usize, h: usize, q: usize, d: &[u8], at: usize) -> u8
     let ly = wire::le16_at(d, at + 13);
     let lcb = wire::le16_at(d, at + 15);
     let lcr = wire::le16_at(d, at + 17);
-    body_judge(w, h, q, size, ly, lcb, lcr, qy, qcb, qcr, x, y)
+    body_judge(s, q, size, ly, lcb, lcr, qy, qcb, qcr, x, y)
 }
 
 // The first fault of the tile at a place, before its codes; q is the number of quantiser sets.
-pub fn tile_front(w: usize, h: usize, q: usize, d: &[u8], at: usize) -> u8
-    requires { ⌜ at ≤ length (now d) ⌝ }
-    ensures { λ r. ⌜ r ≡ tileFront w h q (now (d .entry)) at ⌝ }
+pub fn tile_front(s: Session, q: usize, d: &[u8], at: usize) -> u8
+    requires { ⌜ Right s × (at ≤ length (now d)) ⌝ }
+    ensures { λ r. ⌜ r ≡ tileFront (s .width) (s .height) q (now (d .entry)) at ⌝ }
 {
     let f = crate::block::least_head(0xCAC3, 19, d, at);
     if f != 0 {
         return f;
     }
-    tile_fields(w, h, q, d, at)
+    tile_fields(s, q, d, at)
 }
 
 // where code k of a tile starts

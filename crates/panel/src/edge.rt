@@ -1,5 +1,6 @@
 // The six calls for C. A pointer is a reference, a list is a pointer and its length; the answer is 01's number, and 01's value is stored
 // behind the last reference on every answer. Each is one call of the panel's own and promises what that one does (specs/Edge). Nothing here has a `requires`.
+ghost use mathlib.Core.Path.{_≡_};
 ghost use Rattle.panel.specs.Edge.{ReadHeaderCall, ReadFrameCall, ReadComponentCall, WriteComponentCall, WriteHeadersCall, WriteFrameCall};
 use bands::Quant;
 use session::Session;
@@ -70,6 +71,15 @@ pub extern "C" fn xurbalenz_write_frame(
     let w = crate::write_frame(width, height, mode, q, index, pixels, list, scratch, out);
     *size = wire::writing_length(w);
     wire::writing_number(w)
+}
+
+// The bytes of the session record. Its name carries the layout: header and crate for these 16 bytes call it, and so do not link with an archive whose record
+// is laid out otherwise.
+#[no_mangle]
+pub extern "C" fn xurbalenz_record_16() -> u8
+    ensures { λ n. ⌜ n ≡ 16 ⌝ }
+{
+    16
 }
 
 // What the header call has to hand over: 01's number, and the record to be stored.

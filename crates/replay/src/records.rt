@@ -49,12 +49,7 @@ pub fn bad(d: Desk) -> Desk {
 pub fn fresh(c: In) -> Desk {
     Desk {
         from: c,
-        s: Session {
-            headers: 0,
-            width: 0,
-            height: 0,
-            mode: 0,
-        },
+        s: session::of_numbers(0, 0, 0, 0),
         picture: 0,
         written: 0,
         go: true,
@@ -101,12 +96,12 @@ pub fn set_record(d: Desk, input: &mut [u8]) -> Desk {
     if !from.whole {
         return bad(d);
     }
-    let s = Session {
-        headers: app_recording::read::byte_of(g.a),
-        width: app_recording::read::word_of(g.b),
-        height: app_recording::read::word_of(g.c),
-        mode: app_recording::read::byte_of(g.d),
-    };
+    let s = session::of_numbers(
+        app_recording::read::byte_of(g.a),
+        app_recording::read::word_of(g.b),
+        app_recording::read::word_of(g.c),
+        app_recording::read::byte_of(g.d),
+    );
     with_session(d, from, s)
 }
 

@@ -1,9 +1,10 @@
--- Cases of 01 on the header call, computed by the definitions.
+-- Cases of 01 on the header call, computed by the definitions; and the record as 02's request Six keeps it.
 -- (01 is this project's scope document, 02 its change requests, 001 is MS-RDPRFX: README, "What 01 is".)
 use Prim.Native.Nat.{ℕ}
 use mathlib.Core.Path.{_≡_}
 use mathlib.Core.Bool.{true}
 use mathlib.Core.List.{List, [], _∷_, _++_}
+use Rattle.session.specs.declared.Session.{Session}
 use Rattle.session.specs.declared.HeaderReading.the-variants.{Taken, Refused}
 use Rattle.session.specs.Header.{at, ready, headerReading}
 
@@ -20,6 +21,10 @@ channels low high = 0xC2 ∷ 0xCC ∷ 0x0C ∷ 0x00 ∷ 0x00 ∷ 0x00 ∷ 0x01 �
 abbrev context : ℕ → ℕ → List ℕ
 context low high = 0xC3 ∷ 0xCC ∷ 0x0D ∷ 0x00 ∷ 0x00 ∷ 0x00 ∷ 0x01 ∷ 0xFF ∷ 0x00 ∷ 0x40 ∷ 0x00 ∷ low ∷ high ∷ []
 
+-- 70 x 40 after three headers, with the columns, rows and words that are given
+abbrev sized : ℕ → ℕ → ℕ → Session
+sized columns rows words = record { headers = 3; mode = 0; width = 70; height = 40; columns = columns; rows = rows; words = words; glass = 0 }
+
 pub record Cases : Type 0 where
   -- the four headers in order, from a fresh record; context properties 2828 are RLGR3, 2228 are RLGR1
   pub sync-taken : headerReading (at 0 0 0 0) sync ≡ Taken (at 1 0 0 0)
@@ -35,6 +40,12 @@ pub record Cases : Type 0 where
   pub sync-unmade : headerReading (at 9 9 9 9) sync ≡ Taken (at 1 0 0 0)
   pub early : headerReading (at 0 0 0 0) versions ≡ Refused 12
   pub unmade : headerReading (at 1 64 64 0) versions ≡ Refused 12
+  -- two columns, one row, 2,800 words: right, and each off by one
+  pub right-taken : headerReading (sized 2 1 2800) (context 0x28 0x28) ≡ Taken (at 4 70 40 4)
+  pub columns-off : headerReading (sized 1 1 2800) (context 0x28 0x28) ≡ Refused 12
+  pub rows-off : headerReading (sized 2 0 2800) (context 0x28 0x28) ≡ Refused 12
+  pub words-off : headerReading (sized 2 1 2801) (context 0x28 0x28) ≡ Refused 12
+  pub off-sync : headerReading (sized 1 1 2800) sync ≡ Taken (at 1 0 0 0)
   -- bytes after the block are 4; a head of five bytes is 1
   pub more : headerReading (at 0 0 0 0) (sync ++ (0 ∷ [])) ≡ Refused 4
   pub cut : headerReading (at 0 0 0 0) (0xC0 ∷ 0xCC ∷ 0x0C ∷ 0x00 ∷ 0x00 ∷ []) ≡ Refused 1

@@ -1,6 +1,7 @@
 -- The session record and what a header call answers, in 01's order.
 -- (01 is this project's scope document, 02 its change requests, 001 is MS-RDPRFX: README, "What 01 is".)
-use Prim.Native.Nat.{ℕ, _+_, _/_, _%_}
+use Prim.Native.Nat.{ℕ, _+_, _*_, _/_, _%_}
+use mathlib.Core.Path.{_≡_}
 use mathlib.Core.List.{List}
 use mathlib.Core.Bool.{Bool, true, false}
 use lib.ListN.{length, getD}
@@ -12,11 +13,39 @@ use Rattle.session.specs.declared.Session.{Session}
 use Rattle.session.specs.declared.HeaderReading.{HeaderReading}
 use Rattle.session.specs.declared.HeaderReading.the-variants.{Taken, Refused}
 
--- ---- the record: "how many headers are in, width, height, mode (et), all 0 when fresh"
+-- ---- the record: "how many headers are in, width, height, mode (et), all 0 when fresh"; and, by 02's request Six, "Tile columns and rows"
+-- and "the picture's word count": "Keep both .. in the session record, set when channels are taken and cleared by a sync." The glass is 0.
 
--- a record in 01's words: headers, width, height, mode
+-- how many tiles of 64 stand over n pixels; the last may be cut
+unfoldable pub tilesOver : ℕ → ℕ
+tilesOver n = (n + 63) / 64
+
+-- a record in 01's words: headers, width, height, mode; what request Six keeps beside them follows from the size
 abbrev pub at : ℕ → ℕ → ℕ → ℕ → Session
-at headers w h mode = record { headers = headers; width = w; height = h; mode = mode }
+at headers w h mode = record { headers = headers; mode = mode; width = w; height = h; columns = tilesOver w; rows = tilesOver h; words = w * h; glass = 0 }
+
+-- the same as a program is given four numbers, whatever they are: columns and rows have a byte each, which holds those of every size that 01 allows
+unfoldable pub ofNumbers : ℕ → ℕ → ℕ → ℕ → Session
+ofNumbers headers w h mode =
+    record { headers = headers; mode = mode; width = w; height = h; columns = tilesOver w % 256; rows = tilesOver h % 256; words = w * h; glass = 0 }
+
+-- a record with another count of headers and another mode, and the rest as it is
+unfoldable pub stepped : Session → ℕ → ℕ → Session
+stepped s headers mode =
+    record { headers = headers; mode = mode; width = s .width; height = s .height; columns = s .columns; rows = s .rows; words = s .words; glass = s .glass }
+
+-- "They must be right after every call": the three numbers are those of width and height
+pub record Right (s : Session) : Type 0 where
+  pub columns : s .columns ≡ tilesOver (s .width)
+  pub rows : s .rows ≡ tilesOver (s .height)
+  pub words : s .words ≡ s .width * s .height
+
+-- the same, as a test
+unfoldable pub right : Session → Bool
+right s =
+    eqb (s .columns) (tilesOver (s .width)) ! false ⨾
+    eqb (s .rows) (tilesOver (s .height)) ! false ⨾
+    eqb (s .words) (s .width * s .height)
 
 -- "width 1 to 4,096, height 1 to 2,048"
 unfoldable pub sizeGood : ℕ → ℕ → Bool
@@ -26,26 +55,33 @@ sizeGood w h =
     leb 1 h ! false ⨾
     leb h 2048
 
--- could calls have made this record?  "A record that no calls could have made answers 12 wherever one is judged, but takes a good sync"
-unfoldable pub made : ℕ → ℕ → ℕ → ℕ → Bool
-made headers w h mode =
+-- are size and mode those that so many headers have given?
+unfoldable pub counted : ℕ → ℕ → ℕ → ℕ → Bool
+counted headers w h mode =
     ltb headers 3 ⇒ (eqb w 0 ! false ⨾ eqb h 0 ! false ⨾ eqb mode 0) ∣
     sizeGood w h ! false ⨾
     eqb headers 3 ⇒ eqb mode 0 ∣
     eqb headers 4 ! false ⨾
     isMode mode
 
+-- could calls have made this record?  "A record that no calls could have made answers 12 wherever one is judged, but takes a good sync"
+unfoldable pub made : Session → Bool
+made s =
+    eqb (s .glass) 0 ! false ⨾
+    right s ! false ⨾
+    counted (s .headers) (s .width) (s .height) (s .mode)
+
 -- all four headers are in: "a frame before all four headers" is 12, and so is a record that no calls could have made
 unfoldable pub ready : Session → Bool
 ready s =
     eqb (s .headers) 4 ! false ⨾
-    made (s .headers) (s .width) (s .height) (s .mode)
+    made s
 
 -- "Headers come in table order; a good sync is always due": a sync by its type alone, any other if it is the next of a record that calls could have made
 unfoldable pub due : Session → ℕ → Bool
 due s t =
     eqb t 0xCCC0 ⇒ true ∣
-    made (s .headers) (s .width) (s .height) (s .mode) ! false ⨾
+    made s ! false ⨾
     eqb t (0xCCC0 + s .headers)
 
 -- ---- "Blocks": the bytes of a type, and the fields of each block as numbers, in wire order (5)

@@ -1,3 +1,4 @@
 pub mod Cases
 pub mod Header
 pub mod Numbers
+pub mod Right

@@ -1,18 +1,23 @@
 // The session record and the header call of document 01: "What the panel takes and gives" (the record), "Order. Header call", and
-// "Blocks" (sync, versions, channels, context); 001, 2.2.2.2. The record is taken and given by value.
+// "Blocks" (sync, versions, channels, context); 001, 2.2.2.2; and what document 02's request Six keeps in the record. It is taken and given by value.
 ghost use mathlib.Core.Path.{_≡_};
 ghost use Prim.Native.Nat.{_+_, _≤_, _<_};
 ghost use lib.ListN.{length};
-ghost use Rattle.session.specs.Header.{sizeGood, made, ready, due, sizeOf, syncJudge, versionsJudge, channelsJudge, propertiesGood, contextJudge, etOf, syncFault, versionsFault, channelsFault, contextFault, fieldFault, headJudge, headerFault, recordAfter, headerNumber, headerRecord, headerReading};
+ghost use Rattle.session.specs.Header.{tilesOver, ofNumbers, stepped, right, sizeGood, counted, made, ready, due, sizeOf, syncJudge, versionsJudge, channelsJudge, propertiesGood, contextJudge, etOf, syncFault, versionsFault, channelsFault, contextFault, fieldFault, headJudge, headerFault, recordAfter, headerNumber, headerRecord, headerReading};
 ghost use Rattle.session.specs.laws.Header.{Good};
 
-// How many headers are in, width, height, mode (et); all 0 when fresh. Laid out as C does, for the edge.
+// How many headers are in, mode (et), width, height; tile columns, tile rows and words of the picture, which follow from the size; the glass, 0. All 0
+// when fresh. Laid out as C does, for the edge: 16 bytes with no hole inside; the three behind the glass are never read.
 #[repr(C)]
 pub struct Session {
     pub headers: u8,
+    pub mode: u8,
     pub width: u16,
     pub height: u16,
-    pub mode: u8,
+    pub columns: u8,
+    pub rows: u8,
+    pub words: u32,
+    pub glass: u8,
 }
 
 // What reading a header came to: the record after it, or 01's number.
@@ -57,8 +62,61 @@ pub fn is_size(w: usize, h: usize) -> bool
     h <= 2048
 }
 
-fn is_made(headers: usize, w: usize, h: usize, mode: usize) -> bool
-    ensures { λ r. ⌜ r ≡ made headers w h mode ⌝ }
+// How many tiles of 64 stand over so many pixels.
+pub fn tiles_over(n: u16) -> usize
+    ensures { λ r. ⌜ (r ≡ tilesOver n) × (r ≤ 1024) ⌝ }
+{
+    (n as usize + 63) / 64
+}
+
+// The record of 01's four numbers, whatever they are; the others are worked out from them.
+pub fn of_numbers(headers: u8, width: u16, height: u16, mode: u8) -> Session
+    ensures { λ r. ⌜ r ≡ ofNumbers headers width height mode ⌝ }
+{
+    Session {
+        headers: headers,
+        mode: mode,
+        width: width,
+        height: height,
+        columns: (tiles_over(width) % 256) as u8,
+        rows: (tiles_over(height) % 256) as u8,
+        words: width as u32 * height as u32,
+        glass: 0,
+    }
+}
+
+// Another count of headers and another mode; the rest is kept.
+fn step(s: Session, headers: u8, mode: u8) -> Session
+    ensures { λ r. ⌜ r ≡ stepped s headers mode ⌝ }
+{
+    Session {
+        headers: headers,
+        mode: mode,
+        width: s.width,
+        height: s.height,
+        columns: s.columns,
+        rows: s.rows,
+        words: s.words,
+        glass: s.glass,
+    }
+}
+
+// Are columns, rows and words those of width and height?
+fn is_right(s: Session) -> bool
+    ensures { λ r. ⌜ r ≡ right s ⌝ }
+{
+    if s.columns as usize != tiles_over(s.width) {
+        return false;
+    }
+    if s.rows as usize != tiles_over(s.height) {
+        return false;
+    }
+    s.words == s.width as u32 * s.height as u32
+}
+
+// Are size and mode those that so many headers have given?
+fn is_counted(headers: usize, w: usize, h: usize, mode: usize) -> bool
+    ensures { λ r. ⌜ r ≡ counted headers w h mode ⌝ }
 {
     if headers < 3 {
         if w != 0 {
@@ -81,6 +139,24 @@ fn is_made(headers: usize, w: usize, h: usize, mode: usize) -> bool
     false
 }
 
+// Could calls have made this record?
+fn is_made(s: Session) -> bool
+    ensures { λ r. ⌜ r ≡ made s ⌝ }
+{
+    if s.glass != 0 {
+        return false;
+    }
+    if is_right(s) {
+        return is_counted(
+            s.headers as usize,
+            s.width as usize,
+            s.height as usize,
+            s.mode as usize,
+        );
+    }
+    false
+}
+
 // Is this a record that calls could have made, with all four headers in?
 pub fn is_ready(s: Session) -> bool
     ensures { λ r. ⌜ r ≡ ready s ⌝ }
@@ -88,12 +164,7 @@ pub fn is_ready(s: Session) -> bool
     if s.headers != 4 {
         return false;
     }
-    is_made(
-        s.headers as usize,
-        s.width as usize,
-        s.height as usize,
-        s.mode as usize,
-    )
+    is_made(s)
 }
 
 fn is_due(s: Session, t: usize) -> bool
@@ -102,12 +173,7 @@ fn is_due(s: Session, t: usize) -> bool
     if t == 0xCCC0 {
         return true;
     }
-    if is_made(
-        s.headers as usize,
-        s.width as usize,
-        s.height as usize,
-        s.mode as usize,
-    ) {
+    if is_made(s) {
         return t == 0xCCC0 + s.headers as usize;
     }
     false
@@ -308,33 +374,24 @@ fn record_after(s: Session, m: &[u8]) -> Session
     if t == 0xCCC0 {
         return Session {
             headers: 1,
+            mode: 0,
             width: 0,
             height: 0,
-            mode: 0,
+            columns: 0,
+            rows: 0,
+            words: 0,
+            glass: 0,
         };
     }
     if t == 0xCCC1 {
-        return Session {
-            headers: 2,
-            width: s.width,
-            height: s.height,
-            mode: s.mode,
-        };
+        return step(s, 2, s.mode);
     }
     if t == 0xCCC2 {
-        return Session {
-            headers: 3,
-            width: wire::le16_at(m, 8) as u16,
-            height: wire::le16_at(m, 10) as u16,
-            mode: 0,
-        };
+        let width = wire::le16_at(m, 8) as u16;
+        let height = wire::le16_at(m, 10) as u16;
+        return of_numbers(3, width, height, 0);
     }
-    Session {
-        headers: 4,
-        width: s.width,
-        height: s.height,
-        mode: et_of(wire::le16_at(m, 11)) as u8,
-    }
+    step(s, 4, et_of(wire::le16_at(m, 11)) as u8)
 }
 
 // The header call: the record after a header without a fault, or the first fault's number.

@@ -21,9 +21,13 @@ fn fresh() -> Desk
     Desk {
         s: Session {
             headers: 0,
+            mode: 0,
             width: 0,
             height: 0,
-            mode: 0,
+            columns: 0,
+            rows: 0,
+            words: 0,
+            glass: 0,
         },
         at: 0,
         width: 0,

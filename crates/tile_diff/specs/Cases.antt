@@ -5,8 +5,8 @@ use Prim.Native.Nat.{ℕ}
 use lib.ListN.{replicate, set}
 use Rattle.whole.specs.Row.{_!_⨾_, _⇒_∣_}
 use Rattle.wire.specs.Le.{le16}
-use Rattle.session.specs.Header.{sizeGood}
-use Rattle.tile_diff.specs.Tiles.{tilesOver, notSame, howMany, differsAt, differs, linesOf, listed}
+use Rattle.session.specs.Header.{tilesOver, sizeGood}
+use Rattle.tile_diff.specs.Tiles.{notSame, howMany, differsAt, differs, linesOf, listed}
 use Rattle.tile_diff.specs.Pic.{picOf, isWhole, sizesJudge, verdictOf}
 use Rattle.tile_diff.specs.declared.count.Line.{Line}
 use Rattle.tile_diff.specs.declared.pic.Verdict.the-variants.{Bad, Size, Tiles}

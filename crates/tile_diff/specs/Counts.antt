@@ -5,7 +5,8 @@ use mathlib.Core.List.{List}
 use lib.ListN.{length, getD, set}
 use lib.Dec.{leb, ltb}
 use Rattle.whole.specs.Row.{_!_⨾_, _⇒_∣_}
-use Rattle.tile_diff.specs.Tiles.{tilesOver, notSame, lineOf}
+use Rattle.session.specs.Header.{tilesOver}
+use Rattle.tile_diff.specs.Tiles.{notSame, lineOf}
 use Rattle.tile_diff.specs.declared.count.Next.{Next}
 use Rattle.tile_diff.specs.declared.count.Next.the-variants.{Tile, End}
 

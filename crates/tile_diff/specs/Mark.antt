@@ -5,7 +5,7 @@ use mathlib.Core.List.{List}
 use lib.ListN.{length, getD, set}
 use lib.Dec.{leb, ltb, eqb}
 use Rattle.whole.specs.Row.{_!_⨾_, _⇒_∣_}
-use Rattle.tile_diff.specs.Tiles.{tilesOver}
+use Rattle.session.specs.Header.{tilesOver}
 
 -- half of each of the three parts of a 5-6-5 word
 unfoldable pub dimmed : ℕ → ℕ

@@ -7,7 +7,8 @@ use mathlib.Core.List.{List, [], _∷_, List·Memᴰ}
 use lib.ListN.{take, drop, replicate}
 use lib.Dec.{ltb, eqb}
 use Rattle.whole.specs.Row.{_!_⨾_, _⇒_∣_}
-use Rattle.tile_diff.specs.Tiles.{wordsOf, tilesOver, differs, listed}
+use Rattle.session.specs.Header.{tilesOver}
+use Rattle.tile_diff.specs.Tiles.{wordsOf, differs, listed}
 use Rattle.tile_diff.specs.Pic.{picOf, verdictOf}
 use Rattle.tile_diff.specs.Counts.{rowCounted, nextTile}
 use Rattle.tile_diff.specs.declared.count.Line.{Line}

@@ -6,6 +6,7 @@ use mathlib.Core.List.{List, [], _∷_}
 use lib.ListN.{getD}
 use lib.Dec.{ltb, eqb}
 use Rattle.whole.specs.Row.{_!_⨾_, _⇒_∣_}
+use Rattle.session.specs.Header.{tilesOver}
 use Rattle.tile_diff.specs.declared.count.Line.{Line}
 
 -- a file's words: "then words, little-endian"
@@ -13,10 +14,6 @@ unfoldable pub wordsOf : List ℕ → List ℕ
 wordsOf [] = []
 wordsOf (a ∷ []) = []
 wordsOf (a ∷ b ∷ m) = (a + 256 * b) ∷ wordsOf m
-
--- how many tiles of 64 stand over n pixels; the last may be cut
-unfoldable pub tilesOver : ℕ → ℕ
-tilesOver n = (n + 63) / 64
 
 -- two words, compared
 unfoldable pub notSame : ℕ → ℕ → Bool

@@ -3,7 +3,7 @@ ghost use mathlib.Core.Path.{_≡_};
 ghost use Prim.Native.Nat.{_+_, _*_, _≤_};
 ghost use lib.ListN.{length, getD};
 ghost use Rattle.wire.specs.Le.{le16};
-ghost use Rattle.tile_diff.specs.Tiles.{tilesOver, wordsOf, notSame, lineOf};
+ghost use Rattle.tile_diff.specs.Tiles.{wordsOf, notSame, lineOf};
 ghost use Rattle.tile_diff.specs.Counts.{oneMore, countedIf, rowCounted, nextTile};
 
 // A line that is printed: a tile's column and row from 0, and the count of its differing words.
@@ -17,13 +17,6 @@ pub struct Line {
 pub enum Next {
     Tile(usize, Line),
     End,
-}
-
-// How many tiles stand over so many pixels.
-pub fn tiles_over(n: u16) -> usize
-    ensures { λ r. ⌜ (r ≡ tilesOver n) × (r ≤ 1024) ⌝ }
-{
-    (n as usize + 63) / 64
 }
 
 // One more at a place, if it is there; no count goes past the largest.
@@ -58,7 +51,7 @@ pub fn count_row(a: &[u8], b: &[u8], width: u16, y: u16, counts: &mut [u32])
     if b.len() / 2 < w {
         return;
     }
-    let first = y as usize / 64 * tiles_over(width);
+    let first = y as usize / 64 * session::tiles_over(width);
     let mut x: usize = 0;
     while x < w {
         count_word(a, b, x, first + x / 64, counts);
@@ -92,8 +85,8 @@ fn line_of(columns: usize, k: usize, n: u32) -> Line
 pub fn next_tile(counts: &[u32], width: u16, height: u16, from: usize) -> Next
     ensures { λ r. ⌜ r ≡ nextTile (now (counts .entry)) width height from ⌝ }
 {
-    let columns = tiles_over(width);
-    let all = columns * tiles_over(height);
+    let columns = session::tiles_over(width);
+    let all = columns * session::tiles_over(height);
     let mut k = from;
     while k < all {
         let n = count_at(counts, k);

@@ -32,7 +32,7 @@ fn shown(row: &[u8], width: u16, height: u16, x: u16, y: u16, counts: &[u32]) ->
     ensures { λ r. ⌜ r ≡ shownAt (le16 (now (row .entry)) (2 * x)) width height x y (now (counts .entry)) ⌝ }
 {
     let word = wire::le16_at(row, 2 * (x as usize)) as u16;
-    let k = y as usize / 64 * crate::count::tiles_over(width) + x as usize / 64;
+    let k = y as usize / 64 * session::tiles_over(width) + x as usize / 64;
     if crate::count::count_at(counts, k) == 0 {
         return dim(word);
     }

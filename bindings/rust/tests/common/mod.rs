@@ -119,6 +119,18 @@ impl<R> LentRecord<R> {
     }
 }
 
+/// The record with a byte of one of its numbers put off by so much, as a stray write leaves it.
+pub fn bent(session: Session, at: usize, by: u8) -> Session {
+    assert!(at < 13, "no number stands there");
+    let mut s = session;
+    // SAFETY: the byte is one of a number's, so it is there, and any value of it is a number.
+    unsafe {
+        let byte = std::ptr::addr_of_mut!(s).cast::<u8>().add(at);
+        *byte = (*byte).wrapping_add(by);
+    }
+    s
+}
+
 fn untouched(list: &[i32]) -> bool {
     list.iter().all(|&v| v == 7)
 }

@@ -5,7 +5,8 @@ use mathlib.Core.List.{List}
 use native.Mathlib.Omega.{arith}
 use native.Mathlib.Nat.{mul-le-mul}
 use lib.ListN.{length, getD}
-use Rattle.tile_diff.specs.Tiles.{tilesOver, linesOf}
+use Rattle.session.specs.Header.{tilesOver}
+use Rattle.tile_diff.specs.Tiles.{linesOf}
 use Rattle.tile_diff.specs.Counts.{nextTile}
 use Rattle.tile_diff.specs.laws.Listed.{end-lines, found-lines, found-below, found-from}
 use Rattle.tile_diff.specs.declared.count.Line.{Line}

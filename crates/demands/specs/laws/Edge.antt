@@ -18,49 +18,27 @@ use Rattle.frame.specs.Frame.{frameReadingNumber, frameReadingTiles}
 use Rattle.frame.specs.laws.Glass.{one-frame}
 use Rattle.frame_write.specs.Encode.{frameP}
 use Rattle.frame_write.specs.FrameWrite.{argFault, sendFault}
-use Rattle.panel.specs.Edge.{ReadHeaderCall, frameAnswer, ReadFrameCall, ReadComponentCall, WriterCall, WriteComponentCall, WriteHeadersCall, WriteFrameCall}
-use Rattle.demands.specs.Calls.{ReadHeader, sessionAfter, ReadFrame, ReadComponent, WriteComponent, WriteHeaders, WriteFrame}
+use Rattle.panel.specs.Edge.{ReadFrameCall, WriterCall, WriteComponentCall, WriteFrameCall}
+use Rattle.demands.specs.Calls.{ReadHeader, sessionAfter, ReadComponent, WriteComponent, WriteHeaders, WriteFrame}
+use Rattle.demands.specs.Calls.{CReadHeader, CReadFrame, as-frame, CReadComponent, CWriteHeaders, CWriteFrame}
 use Rattle.demands.specs.Demands.{OneAnswerC}
 
--- ---- each is a call of specs/Calls, so the demands hold of it; the number and the value that it hands out are that call's
+-- ---- each is a call of specs/Calls, so the demands hold of it; the number and the value that it hands out are that call's (for the frame call: `as-frame`)
 
-abbrev pub as-header : Session → List ℕ → ReadHeader
-as-header s m = record { session = s; message = m; answer = headerReading s m; promise = refl }
+abbrev pub as-header : CReadHeader → ReadHeader
+as-header c = record { session = c .session; message = c .message; answer = headerReading (c .session) (c .message); promise = refl }
 
-pub header-is :
-    (s s′ : Session) (m : List ℕ) (n : ℕ) → ReadHeaderCall s s′ m n →
-    (n ≡ headerNumber (as-header s m .answer)) × (s′ ≡ sessionAfter (as-header s m))
-header-is s s′ m n x = (x .number, x .session)
+pub header-is : (c : CReadHeader) → (c .number ≡ headerNumber (as-header c .answer)) × (c .session′ ≡ sessionAfter (as-header c))
+header-is c = (c .promise .number, c .promise .session)
 
-module _ (s s′ : Session) (m pic : List ℕ) (y cb cr tmp : List ℤ) (pic′ : List ℕ) (y′ cb′ cr′ tmp′ : List ℤ) (tiles n : ℕ)
-    (x : ReadFrameCall s s′ m pic y cb cr tmp pic′ y′ cb′ cr′ tmp′ tiles n) where
-  abbrev pub as-frame : ReadFrame
-  as-frame = record {
-    session = s;
-    message = m;
-    picture = pic;
-    y = y;
-    cb = cb;
-    cr = cr;
-    scratch = tmp;
-    picture′ = pic′;
-    y′ = y′;
-    cb′ = cb′;
-    cr′ = cr′;
-    scratch′ = tmp′;
-    answer = frameAnswer s m pic y cb cr tmp;
-    promise = x .lists;
-  }
+pub frame-is : (c : CReadFrame) → (c .number ≡ frameReadingNumber (as-frame c .answer)) × (c .tiles ≡ frameReadingTiles (as-frame c .answer))
+frame-is c = (c .promise .number, c .promise .count)
 
-  pub frame-is : (n ≡ frameReadingNumber (as-frame .answer)) × (tiles ≡ frameReadingTiles (as-frame .answer))
-  frame-is = (x .number, x .count)
+abbrev pub as-read : CReadComponent → ReadComponent
+as-read c = record { mode = c .mode; bytes = c .bytes; list = c .list; list′ = c .list′; answer = reading (c .mode) (length (c .list)) (c .bytes); promise = c .promise .list }
 
-module _ (mode : ℕ) (s : List ℕ) (before after : List ℤ) (bits n : ℕ) (x : ReadComponentCall mode s before after bits n) where
-  abbrev pub as-read : ReadComponent
-  as-read = record { mode = mode; bytes = s; list = before; list′ = after; answer = reading mode (length before) s; promise = x .list }
-
-  pub read-is : (n ≡ readingNumber (as-read .answer)) × (bits ≡ readingBits (as-read .answer))
-  read-is = (x .number, x .long)
+pub read-is : (c : CReadComponent) → (c .number ≡ readingNumber (as-read c .answer)) × (c .bits ≡ readingBits (as-read c .answer))
+read-is c = (c .promise .number, c .promise .long)
 
 module _ (f : ℕ) (bytes out out′ : List ℕ) (size n : ℕ) (x : WriterCall f bytes out out′ size n) where
   pub as-wrote : Wrote f bytes out out′ (answerOf f bytes)
@@ -79,39 +57,45 @@ as-write mode zs out out′ size n x = record {
   promise = as-wrote _ _ out out′ size n x;
 }
 
-abbrev pub as-headers : (w h mode : ℕ) (out out′ : List ℕ) (size n : ℕ) → WriteHeadersCall w h mode out out′ size n → WriteHeaders
-as-headers w h mode out out′ size n x = record {
-  width = w;
-  height = h;
-  mode = mode;
-  out = out;
-  out′ = out′;
-  answer = answerOf (headersFault w h mode (length out)) (headersOf w h mode);
-  promise = as-wrote _ _ out out′ size n x;
+abbrev pub as-headers : CWriteHeaders → WriteHeaders
+as-headers c = record {
+  width = c .width;
+  height = c .height;
+  mode = c .mode;
+  out = c .out;
+  out′ = c .out′;
+  answer = answerOf (headersFault (c .width) (c .height) (c .mode) (length (c .out))) (headersOf (c .width) (c .height) (c .mode));
+  promise = as-wrote _ _ (c .out) (c .out′) (c .size) (c .number) (c .promise);
 }
 
-module _ (w h mode : ℕ) (q : List ℕ) (index : ℕ) (p : List ℕ) (list list′ scratch scratch′ : List ℤ) (out out′ : List ℕ) (size n : ℕ)
-    (x : WriteFrameCall w h mode q index p list list′ scratch scratch′ out out′ size n) where
-  abbrev fault : ℕ
-  fault = argFault w h mode q (length p) (length list) (length scratch) ⨟ sendFault index w h mode q p (length out)
+pub headers-is : (c : CWriteHeaders) → (c .number ≡ writingNumber (as-headers c .answer)) × (c .size ≡ writingLength (as-headers c .answer))
+headers-is c = wrote-is _ _ (c .out) (c .out′) (c .size) (c .number) (c .promise)
 
-  abbrev pub as-send : WriteFrame
-  as-send = record {
-    width = w;
-    height = h;
-    mode = mode;
-    quant = q;
-    index = index;
-    pixels = p;
-    list = list;
-    scratch = scratch;
-    out = out;
-    list′ = list′;
-    scratch′ = scratch′;
-    out′ = out′;
-    answer = answerOf fault (frameP index w h mode q p);
-    promise = record { wrote = as-wrote _ _ out out′ size n (x .wrote); first = x .first; second = x .second };
-  }
+abbrev sendNumber : CWriteFrame → ℕ
+sendNumber c =
+    argFault (c .width) (c .height) (c .mode) (c .quant) (length (c .pixels)) (length (c .list)) (length (c .scratch))
+    ⨟ sendFault (c .index) (c .width) (c .height) (c .mode) (c .quant) (c .pixels) (length (c .out))
+
+abbrev pub as-send : CWriteFrame → WriteFrame
+as-send c = record {
+  width = c .width;
+  height = c .height;
+  mode = c .mode;
+  quant = c .quant;
+  index = c .index;
+  pixels = c .pixels;
+  list = c .list;
+  scratch = c .scratch;
+  out = c .out;
+  list′ = c .list′;
+  scratch′ = c .scratch′;
+  out′ = c .out′;
+  answer = answerOf (sendNumber c) (frameP (c .index) (c .width) (c .height) (c .mode) (c .quant) (c .pixels));
+  promise = record { wrote = as-wrote _ _ (c .out) (c .out′) (c .size) (c .number) (c .promise .wrote); first = c .promise .first; second = c .promise .second };
+}
+
+pub send-is : (c : CWriteFrame) → (c .number ≡ writingNumber (as-send c .answer)) × (c .size ≡ writingLength (as-send c .answer))
+send-is c = wrote-is _ _ (c .out) (c .out′) (c .size) (c .number) (c .promise .wrote)
 
 -- ---- one answer
 

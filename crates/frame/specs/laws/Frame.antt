@@ -1,10 +1,9 @@
 -- Laws of the frame call: what a passed check gives, how the message's first fault is put together, and the three ways out.
-use Prim.Native.Nat.{ℕ, zero, suc, _+_, _*_, _≤_, _<_}
+use Prim.Native.Nat.{ℕ, zero, suc, _+_, _*_, _≤_}
 use mathlib.Core.Path.{_≡_, refl, sym, ap, subst, _∙_}
 use mathlib.Core.Bool.{true, false, true≢false}
 use mathlib.Core.List.{List}
 use native.Mathlib.Omega.{arith}
-use native.Mathlib.Nat.{mul-le-mul-right}
 use lib.IntN.{ℤ}
 use lib.ListN.{length}
 use lib.Dec.{eqb, leb}
@@ -49,6 +48,11 @@ call-good s p y cb cr tmp e =
     let b = held (full (length y) (length cb) (length cr) (length tmp)) 2 _ 0 (not-0 1) (a .1) in
     let c = held (leb (s .height * s .width) p) 2 _ 0 (not-0 1) (b .1) in
     record { is-ready = a .0; lists = full-is y cb cr tmp (b .0); room = leb-true (s .height * s .width) p (c .0) }
+
+-- a record that is not ready is 12, whatever is lent
+pub call-unready : (s : Session) (p a b c t : ℕ) → ready s ≡ false → 12 ≡ callFault s p a b c t
+unfolding callFault
+call-unready s p a b c t e = fails _ _ _ _ e refl
 
 -- ---- the message
 
@@ -165,10 +169,6 @@ module _ (s : Session) (m pic : List ℕ) (y cb cr tmp : List ℤ) (f : ℕ) (e 
       cr-list = passes _ _ _ _ passed (c .cr-is);
       tmp-list = passes _ _ _ _ passed (c .tmp-is);
     }
-
--- width x height is no more than a word can say
-pub area-fits : (h w : ℕ) → h < 65536 → w < 65536 → h * w < 18446744073709551616
-area-fits h w a b = let l : h * w ≤ 65536 * w = mul-le-mul-right w (omega arith) in omega arith
 
 -- the check pass by its calls: the tiles' fault or the end's, behind a front without a fault
 module _ (w h et : ℕ) (m : List ℕ) (f : ℕ) (ef : f ≡ frontFault et m) where

@@ -1,20 +1,30 @@
 -- What a passed tile gives, its parts, and a walk over tiles one step on; all for any judge of codes.
 use Prim.Native.Nat.{ℕ, zero, suc, _+_, _*_, _-_, _≤_, _<_}
 use mathlib.Core.Path.{_≡_, refl, sym, _∙_, subst}
+use mathlib.Core.Bool.{true, false}
 use mathlib.Core.List.{List}
 use native.Mathlib.Omega.{arith}
 use lib.ListN.{length, getD, take, drop}
-use lib.Dec.{eqb}
-use borrow.Author.Tests.{eqb-true, ltb-true}
+use lib.Dec.{ltb, eqb}
+use borrow.Author.Tests.{eqb-true, ltb-true, lt-ltb, le-ltb}
 use Rattle.wire.specs.Le.{le16}
 use Rattle.whole.specs.Row.{_!_⨾_, _⇒_∣_, _⨟_}
 use Rattle.whole.specs.laws.Row.{held, both, stops, goes-on}
+use Rattle.session.specs.Header.{tilesOver}
+use Rattle.session.specs.laws.Header.{starts-in, starts-out}
 use Rattle.frame_layout.specs.Reader.{leastHead, bodyJudge, sizeAt, tileAt, codesFault, tileFault, tilesFault}
 use Rattle.frame_blocks.specs.laws.Blocks.{least-good, then-assoc}
 use Rattle.frame_blocks.specs.Tiles.{tileFields, tileFront, codeOf, indexOf, partStart, TileWhole, TileGood, TileSound}
 
 not-0 : (k : ℕ) → 0 ≡ suc k → ⊥
 not-0 k e = omega arith
+
+-- a place held against the tiles over a width, or over a height
+pub place-in : (n k x : ℕ) → k ≡ tilesOver n → x < k → ltb (64 * x) n ≡ true
+place-in n k x e l = lt-ltb (64 * x) n (starts-in n x (omega (arith, e, l)))
+
+pub place-out : (n k x : ℕ) → k ≡ tilesOver n → k ≤ x → ltb (64 * x) n ≡ false
+place-out n k x e l = le-ltb (64 * x) n (starts-out n x (omega (arith, e, l)))
 
 pub tile-good : (w h q : ℕ) (d : List ℕ) (at : ℕ) → at ≤ length d → 0 ≡ tileFront w h q d at → TileGood q d at
 unfolding tileFront tileFields bodyJudge tileAt

@@ -18,7 +18,7 @@ use Rattle.wire.specs.Wrote.{writingNumber, writingLength}
 use Rattle.wire.specs.laws.Wrote.{wrote-bytes}
 use Rattle.wire.specs.declared.Writing.{Writing}
 use Rattle.whole.specs.Row.{_⇒_∣_}
-use Rattle.whole.specs.laws.Row.{passes, fails, both, held, goes-on, case-is, case-no}
+use Rattle.whole.specs.laws.Row.{passes, fails, both, held, goes-on, case-is}
 use Rattle.frame_layout.specs.Bytes.{Tile, quantBytes, tilesOf, frameOf, endOf}
 use Rattle.frame_layout.specs.Reader.{sizeAt, setPlace, rectCount, quantAt, frameTiles}
 use Rattle.frame_layout.specs.laws.Tiles.{listed}
@@ -26,7 +26,8 @@ use Rattle.frame_layout.specs.laws.ReadBack.{front, sent-small, Taken}
 use Rattle.frame_blocks.specs.Blocks.{rectsOf}
 use Rattle.bands.specs.Bands.{quantOf, summed, scaledBy}
 use Rattle.session.specs.declared.Session.{Session}
-use Rattle.session.specs.Header.{at, sizeGood, made, ready}
+use Rattle.session.specs.Header.{at, sizeGood}
+use Rattle.session.specs.laws.Header.{ready-at}
 use Rattle.headers.specs.Headers.{HeadersWritten}
 use Rattle.headers.specs.laws.ReadBack.{AllTaken, our-headers}
 use Rattle.code_write.specs.Write.{bytesOf}
@@ -164,14 +165,10 @@ module _ (p : List ℕ) (w h mode : ℕ) (q : List ℕ) (index : ℕ) (s : Senda
   module _ (good : sizeGood w h ≡ true) (pic : List ℕ) (y cb cr tmp : List ℤ) (pic′ : List ℕ) (y′ cb′ cr′ tmp′ : List ℤ) (r : FrameReading)
       (ly : length y ≡ 4096) (lb : length cb ≡ 4096) (lr : length cr ≡ 4096) (lt : length tmp ≡ 4096) (room : h * w ≤ length pic)
       (done : FrameRead (at 4 w h mode) m pic y cb cr tmp pic′ y′ cb′ cr′ tmp′ r) where
-    ready-is : true ≡ ready (at 4 w h mode)
-    unfolding ready made
-    ready-is = passes _ _ _ _ refl (case-no _ _ _ _ refl (passes _ _ _ _ good (case-no _ _ _ _ refl (passes _ _ _ _ refl (sym (s .allowed))))))
-
     call-fine : 0 ≡ early (at 4 w h mode) pic y cb cr tmp
     unfolding callFault full
     call-fine =
-        passes _ _ _ _ (sym ready-is) (passes _ _ _ _
+        passes _ _ _ _ (ready-at w h mode good (s .allowed)) (passes _ _ _ _
         (sym (passes _ _ _ _ (eq-eqb (length y) 4096 ly) (passes _ _ _ _ (eq-eqb (length cb) 4096 lb) (passes _ _ _ _ (eq-eqb (length cr) 4096 lr) (sym (eq-eqb (length tmp) 4096 lt))))))
         (passes _ _ _ _ (le-leb (h * w) (length pic) room) refl))
 

@@ -15,8 +15,8 @@ use Rattle.wire.specs.declared.Writing.{Writing}
 use Rattle.whole.specs.Row.{_!_⨾_, _⇒_∣_, _⨟_}
 use Rattle.session.specs.declared.Session.{Session}
 use Rattle.session.specs.declared.HeaderReading.the-variants.{Taken}
-use Rattle.session.specs.Header.{at, sizeGood, made, due, sizeOf, syncJudge, versionsJudge, channelsJudge, propertiesGood, contextJudge, etOf, syncFault, versionsFault, channelsFault, contextFault, fieldFault, headJudge, headerFault, recordAfter, headerReading}
-use Rattle.session.specs.laws.Header.{allowed}
+use Rattle.session.specs.Header.{at, sizeGood, due, sizeOf, syncJudge, versionsJudge, channelsJudge, propertiesGood, contextJudge, etOf, syncFault, versionsFault, channelsFault, contextFault, fieldFault, headJudge, headerFault, recordAfter, headerReading}
+use Rattle.session.specs.laws.Header.{allowed, made-1, made-2, made-3}
 use Rattle.headers.specs.Headers.{syncOf, versionsOf, channelsOf, propertiesOf, contextOf, headersOf, HeadersWritten}
 use Rattle.headers.specs.laws.Headers.{writable}
 
@@ -43,13 +43,13 @@ unfolding syncOf bytes16 bytes32 le16 le32 _!_⨾_ _⇒_∣_ _⨟_ due sizeOf sy
 sync-taken s = refl
 
 versions-taken : headerReading (at 1 0 0 0) versionsOf ≡ Taken (at 2 0 0 0)
-unfolding versionsOf bytes16 bytes32 le16 le32 _!_⨾_ _⇒_∣_ _⨟_ made due sizeOf versionsJudge versionsFault fieldFault headJudge headerFault recordAfter headerReading
-versions-taken = refl
+unfolding versionsOf bytes16 bytes32 le16 le32 _!_⨾_ _⇒_∣_ _⨟_ due sizeOf versionsJudge versionsFault fieldFault headJudge headerFault recordAfter headerReading
+versions-taken = rw made-1
 
 channels-by : (m : List ℕ) (w h : ℕ) → length m ≡ 12 → le16 m 0 ≡ 0xCCC2 → le32 m 2 ≡ 12 → getD m 6 0 ≡ 1 → getD m 7 0 ≡ 0 → le16 m 8 ≡ w → le16 m 10 ≡ h →
     sizeGood w h ≡ true → headerReading (at 2 0 0 0) m ≡ Taken (at 3 w h 0)
-unfolding _!_⨾_ _⇒_∣_ _⨟_ made due sizeOf channelsJudge channelsFault fieldFault headJudge headerFault recordAfter headerReading
-channels-by m w h l t n a b x y g = rw (l, t, n, a, b, x, y, g)
+unfolding _!_⨾_ _⇒_∣_ _⨟_ due sizeOf channelsJudge channelsFault fieldFault headJudge headerFault recordAfter headerReading
+channels-by m w h l t n a b x y g = rw (l, t, n, a, b, x, y, g, made-2)
 
 two-bytes : (v : ℕ) → v < 65536 → v % 256 + 256 * (v / 256 % 256) ≡ v
 two-bytes v h = omega arith
@@ -59,12 +59,12 @@ unfolding channelsOf bytes16 bytes32 le16 le32
 channels-taken w h p q g = channels-by (channelsOf w h) w h refl refl refl refl refl (two-bytes w p) (two-bytes h q) g
 
 context-1 : (w h : ℕ) → sizeGood w h ≡ true → headerReading (at 3 w h 0) (contextOf 1) ≡ Taken (at 4 w h 1)
-unfolding contextOf propertiesOf bytes16 bytes32 le16 le32 _!_⨾_ _⇒_∣_ _⨟_ isMode made due sizeOf propertiesGood contextJudge etOf contextFault fieldFault headJudge headerFault recordAfter headerReading
-context-1 w h g = rw g
+unfolding contextOf propertiesOf bytes16 bytes32 le16 le32 _!_⨾_ _⇒_∣_ _⨟_ isMode due sizeOf propertiesGood contextJudge etOf contextFault fieldFault headJudge headerFault recordAfter headerReading
+context-1 w h g = rw (made-3 w h g)
 
 context-4 : (w h : ℕ) → sizeGood w h ≡ true → headerReading (at 3 w h 0) (contextOf 4) ≡ Taken (at 4 w h 4)
-unfolding contextOf propertiesOf bytes16 bytes32 le16 le32 _!_⨾_ _⇒_∣_ _⨟_ isMode made due sizeOf propertiesGood contextJudge etOf contextFault fieldFault headJudge headerFault recordAfter headerReading
-context-4 w h g = rw g
+unfolding contextOf propertiesOf bytes16 bytes32 le16 le32 _!_⨾_ _⇒_∣_ _⨟_ isMode due sizeOf propertiesGood contextJudge etOf contextFault fieldFault headJudge headerFault recordAfter headerReading
+context-4 w h g = rw (made-3 w h g)
 
 -- the four calls on 47 bytes, one after the other: each is taken, and leaves the record that the next one starts from
 pub record AllTaken (s : Session) (w h et : ℕ) (m : List ℕ) : Type 0 where

@@ -1,27 +1,13 @@
+-- `is_due` meets its contract: each return is read off the rows of `due`.
 use Rattle.whole.specs.laws.Row.{rows}
 use Rattle.session.specs.Header.{due}
 use borrow.Author.Needs.{needs}
 use Rattle.session.proofs.is_due.Statement.{statement}
 use Rattle.session.proofs.is_due.Tie as tie
-use Rattle.session.proofs.is_due.Reads as reads
-use Rattle.session.proofs.is_due.Lts as lts
-use Rattle.session.proofs.is_made.Reads as is-made-reads
 
 returns : tie.Need-returns
 unfolding due
 returns c = search rows
-
-cast-is-made : tie.Need-cast-is-made
-cast-is-made c = search needs
-
-cast-is-made-2 : tie.Need-cast-is-made-2
-cast-is-made-2 c = search needs
-
-cast-is-made-3 : tie.Need-cast-is-made-3
-cast-is-made-3 c = search needs
-
-cast-is-made-4 : tie.Need-cast-is-made-4
-cast-is-made-4 c = search needs
 
 is-made-requires : tie.Need-is-made-requires
 is-made-requires c κs = search needs
@@ -42,15 +28,4 @@ returns-3 c = search rows
 
 pub is-due-spec : {M : Type 1} → statement M
 is-due-spec =
-    tie.close
-    (tie.spec
-    returns
-    cast-is-made
-    cast-is-made-2
-    cast-is-made-3
-    cast-is-made-4
-    is-made-requires
-    cast-result
-    add-result
-    returns-2
-    returns-3)
+    tie.close (tie.spec returns is-made-requires cast-result add-result returns-2 returns-3)

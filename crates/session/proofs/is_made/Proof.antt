@@ -1,4 +1,4 @@
--- `is_made` meets its contract: each return is read off the rows of `made`.
+-- `is_made` meets its contract: each return is read off the row of `made`.
 use Rattle.whole.specs.laws.Row.{rows}
 use Rattle.session.specs.Header.{made}
 use borrow.Author.Needs.{needs}
@@ -7,48 +7,44 @@ use Rattle.session.proofs.is_made.Tie as tie
 
 returns : tie.Need-returns
 unfolding made
-returns c = search rows depth 14 fits 20000
+returns c = search rows
+
+is-right-requires : tie.Need-is-right-requires
+is-right-requires c κs = search needs
+
+cast-is-counted : tie.Need-cast-is-counted
+cast-is-counted c = search needs
+
+cast-is-counted-2 : tie.Need-cast-is-counted-2
+cast-is-counted-2 c = search needs
+
+cast-is-counted-3 : tie.Need-cast-is-counted-3
+cast-is-counted-3 c = search needs
+
+cast-is-counted-4 : tie.Need-cast-is-counted-4
+cast-is-counted-4 c = search needs
+
+is-counted-requires : tie.Need-is-counted-requires
+is-counted-requires c κs = search needs
 
 returns-2 : tie.Need-returns-2
 unfolding made
-returns-2 c = search rows depth 14 fits 20000
+returns-2 c = search rows
 
 returns-3 : tie.Need-returns-3
 unfolding made
-returns-3 c = search rows depth 14 fits 20000
-
-is-size-requires : tie.Need-is-size-requires
-is-size-requires c κs = search needs
-
-returns-4 : tie.Need-returns-4
-unfolding made
-returns-4 c = search rows depth 14 fits 20000
-
-returns-5 : tie.Need-returns-5
-unfolding made
-returns-5 c = search rows depth 14 fits 20000
-
-is-mode-requires : tie.Need-is-mode-requires
-is-mode-requires c κs = search needs
-
-returns-6 : tie.Need-returns-6
-unfolding made
-returns-6 c = search rows depth 14 fits 20000
-
-returns-7 : tie.Need-returns-7
-unfolding made
-returns-7 c = search rows depth 14 fits 20000
+returns-3 c = search rows
 
 pub is-made-spec : {M : Type 1} → statement M
 is-made-spec =
     tie.close
     (tie.spec
     returns
+    is-right-requires
+    cast-is-counted
+    cast-is-counted-2
+    cast-is-counted-3
+    cast-is-counted-4
+    is-counted-requires
     returns-2
-    returns-3
-    is-size-requires
-    returns-4
-    returns-5
-    is-mode-requires
-    returns-6
-    returns-7)
+    returns-3)

@@ -13,7 +13,8 @@ use borrow.Author.Tests.{lt-ltb, le-ltb}
 use Rattle.wire.specs.Le.{le16}
 use Rattle.whole.specs.Row.{_!_⨾_, _⇒_∣_}
 use Rattle.whole.specs.laws.Row.{passes, fails, case-yes, case-no, ne-is, eq-is}
-use Rattle.tile_diff.specs.Tiles.{wordsOf, tilesOver, notSame, lineOf}
+use Rattle.session.specs.Header.{tilesOver}
+use Rattle.tile_diff.specs.Tiles.{wordsOf, notSame, lineOf}
 use Rattle.tile_diff.specs.Counts.{oneMore, countedIf, columnsCounted, nextOf, nextTile}
 use Rattle.tile_diff.specs.laws.Words.{word-at}
 use Rattle.tile_diff.specs.declared.count.Line.{Line}

@@ -11,7 +11,8 @@ use lib.ListN.{getD}
 use lib.Dec.{eqb, ltb}
 use borrow.Author.Tests.{ltb-true, eqb-true, eqb-false, eq-eqb}
 use Rattle.whole.specs.Row.{_!_⨾_, _⇒_∣_}
-use Rattle.tile_diff.specs.Tiles.{tilesOver, lineOf, linesOf}
+use Rattle.session.specs.Header.{tilesOver}
+use Rattle.tile_diff.specs.Tiles.{lineOf, linesOf}
 use Rattle.tile_diff.specs.Counts.{nextOf, nextTile}
 use Rattle.tile_diff.specs.Request.{Asked, none, more, isOf, timesIn, RowByRow, end, next}
 use Rattle.tile_diff.specs.declared.count.Line.{Line}

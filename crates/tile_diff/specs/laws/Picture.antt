@@ -13,7 +13,8 @@ use lib.Dec.{eqb, ltb}
 use borrow.Author.Tests.{eqb-true, eqb-false, eq-eqb, ne-eqb, le-leb}
 use Rattle.whole.specs.Row.{_!_⨾_, _⇒_∣_}
 use Rattle.whole.specs.laws.Row.{passes}
-use Rattle.tile_diff.specs.Tiles.{tilesOver, notSame, howMany, differsAt, differs}
+use Rattle.session.specs.Header.{tilesOver}
+use Rattle.tile_diff.specs.Tiles.{notSame, howMany, differsAt, differs}
 use Rattle.tile_diff.specs.Counts.{oneMore, countedIf, columnsCounted, rowCounted}
 use Rattle.tile_diff.specs.laws.Count.{more-in, counted-length}
 

@@ -10,10 +10,10 @@ use lib.ListN.{length, getD, take, drop, length-drop, length-replicate, getD-rep
 use lib.Dec.{eqb, leb, ltb}
 use borrow.Author.Tests.{eqb-true, leb-true}
 use Rattle.wire.specs.Le.{le16}
-use Rattle.session.specs.Header.{sizeGood}
+use Rattle.session.specs.Header.{tilesOver, sizeGood}
 use Rattle.whole.specs.Row.{_!_⨾_, _⇒_∣_}
 use Rattle.whole.specs.laws.Row.{held}
-use Rattle.tile_diff.specs.Tiles.{wordsOf, tilesOver, howMany, differsAt, differs, linesOf, listed}
+use Rattle.tile_diff.specs.Tiles.{wordsOf, howMany, differsAt, differs, linesOf, listed}
 use Rattle.tile_diff.specs.Pic.{picOf, isWhole, sizesJudge, verdictOf}
 use Rattle.tile_diff.specs.Request.{pictureOf, rowOf, rowsCounted, noCounts, Asked, timesIn, Right, RequestSeven}
 use Rattle.tile_diff.specs.laws.Words.{words-length}

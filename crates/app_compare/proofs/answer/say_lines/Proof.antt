@@ -3,7 +3,7 @@ use Prim.Native.Nat.{_*_, _-_}
 use mathlib.Core.Path.{sym, _∙_}
 use native.Mathlib.Omega.{arith}
 use borrow.Author.Needs.{needs}
-use Rattle.tile_diff.specs.Tiles.{tilesOver}
+use Rattle.session.specs.Header.{tilesOver}
 use Rattle.app_compare.specs.laws.Saying.{Saying, saying-none, saying-more, saying-all}
 use Rattle.app_compare.proofs.answer.say_lines.Statement.{statement}
 use Rattle.app_compare.proofs.answer.say_lines.Tie as tie

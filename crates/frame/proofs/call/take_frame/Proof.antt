@@ -1,6 +1,7 @@
 -- `take_frame` meets its contract: one law of specs/laws/Frame for each of the three ways out; the lists keep their lengths from call to call.
 use mathlib.Core.Path.{refl, sym, _∙_}
 use denote.Ref.{now}
+use Rattle.session.specs.laws.Header.{ready-good}
 use Rattle.frame_draw.specs.laws.Show.{lists-kept}
 use Rattle.frame.specs.laws.Frame.{call-good, frame-early, frame-refused, frame-done}
 use borrow.Author.Needs.{needs}
@@ -27,7 +28,7 @@ message-fault-requires c κs =
     let a = c .before .before .before .before .before .before .before .args in
     let g = call-good (a .s) _ (now (a .ys)) (now (a .cbs)) (now (a .crs)) (now (a .tmp))
     (sym (c .before .if1 .left) ∙ c .before .before .call-judge .ensures) in
-    g .lists .tmp-len
+    (ready-good (a .s) (g .is-ready) .right, g .lists .tmp-len)
 
 clear-all-requires : tie.Need-clear-all-requires
 clear-all-requires c κs =
@@ -36,7 +37,7 @@ clear-all-requires c κs =
     let r = q .before in
     let a = r .before .before .before .before .before .args in
     let g = call-good (a .s) _ (now (a .ys)) (now (a .cbs)) (now (a .crs)) (now (a .tmp)) (sym (q .if1 .left) ∙ r .call-judge .ensures) in
-    lists-kept _ _ _ _ _ _ _ _ (g .lists) refl refl refl (p .message-fault .kept .1 .1 .1 .1 .0)
+    lists-kept _ _ _ _ _ _ _ _ (g .lists) refl refl refl (p .message-fault .kept .1 .1 .0)
 
 same-length : tie.Need-same-length
 same-length c = search needs
@@ -69,7 +70,7 @@ draw-frame-requires c κs =
     let t = r .before in
     let a = t .before .before .before .before .before .args in
     let g = call-good (a .s) _ (now (a .ys)) (now (a .cbs)) (now (a .crs)) (now (a .tmp)) (sym (r .if1 .left) ∙ t .call-judge .ensures) in (
-      lists-kept _ _ _ _ _ _ _ _ (g .lists) refl refl refl (q .message-fault .kept .1 .1 .1 .1 .0),
+      lists-kept _ _ _ _ _ _ _ _ (g .lists) refl refl refl (q .message-fault .kept .1 .1 .0),
       sym (p .if2 .left) ∙ q .message-fault .ensures,
       g .room,
     )
@@ -83,7 +84,7 @@ clear-all-requires-2 c κs =
     let a = t .before .before .before .before .before .args in
     let g = call-good (a .s) _ (now (a .ys)) (now (a .cbs)) (now (a .crs)) (now (a .tmp)) (sym (r .if1 .left) ∙ t .call-judge .ensures) in
     lists-kept _ _ _ _ _ _ _ _ (g .lists) (p .draw-frame .kept .1 .1 .1 .1 .1 .0) (p .draw-frame .kept .1 .1 .1 .1 .1 .1 .0)
-    (p .draw-frame .kept .1 .1 .1 .1 .1 .1 .1 .0) (p .draw-frame .kept .1 .1 .1 .1 .1 .1 .1 .1 .0 ∙ q .message-fault .kept .1 .1 .1 .1 .0)
+    (p .draw-frame .kept .1 .1 .1 .1 .1 .1 .1 .0) (p .draw-frame .kept .1 .1 .1 .1 .1 .1 .1 .1 .0 ∙ q .message-fault .kept .1 .1 .0)
 
 same-length-5 : tie.Need-same-length-5
 same-length-5 c = search needs

@@ -1,31 +1,42 @@
+-- `tile_fault` meets its contract: the front's fault, or the codes' of a tile whose front was checked.
+use Prim.Native.Nat.{ℕ}
 use mathlib.Core.Path.{sym, _∙_, subst}
 use denote.Ref.{now}
-use Prim.Native.Nat.{ℕ}
+use borrow.Author.Needs.{needs}
 use Rattle.whole.specs.laws.Row.{stops, goes-on}
 use Rattle.frame_blocks.specs.Tiles.{TileGood}
 use Rattle.frame_blocks.specs.laws.Tiles.{tile-good, tile-goes-on}
-use borrow.Author.Needs.{needs}
 use Rattle.frame.proofs.check.tile_fault.Statement.{statement}
 use Rattle.frame.proofs.check.tile_fault.Tie as tie
-use Rattle.frame.proofs.check.tile_fault.Reads as reads
-use Rattle.frame.proofs.check.tile_fault.Lts as lts
-use Rattle.frame_blocks.proofs.tile.tile_front.Reads as tile-front-reads
-use Rattle.frame.proofs.check.codes_fault.Reads as codes-fault-reads
 
 tile-front-requires : tie.Need-tile-front-requires
 tile-front-requires c κs = search needs
 
 returns : tie.Need-returns
-returns c = stops _ _ _ (λ z. c .if1 .taken (c .before .tile-front .ensures ∙ z)) (c .before .tile-front .ensures) ∙ sym (tile-goes-on _ (c .before .before .before .before .args .w) (c .before .before .before .before .args .h) (c .before .before .before .before .args .q) (now (c .before .before .before .before .args .d)) (c .before .before .before .before .args .at))
+returns c =
+    let f = c .before in
+    let a = f .before .before .before .args in
+    stops _ _ _ (λ z. c .if1 .taken (f .tile-front .ensures ∙ z)) (f .tile-front .ensures)
+    ∙ sym (tile-goes-on _ (a .s .width) (a .s .height) (a .q) (now (a .d)) (a .at))
 
 codes-fault-requires : tie.Need-codes-fault-requires
-codes-fault-requires c κs = (c .before .before .before .before .before .pre .0, c .before .before .before .before .before .pre .1, subst (λ (z : ℕ). TileGood z (now (c .before .before .before .before .before .args .d)) (c .before .before .before .before .before .args .at)) (c .before .before .before .before .before .pre .2) (tile-good (c .before .before .before .before .before .args .w) (c .before .before .before .before .before .args .h) (c .before .before .before .before .before .args .q) (now (c .before .before .before .before .before .args .d)) (c .before .before .before .before .before .args .at) (c .before .before .before .before .before .pre .3) (sym (c .before .if1 .left) ∙ c .before .before .tile-front .ensures)))
+codes-fault-requires c κs =
+    let f = c .before .before in
+    let s = f .before .before .before in
+    let a = s .args in
+    let g = tile-good (a .s .width) (a .s .height) (a .q) (now (a .d)) (a .at) (s .pre .4) (sym (c .before .if1 .left) ∙ f .tile-front .ensures) in
+    (s .pre .1, s .pre .2, subst (λ (z : ℕ). TileGood z (now (a .d)) (a .at)) (s .pre .3) g)
 
 same-length : tie.Need-same-length
 same-length c = search needs
 
 returns-2 : tie.Need-returns-2
-returns-2 c = goes-on _ _ _ (sym (c .before .before .before .before .tile-front .ensures) ∙ c .before .before .before .if1 .left) (c .before .codes-fault .ensures) ∙ sym (tile-goes-on _ (c .before .before .before .before .before .before .before .args .w) (c .before .before .before .before .before .before .before .args .h) (c .before .before .before .before .before .before .before .args .q) (now (c .before .before .before .before .before .before .before .args .d)) (c .before .before .before .before .before .before .before .args .at))
+returns-2 c =
+    let i = c .before .before .before in
+    let f = i .before in
+    let a = f .before .before .before .args in
+    goes-on _ _ _ (sym (f .tile-front .ensures) ∙ i .if1 .left) (c .before .codes-fault .ensures)
+    ∙ sym (tile-goes-on _ (a .s .width) (a .s .height) (a .q) (now (a .d)) (a .at))
 
 pub tile-fault-spec : {M : Type 1} → statement M
 tile-fault-spec =

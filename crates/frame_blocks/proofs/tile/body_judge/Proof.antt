@@ -1,10 +1,10 @@
-use Rattle.whole.specs.laws.Row.{rows}
+-- `body_judge` meets its contract: each return is read off the row of `bodyJudge`.
+use Rattle.whole.specs.laws.Row.{rows, passes}
 use Rattle.frame_layout.specs.Reader.{bodyJudge}
+use Rattle.frame_blocks.specs.Tiles.{placeJudge}
 use borrow.Author.Needs.{needs}
 use Rattle.frame_blocks.proofs.tile.body_judge.Statement.{statement}
 use Rattle.frame_blocks.proofs.tile.body_judge.Tie as tie
-use Rattle.frame_blocks.proofs.tile.body_judge.Reads as reads
-use Rattle.frame_blocks.proofs.tile.body_judge.Lts as lts
 
 add-if1 : tie.Need-add-if1
 add-if1 c = search needs
@@ -31,37 +31,14 @@ returns-4 : tie.Need-returns-4
 unfolding bodyJudge
 returns-4 c = search rows depth 14 fits 20000
 
-mul-if5 : tie.Need-mul-if5
-mul-if5 c = search needs
+place-judge-requires : tie.Need-place-judge-requires
+place-judge-requires c κs = search needs
 
 returns-5 : tie.Need-returns-5
-unfolding bodyJudge
-returns-5 c = search rows depth 14 fits 20000
-
-mul-if6 : tie.Need-mul-if6
-mul-if6 c = search needs
-
-returns-6 : tie.Need-returns-6
-unfolding bodyJudge
-returns-6 c = search rows depth 14 fits 20000
-
-returns-7 : tie.Need-returns-7
-unfolding bodyJudge
-returns-7 c = search rows depth 14 fits 20000
+unfolding bodyJudge placeJudge
+returns-5 c =
+    passes _ _ _ _ (search rows) (passes _ _ _ _ (search rows) (passes _ _ _ _ (search rows) (passes _ _ _ _ (search rows) (c .place-judge .ensures))))
 
 pub body-judge-spec : {M : Type 1} → statement M
 body-judge-spec =
-    tie.close
-    (tie.spec
-    add-if1
-    add-if1-2
-    add-if1-3
-    returns
-    returns-2
-    returns-3
-    returns-4
-    mul-if5
-    returns-5
-    mul-if6
-    returns-6
-    returns-7)
+    tie.close (tie.spec add-if1 add-if1-2 add-if1-3 returns returns-2 returns-3 returns-4 place-judge-requires returns-5)

@@ -1,15 +1,10 @@
+-- `tile_fields` meets its contract: each field is read where the definition reads it.
 use mathlib.Core.Path.{_∙_}
 use Rattle.frame_layout.specs.Reader.{sizeAt}
 use Rattle.frame_blocks.specs.Tiles.{tileFields}
 use borrow.Author.Needs.{needs}
 use Rattle.frame_blocks.proofs.tile.tile_fields.Statement.{statement}
 use Rattle.frame_blocks.proofs.tile.tile_fields.Tie as tie
-use Rattle.frame_blocks.proofs.tile.tile_fields.Reads as reads
-use Rattle.frame_blocks.proofs.tile.tile_fields.Lts as lts
-use Rattle.frame_blocks.proofs.tile.body_judge.Reads as body-judge-reads
-use Rattle.wire.proofs.byte_at.Reads as byte-at-reads
-use Rattle.wire.proofs.le16_at.Reads as le16-at-reads
-use Rattle.wire.proofs.le32_at.Reads as le32-at-reads
 
 add-le32-at : tie.Need-add-le32-at
 add-le32-at c = search needs
@@ -70,7 +65,21 @@ body-judge-requires c κs = search needs
 
 returns : tie.Need-returns
 unfolding tileFields sizeAt
-returns c = c .body-judge .ensures ∙ rw (c .before .before .before .before .before .before .before .before .before .le32-at .ensures .0, c .before .before .before .before .before .before .before .before .byte-at .ensures .0, c .before .before .before .before .before .before .before .byte-at2 .ensures .0, c .before .before .before .before .before .before .byte-at3 .ensures .0, c .before .before .before .before .before .le16-at .ensures .0, c .before .before .before .before .le16-at2 .ensures .0, c .before .before .before .le16-at3 .ensures .0, c .before .before .le16-at4 .ensures .0, c .before .le16-at5 .ensures .0)
+returns c =
+    let p = c .before .before .before .before in
+    let q = p .before .before .before in
+    c .body-judge .ensures
+    ∙ rw (
+      q .before .before .le32-at .ensures .0,
+      q .before .byte-at .ensures .0,
+      q .byte-at2 .ensures .0,
+      p .before .before .byte-at3 .ensures .0,
+      p .before .le16-at .ensures .0,
+      p .le16-at2 .ensures .0,
+      c .before .before .before .le16-at3 .ensures .0,
+      c .before .before .le16-at4 .ensures .0,
+      c .before .le16-at5 .ensures .0,
+    )
 
 pub tile-fields-spec : {M : Type 1} → statement M
 tile-fields-spec =

@@ -1,10 +1,10 @@
--- `tile_diff::count::tiles_over` meets its contract.
+-- `tiles_over` meets its contract.
 use mathlib.Core.Path.{refl}
 use native.Mathlib.Omega.{arith}
-use Rattle.tile_diff.specs.Tiles.{tilesOver}
+use Rattle.session.specs.Header.{tilesOver}
 use borrow.Author.Needs.{needs}
-use Rattle.tile_diff.proofs.count.tiles_over.Statement.{statement}
-use Rattle.tile_diff.proofs.count.tiles_over.Tie as tie
+use Rattle.session.proofs.tiles_over.Statement.{statement}
+use Rattle.session.proofs.tiles_over.Tie as tie
 
 add-result : tie.Need-add-result
 add-result c = search needs
