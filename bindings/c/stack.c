@@ -57,6 +57,18 @@ static void collect(void)
 
 static void collect_reset(void) { xurbalenz_collect_reset(&collector); }
 
+static void capabilities(void)
+{
+    static uint8_t message[64], n, entries[4] = {0, 1, 0, 4};
+    static uint32_t flags, fields[9];
+    judge(xurbalenz_write_caps(1, 2, entries, message, sizeof message, &size));
+    judge(xurbalenz_read_caps(message, size, &flags, &n, entries));
+    judge(xurbalenz_write_ack_cap(1, message, sizeof message, &size));
+    judge(xurbalenz_read_ack_cap(message, size, &flags));
+    judge(xurbalenz_write_ack(1, 2, 3, 4, 5, 6, 7, 8, 9, message, sizeof message, &size));
+    judge(xurbalenz_read_ack(message, size, fields));
+}
+
 /* How deep a call goes. */
 static size_t depth(void (*call)(void))
 {
@@ -76,7 +88,7 @@ int main(void)
 {
     static void (*const calls[])(void) = {write_headers, read_header,     read_header,    read_header, read_header,
                                           write_frame,   write_component, read_component, read_frame,  collect,
-                                          collect_reset};
+                                          collect_reset, capabilities};
     size_t i, deepest = 0, bare = depth(nothing);
     for (i = 0; i < sizeof pixels; i++) pixels[i] = (uint8_t)(i * i >> 5);
     for (i = 0; i < XURBALENZ_LIST; i++) work.cb[i] = (int32_t)(i % 7) - 3;

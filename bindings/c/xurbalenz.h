@@ -1,16 +1,17 @@
 /*
- * xurbalenz.h - RemoteFX (MS-RDPRFX) pictures for the door glass: eight calls, proved for every input.
+ * xurbalenz.h - RemoteFX (MS-RDPRFX) pictures for the door glass: fourteen calls, proved for every input.
  *
  * Link target/staticlib/libxurbalenz.a (made by `tools/archive`, x86-64). Its functions read four header blocks and whole frames into a
  * lent picture of 16-bit words, and write headers, components and frames; and they gather header blocks and frames from a network card's
- * bytes, however these are cut.
+ * bytes, however these are cut;
+ * and they read and write what a client says of its capabilities and the frames that it acknowledges.
  *
  * WHAT YOU CAN RELY ON
  *  - Every call takes any bytes whatever and comes back with a number: 0 done, 1 to 13 refused (below). Nothing has to be checked first.
  *  - A frame is drawn whole or not at all. After a refusal the picture and the record are what they were.
  *  - The number is that of the first fault, in the order given at each call.
- *  - What each lent region holds afterwards is said at each call, for every answer. The value behind the last pointer (tiles, bits, size), and
- *    the three of the collector, are always written.
+ *  - What each lent region holds afterwards is said at each call, for every answer. The value behind the last pointer (tiles, bits, size),
+ *    the three of the collector, and what a reader of capabilities stores, are always written.
  *  - Same memory in, same answer and same memory out. No state is kept between calls but what you hold: the record and the picture, the
  *    collector and its store.
  *
@@ -59,7 +60,7 @@ extern "C" {
 #define XURBALENZ_KIND 3     /* a block type that the call does not take, or not the one due in a frame */
 #define XURBALENZ_LENGTH 4   /* blockLen or tilesDataSize disagrees with the layout, or bytes follow the last block */
 #define XURBALENZ_FIELD 5    /* a fixed field differs, or a size or mode is not allowed */
-#define XURBALENZ_TOO_BIG 6  /* over 256 rectangles, 2,048 tiles, or 65,535 bytes in a component */
+#define XURBALENZ_TOO_BIG 6  /* over 256 rectangles, 2,048 tiles, 65,535 bytes in a component, or two entries */
 #define XURBALENZ_QUANT 7    /* a quantiser outside 6 to 15, or an index that is not below the number of sets */
 #define XURBALENZ_PLACE 8    /* a tile that starts outside the channel */
 #define XURBALENZ_RANGE 9    /* a coefficient, LL3 sum or scaled value outside -32,767 to 32,767 */
@@ -85,7 +86,7 @@ static inline const char *xurbalenz_says(uint8_t number)
                                             "not a block type that is taken or due here",
                                             "a length disagrees with the layout, or bytes follow the last block",
                                             "a fixed field differs, or size or mode is not allowed",
-                                            "over 256 rectangles, 2,048 tiles, or 65,535 bytes in a component",
+                                            "over 256 rectangles, 2,048 tiles, 65,535 bytes in a component, or two entries",
                                             "a quantiser outside 6 to 15, or an index with no set",
                                             "a tile starts outside the channel",
                                             "a coefficient, LL3 sum or scaled value outside -32,767 to 32,767",
@@ -307,6 +308,46 @@ uint8_t xurbalenz_write_headers(size_t width, size_t height, uint8_t mode, uint8
 uint8_t xurbalenz_write_frame(size_t width, size_t height, uint8_t mode, const uint8_t quant[10], uint32_t index, const uint8_t *pixels,
                               size_t pixels_len, int32_t *list, size_t list_len, int32_t *scratch, size_t scratch_len, uint8_t *out,
                               size_t out_len, size_t *size);
+
+/* ---- capabilities and acknowledgements ---- */
+
+/*
+ * What a client can do, and which frames it has shown: MS-RDPRFX, sections 2.2.1.1, 2.2.1.3 and 2.2.3.1. Each message is read along the wire, field by
+ * field: a field whose bytes are not all there is 1, then it is judged, then the next. A fixed field that differs is 5, a length that disagrees 4 (one
+ * that speaks of later bytes is judged with them), more than two entries 6, bytes after the last field 4. What is not judged is kept: whatever is read
+ * and written again from its fields comes out the same. Sessions and frames take no part.
+ *
+ * A reader stores its fields on every answer, 0 when refused. The writers are as the others: refused, out is untouched and *size is 0.
+ */
+#define XURBALENZ_CAPS_SIZE(n) (33 + 8 * (size_t)(n)) /* bytes of a container of n entries: at most 49 */
+#define XURBALENZ_ACK_CAP_SIZE 8
+#define XURBALENZ_ACK_SIZE 22
+
+/*
+ * Reads a client capability container, which is the whole message: *flags is captureFlags, *n how many entries there are (0 to 2), entries the flags
+ * and entropyBits (XURBALENZ_RLGR1 or XURBALENZ_RLGR3) of the first and of the second; 0 0 where there is none.
+ */
+uint8_t xurbalenz_read_caps(const uint8_t *message, size_t message_len, uint32_t *flags, uint8_t *n, uint8_t entries[4]);
+
+/* Writes one. Judged in this order: n over 2 (6), entropyBits of an entry that is there (5), out (13). What stands in entries past n is ignored. */
+uint8_t xurbalenz_write_caps(uint32_t flags, uint8_t n, const uint8_t entries[4], uint8_t *out, size_t out_len, size_t *size);
+
+/* Reads a frame acknowledge capability, which is the whole message: *count is maxUnacknowledgedFrameCount. */
+uint8_t xurbalenz_read_ack_cap(const uint8_t *message, size_t message_len, uint32_t *count);
+
+/* Writes one: 8 bytes, else 13. */
+uint8_t xurbalenz_write_ack_cap(uint32_t count, uint8_t *out, size_t out_len, size_t *size);
+
+/*
+ * Reads a frame acknowledge message from its shareDataHeader on, 22 bytes, which are the whole message; the headers in front are the link's. fields are
+ * version (the upper twelve bits of pduType), pduSource, shareId, pad1, streamId, uncompressedLength, compressedType, compressedLength and frameID, in
+ * wire order.
+ */
+uint8_t xurbalenz_read_ack(const uint8_t *message, size_t message_len, uint32_t fields[9]);
+
+/* Writes one. Judged in this order: a version over 4,095 (5), out (13). */
+uint8_t xurbalenz_write_ack(uint16_t version, uint16_t source, uint32_t share, uint8_t pad, uint8_t stream, uint16_t uncompressed,
+                            uint8_t compression, uint16_t compressed, uint32_t frame, uint8_t *out, size_t out_len, size_t *size);
 
 /* ---- the record's layout ---- */
 

@@ -1,4 +1,4 @@
-//! The eight calls as the archive has them, with slices for pointers and lengths: the answer is the number (0 done, 1 to 13 refused) and the
+//! The fourteen calls as the archive has them, with slices for pointers and lengths: the answer is the number (0 done, 1 to 13 refused) and the
 //! value that goes with it.
 //!
 //! Everything here is safe. A Rust slice has what the archive asks of a pointer (never null, aligned, all there, no overlap with what is
@@ -66,6 +66,25 @@ mod archive {
         ) -> u8;
         pub fn xurbalenz_collect_reset(c: *mut Collector);
         pub fn xurbalenz_record_16() -> u8;
+        pub fn xurbalenz_read_caps(message: *const u8, message_len: usize, flags: *mut u32, n: *mut u8, entries: *mut [u8; 4]) -> u8;
+        pub fn xurbalenz_write_caps(flags: u32, n: u8, entries: *const [u8; 4], out: *mut u8, out_len: usize, size: *mut usize) -> u8;
+        pub fn xurbalenz_read_ack_cap(message: *const u8, message_len: usize, count: *mut u32) -> u8;
+        pub fn xurbalenz_write_ack_cap(count: u32, out: *mut u8, out_len: usize, size: *mut usize) -> u8;
+        pub fn xurbalenz_read_ack(message: *const u8, message_len: usize, fields: *mut [u32; 9]) -> u8;
+        pub fn xurbalenz_write_ack(
+            version: u16,
+            source: u16,
+            share: u32,
+            pad: u8,
+            stream: u8,
+            uncompressed: u16,
+            compression: u8,
+            compressed: u16,
+            frame: u32,
+            out: *mut u8,
+            out_len: usize,
+            size: *mut usize,
+        ) -> u8;
     }
 }
 
@@ -227,4 +246,79 @@ pub fn collect(c: &mut Collector, bytes: &[u8], store: &mut [u8]) -> (u8, u8, us
 #[inline]
 pub fn collect_reset(c: &mut Collector) {
     unsafe { archive::xurbalenz_collect_reset(c) }
+}
+
+/// Reads a client capability container: the number, captureFlags, how many entries there are; into `entries` go flags and entropyBits of the first and
+/// of the second, 0 0 where there is none. All is 0 when refused. See [`crate::Caps`].
+#[inline]
+pub fn read_caps(message: &[u8], entries: &mut [u8; 4]) -> (u8, u32, u8) {
+    let (mut flags, mut n) = (0, 0);
+    let number = unsafe { archive::xurbalenz_read_caps(message.as_ptr(), message.len(), &mut flags, &mut n, entries) };
+    (number, flags, n)
+}
+
+/// Writes a client capability container: the number, and the bytes written (0 when refused). What stands past `n` entries is ignored.
+#[inline]
+pub fn write_caps(flags: u32, n: u8, entries: &[u8; 4], out: &mut [u8]) -> (u8, usize) {
+    let mut size = 0;
+    let number = unsafe { archive::xurbalenz_write_caps(flags, n, entries, out.as_mut_ptr(), out.len(), &mut size) };
+    (number, size)
+}
+
+/// Reads a frame acknowledge capability: the number, and maxUnacknowledgedFrameCount (0 when refused).
+#[inline]
+pub fn read_ack_cap(message: &[u8]) -> (u8, u32) {
+    let mut count = 0;
+    let number = unsafe { archive::xurbalenz_read_ack_cap(message.as_ptr(), message.len(), &mut count) };
+    (number, count)
+}
+
+/// Writes a frame acknowledge capability: the number, and the bytes written (0 when refused).
+#[inline]
+pub fn write_ack_cap(count: u32, out: &mut [u8]) -> (u8, usize) {
+    let mut size = 0;
+    let number = unsafe { archive::xurbalenz_write_ack_cap(count, out.as_mut_ptr(), out.len(), &mut size) };
+    (number, size)
+}
+
+/// Reads a frame acknowledge message from its shareDataHeader on: the number; into `fields` go its nine numbers in wire order, all 0 when refused. See
+/// [`crate::Ack`].
+#[inline]
+pub fn read_ack(message: &[u8], fields: &mut [u32; 9]) -> u8 {
+    unsafe { archive::xurbalenz_read_ack(message.as_ptr(), message.len(), fields) }
+}
+
+/// Writes a frame acknowledge message: the number, and the bytes written (0 when refused).
+#[allow(clippy::too_many_arguments)] // the archive's own list
+#[inline]
+pub fn write_ack(
+    version: u16,
+    source: u16,
+    share: u32,
+    pad: u8,
+    stream: u8,
+    uncompressed: u16,
+    compression: u8,
+    compressed: u16,
+    frame: u32,
+    out: &mut [u8],
+) -> (u8, usize) {
+    let mut size = 0;
+    let number = unsafe {
+        archive::xurbalenz_write_ack(
+            version,
+            source,
+            share,
+            pad,
+            stream,
+            uncompressed,
+            compression,
+            compressed,
+            frame,
+            out.as_mut_ptr(),
+            out.len(),
+            &mut size,
+        )
+    };
+    (number, size)
 }

@@ -7,9 +7,10 @@
 //! - [`Collector`] gathers header blocks and frames from a network card's bytes, however these are cut, and hands each on whole.
 //! - [`read_header`], [`read_frame`], [`read_component`] work in memory that you lend; they allocate nothing.
 //! - [`write_headers`], [`write_component`], [`write_frame`] return what they wrote; `.._into` write into memory that you lend.
-//! - [`edge`] has the eight calls with plain numbers, as C sees them.
+//! - [`Caps`], [`Ack`], [`read_ack_cap`] and [`write_ack_cap_into`] read and write what a client says it can do, and which frames it has shown.
+//! - [`edge`] has the fourteen calls with plain numbers, as C sees them.
 //!
-//! The crate needs neither std nor any other crate, but `alloc` for [`Screen`], [`Collector`] and the writers that return a `Vec`. It links
+//! The crate needs neither std nor any other crate, but `alloc` for [`Screen`], [`Collector`], [`Caps`] and the writers that return a `Vec`. It links
 //! `target/staticlib/libxurbalenz.a` of the repository (make it with `tools/archive`), or the one in the folder `XURBALENZ_LIB_DIR`. That archive is
 //! x86-64 code and needs `memcpy` and `memset`, less than 1 KiB of stack, and nothing else.
 //!
@@ -32,6 +33,7 @@
 
 extern crate alloc;
 
+mod capabilities;
 mod collector;
 pub mod edge;
 mod refusal;
@@ -39,6 +41,7 @@ mod screen;
 
 use alloc::{vec, vec::Vec};
 
+pub use capabilities::{read_ack_cap, write_ack_cap_into, Ack, Caps, CapsEntry, ACK_CAP_SIZE, ACK_SIZE};
 pub use collector::{Collector, Message};
 pub use refusal::{CodeRefusal, Refusal};
 pub use screen::Screen;

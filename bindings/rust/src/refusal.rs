@@ -36,7 +36,7 @@ pub enum Refusal {
     Length,
     /// 5: a fixed field differs, or a size or mode is not allowed.
     Field,
-    /// 6: over 256 rectangles, 2,048 tiles, or 65,535 bytes in a component.
+    /// 6: over 256 rectangles, 2,048 tiles, 65,535 bytes in a component, or two entries.
     TooBig,
     /// 7: a quantiser outside 6 to 15, or an index that is not below the number of sets.
     Quant,
@@ -114,7 +114,7 @@ impl Refusal {
             Refusal::Kind => ("kind", "not a block type that is taken or due here"),
             Refusal::Length => ("length", "a length disagrees with the layout, or bytes follow the last block"),
             Refusal::Field => ("field", "a fixed field differs, or size or mode is not allowed"),
-            Refusal::TooBig => ("too big", "over 256 rectangles, 2,048 tiles, or 65,535 bytes in a component"),
+            Refusal::TooBig => ("too big", "over 256 rectangles, 2,048 tiles, 65,535 bytes in a component, or two entries"),
             Refusal::Quant => ("quant", "a quantiser outside 6 to 15, or an index with no set"),
             Refusal::Place => ("place", "a tile starts outside the channel"),
             Refusal::Range => ("range", "a coefficient, LL3 sum or scaled value outside -32,767 to 32,767"),

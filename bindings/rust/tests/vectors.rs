@@ -62,7 +62,7 @@ fn pixels(word: &str, width: usize, length: usize) -> Vec<u8> {
 }
 
 /// The requests of document 02 that these files need.
-const LANDED: [&str; 3] = ["one", "three", "four"];
+const LANDED: [&str; 4] = ["one", "three", "four", "twelve"];
 
 /// What a case carries from line to line.
 #[derive(Default)]
@@ -75,6 +75,11 @@ struct Case {
     collector: Collector,
     memory: Vec<u8>,
     lent: usize,
+}
+
+/// Numbers with blanks between them.
+fn joined<T: ToString, const N: usize>(numbers: [T; N]) -> String {
+    numbers.map(|n| n.to_string()).join(" ")
 }
 
 fn record(s: Session) -> String {
@@ -169,6 +174,34 @@ impl Case {
             ["reset"] => {
                 edge::collect_reset(&mut self.collector);
                 self.gathered()
+            }
+            ["cap", given] => {
+                let (number, flags, n, entries) = read_caps(&bytes(given));
+                format!("{number} {flags} {n} {}", joined(entries))
+            }
+            ["wcap", flags, entries, room] => {
+                let all: Vec<Vec<u8>> = items(entries, |pair| vec![pair.split(':').map(number).collect()]);
+                let mut two = [7; 4]; // what is past n is no field
+                two.chunks_mut(2).zip(&all).for_each(|(place, pair)| place.copy_from_slice(pair));
+                let (number, size, out) = write_caps(number(flags), all.len() as u8, two, number(room));
+                format!("{number} {size} {}", fnv(out))
+            }
+            ["fac", given] => {
+                let (number, count) = read_ack_cap(&bytes(given));
+                format!("{number} {count}")
+            }
+            ["wfac", count, room] => {
+                let (number, size, out) = write_ack_cap(number(count), number(room));
+                format!("{number} {size} {}", fnv(out))
+            }
+            ["ack", given] => {
+                let (number, fields) = read_ack(&bytes(given));
+                format!("{number} {}", joined(fields))
+            }
+            ["wack", fields @ .., room] => {
+                let (number, size, out) =
+                    write_ack(fields.iter().map(|n| number(n)).collect::<Vec<_>>().try_into().expect("nine fields"), number(room));
+                format!("{number} {size} {}", fnv(out))
             }
             _ => panic!("no such call: {words:?}"),
         }
@@ -274,4 +307,9 @@ fn the_worked_sample() {
 fn hand_overs() {
     assert_eq!(run("request_one.vec"), (521, 2304));
     assert_eq!(run("request_one_store.vec"), (129, 645));
+}
+
+#[test]
+fn capabilities() {
+    assert_eq!(run("request_twelve.vec"), (1026, 1491));
 }

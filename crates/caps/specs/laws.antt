@@ -3,6 +3,8 @@ pub mod Cases
 pub mod Number
 pub mod Read
 pub mod ReadBack
+pub mod Refuse
+pub mod Request
 pub mod Step
 pub mod Walk
 pub mod Write

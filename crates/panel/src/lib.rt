@@ -14,6 +14,7 @@ use session::HeaderReading;
 use session::Session;
 use wire::Writing;
 
+pub mod capabilities;
 pub mod collector;
 pub mod edge;
 

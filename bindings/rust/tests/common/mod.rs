@@ -327,6 +327,71 @@ pub fn write_frame(sent: Sent, room: usize) -> (u8, usize, Vec<u8>) {
     write_frame_with(sent, [LIST; 2], room)
 }
 
+// ---- capabilities and acknowledgements: the numbers that their readers have are 1, 4, 5 and 6, and a refusal gives no fields
+
+/// The container's reader: the number, captureFlags, how many entries, the entries.
+pub fn read_caps(message: &[u8]) -> (u8, u32, u8, [u8; 4]) {
+    let m = Lent::of(message);
+    let mut entries = [7; 4];
+    let (number, flags, n) = edge::read_caps(m.part(), &mut entries);
+    kept(m, message);
+    assert!(matches!(number, 0 | 1 | 4 | 5 | 6), "number {number}");
+    assert!(number == 0 || (flags, n, entries) == (0, 0, [0; 4]), "refused {number}, and fields are given");
+    (number, flags, n, entries)
+}
+
+/// Its writer.
+pub fn write_caps(flags: u32, n: u8, entries: [u8; 4], room: usize) -> (u8, usize, Vec<u8>) {
+    let mut out = Lent::filled(0xA5, room);
+    let (number, size) = edge::write_caps(flags, n, &entries, out.part_mut());
+    written(number, size, out)
+}
+
+/// The reader of the frame acknowledge capability: the number and the count.
+pub fn read_ack_cap(message: &[u8]) -> (u8, u32) {
+    let m = Lent::of(message);
+    let (number, count) = edge::read_ack_cap(m.part());
+    kept(m, message);
+    assert!(matches!(number, 0 | 1 | 4 | 5) && (number == 0 || count == 0), "number {number}, count {count}");
+    (number, count)
+}
+
+/// Its writer.
+pub fn write_ack_cap(count: u32, room: usize) -> (u8, usize, Vec<u8>) {
+    let mut out = Lent::filled(0xA5, room);
+    let (number, size) = edge::write_ack_cap(count, out.part_mut());
+    written(number, size, out)
+}
+
+/// The reader of the frame acknowledge message: the number and the nine fields.
+pub fn read_ack(message: &[u8]) -> (u8, [u32; 9]) {
+    let m = Lent::of(message);
+    let mut fields = [7; 9];
+    let number = edge::read_ack(m.part(), &mut fields);
+    kept(m, message);
+    assert!(matches!(number, 0 | 1 | 4 | 5) && (number == 0 || fields == [0; 9]), "number {number}");
+    (number, fields)
+}
+
+/// Its writer, on nine fields that fit.
+pub fn write_ack(fields: [u32; 9], room: usize) -> (u8, usize, Vec<u8>) {
+    let mut out = Lent::filled(0xA5, room);
+    let [version, source, share, pad, stream, uncompressed, compression, compressed, frame] = fields;
+    let (number, size) = edge::write_ack(
+        version as u16,
+        source as u16,
+        share,
+        pad as u8,
+        stream as u8,
+        uncompressed as u16,
+        compression as u8,
+        compressed as u16,
+        frame,
+        out.part_mut(),
+    );
+    written(number, size, out)
+}
+
 // ---- messages put together by hand
 
 fn le16(n: usize) -> [u8; 2] {

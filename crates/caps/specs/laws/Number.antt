@@ -1,11 +1,11 @@
 -- Laws on little-endian numbers: read at a place of a list whose rest from there on is known; a number by its bytes, and bytes by their number.
 use Prim.Native.Nat.{ℕ, _+_, _*_, _/_, _%_, _<_}
 use mathlib.Core.Path.{_≡_, refl, ap, sym, _∙_}
-use mathlib.Core.List.{List, [], _∷_, _++_}
+use mathlib.Core.List.{List, [], _∷_}
 use native.Mathlib.Omega.{arith}
 use native.Mathlib.Nat.{zero-add, mod-eq-of-lt, div-eq-of-lt, add-mul-div-left, add-mul-mod-self-left, div-div-eq-div-mul}
-use lib.ListN.{length, getD, drop}
-use lib.Seq.{getD-drop, drop-drop, drop-at}
+use lib.ListN.{getD, drop}
+use lib.Seq.{getD-drop}
 use Rattle.wire.specs.Le.{le16, le32, bytes16, bytes32}
 
 -- ---- what stands at a place
@@ -24,10 +24,6 @@ unfolding le32
 le32-in d xs at k e =
     let s : at + k + 2 ≡ at + (k + 2) = omega arith in
     rw (s, le16-in d xs at k e, le16-in d xs at (k + 2) e)
-
--- past a known front
-pub past : (d xs rest : List ℕ) (at k : ℕ) → drop at d ≡ xs ++ rest → length xs ≡ k → drop (at + k) d ≡ rest
-past d xs rest at k e l = sym (drop-drop k at d) ∙ (ap (drop k) e ∙ drop-at xs rest k l)
 
 -- ---- what a number is by its bytes
 

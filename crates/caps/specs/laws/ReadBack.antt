@@ -20,6 +20,7 @@ use Rattle.caps.specs.Caps.{entriesOver, entriesOf, entriesIn, capsetOf,
 use Rattle.caps.specs.AckCap.{ackCap, readAckCap, ackCapOf, ackCapFault, GoodAckCap}
 use Rattle.caps.specs.Ack.{ack, readAck, ackOf, ackFault, GoodAck}
 use Rattle.caps.specs.Calls.{sentBy, ReadCaps, WriteCaps, there, fieldsOf, ReadAckCap, WriteAckCap, ReadAck, AckFit, WriteAck}
+use Rattle.caps.specs.Request.{Again}
 use Rattle.caps.specs.laws.Walk.{read-back, read-same}
 use Rattle.caps.specs.laws.Back.{few, container-both, ack-cap-both, ack-both}
 use Rattle.caps.specs.laws.Write.{caps-long, writable, caps-fine, ack-writable}
@@ -63,10 +64,6 @@ sent : (f : ℕ) (bytes out out′ m : List ℕ) (w : Writing) → Wrote f bytes
 sent f bytes out out′ m w p e is = (sym e ∙ p .number, is ∙ wrote-bytes f bytes out out′ w p e)
 
 -- bytes that were read, written again where nothing is refused
-pub record Again (m out′ : List ℕ) (w : Writing) : Type 0 where
-  pub done : w ≡ Done (length m)
-  pub sent : sentBy w out′ ≡ m
-
 again : (f : ℕ) (bytes out out′ m : List ℕ) (w : Writing) → Wrote f bytes out out′ w → 0 ≡ f → 0 < length bytes → bytes ≡ m → Again m out′ w
 again f bytes out out′ m w p z h e = record {
   done = wrote-answer f bytes out out′ w (λ q. h) p ∙ (ap (λ (n : ℕ). answerOf n bytes) (sym z) ∙ ap (λ (l : List ℕ). Done (length l)) e);
@@ -82,7 +79,7 @@ once {A = A} fault bytes some a b out o out′ o′ w v p q e d =
 
 -- ---- the container
 
-caps-some : (c : Caps) → 0 < length (capsOf c)
+pub caps-some : (c : Caps) → 0 < length (capsOf c)
 unfolding capsOf bytes32
 caps-some c = omega arith
 

@@ -50,7 +50,7 @@ spelled-there Four (x ∷ y ∷ []) b h = absurd (omega arith)
 spelled-there Four (x ∷ y ∷ z ∷ []) b h = absurd (omega arith)
 spelled-there Four (x ∷ y ∷ z ∷ u ∷ m) b h = (ap (λ (f : List ℕ). f ++ m) (four-there x y z u (b 0) (b 1) (b 2) (b 3)), omega (arith, b 0, b 1, b 2, b 3))
 
-no-stop : {A : Type 0} (a : A) (rest : List ℕ) (n : ℕ) → Came a rest ≡ Stopped n → ⊥
+pub no-stop : {A : Type 0} (a : A) (rest : List ℕ) (n : ℕ) → Came a rest ≡ Stopped n → ⊥
 no-stop a rest n e = let z : _≡_ {A = ℕ} 0 1 = cc in omega arith
 
 -- what follows from the field's number and the bytes behind it
@@ -140,7 +140,7 @@ module _ {A R : Type 0} (taken : A → R) (refused : ℕ → R) (l : Layout A) {
 
   -- of an answer it is known which it is
   module _ (inj : (x : A) → taken x ≡ taken a → x ≡ a) (apart : (n : ℕ) → refused n ≡ taken a → ⊥) where
-    ends : (m : List ℕ) → ended taken refused (walk l m) ≡ taken a → walk l m ≡ Came a []
+    pub ends : (m : List ℕ) → ended taken refused (walk l m) ≡ taken a → walk l m ≡ Came a []
     unfolding ended
     ends m e = go (walk l m) refl e
       where

@@ -1,21 +1,16 @@
--- The six calls as a C program meets them: the number is returned, what is read and what is said is stored behind references, the output is lent.
+-- The six calls of capabilities and acknowledgements as a C program meets them (02, request Twelve): the number is returned, what is read and what is said
+-- is stored behind references, the output is lent. All by the definitions that the calls of `caps` cite.
+-- (01 is this project's scope document, 02 its change requests, 001 is MS-RDPRFX: README, "What 01 is".)
 use Prim.Native.Nat.{ℕ}
 use mathlib.Core.Path.{_≡_}
 use mathlib.Core.List.{List, [], _∷_}
 use lib.ListN.{length, getD}
-use Rattle.wire.specs.Wrote.{lengthSaid, outLeft}
 use Rattle.caps.specs.Caps.{entriesOver, capsWith, readCaps, capsNumber, capsFields, capsOf, capsFault}
 use Rattle.caps.specs.AckCap.{readAckCap, ackCapNumber, ackCapCount, ackCapOf, ackCapFault}
 use Rattle.caps.specs.Ack.{readAck, ackNumber, ackFields, ackOf, ackFault}
 use Rattle.caps.specs.declared.Caps.{Caps}
 use Rattle.caps.specs.declared.Ack.{Ack}
-
--- ---- the writers: the number of the first fault, "when done they say the length in bytes, refused 0", the output
-
-pub record WriteCall (fault : ℕ) (bytes out out′ : List ℕ) (size n : ℕ) : Type 0 where
-  pub number : n ≡ fault
-  pub long : size ≡ lengthSaid fault bytes
-  pub left : out′ ≡ outLeft fault bytes out
+use Rattle.panel.specs.Edge.{WriterCall}
 
 -- ---- the container; four bytes are two entries, flags and entropyBits of each
 
@@ -33,7 +28,7 @@ capsFrom flags n es =
     capsWith flags (entriesOver n (record { flags = getD es 0 0; mode = getD es 1 0 }) (record { flags = getD es 2 0; mode = getD es 3 0 }))
 
 abbrev pub WriteCapsCall : ℕ → ℕ → List ℕ → List ℕ → List ℕ → ℕ → ℕ → Type 0
-WriteCapsCall flags n es out out′ size number = WriteCall (capsFault (capsFrom flags n es) (length out)) (capsOf (capsFrom flags n es)) out out′ size number
+WriteCapsCall flags n es out out′ size number = WriterCall (capsFault (capsFrom flags n es) (length out)) (capsOf (capsFrom flags n es)) out out′ size number
 
 -- ---- the frame acknowledge capability
 
@@ -42,7 +37,7 @@ pub record ReadAckCapCall (m : List ℕ) (count number : ℕ) : Type 0 where
   pub count-is : count ≡ ackCapCount (readAckCap m)
 
 abbrev pub WriteAckCapCall : ℕ → List ℕ → List ℕ → ℕ → ℕ → Type 0
-WriteAckCapCall count out out′ size number = WriteCall (ackCapFault (length out)) (ackCapOf count) out out′ size number
+WriteAckCapCall count out out′ size number = WriterCall (ackCapFault (length out)) (ackCapOf count) out out′ size number
 
 -- ---- the frame acknowledge message; its nine numbers in wire order
 
@@ -69,4 +64,4 @@ ackFrom version source share pad stream uncompressed compression compressed fram
 
 abbrev pub WriteAckCall : ℕ → ℕ → ℕ → ℕ → ℕ → ℕ → ℕ → ℕ → ℕ → List ℕ → List ℕ → ℕ → ℕ → Type 0
 WriteAckCall version source share pad stream uncompressed compression compressed frame out out′ size number =
-    WriteCall (ackFault version (length out)) (ackOf (ackFrom version source share pad stream uncompressed compression compressed frame)) out out′ size number
+    WriterCall (ackFault version (length out)) (ackOf (ackFrom version source share pad stream uncompressed compression compressed frame)) out out′ size number

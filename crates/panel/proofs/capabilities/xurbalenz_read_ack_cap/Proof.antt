@@ -1,10 +1,10 @@
--- `caps::edge::xurbalenz_read_ack_cap` meets its contract: the answer's number and count are those of `readAckCap`.
+-- `panel::capabilities::xurbalenz_read_ack_cap` meets its contract: the answer's number and count are those of `readAckCap`.
 -- Assumes nothing.
 use mathlib.Core.Path.{ap, _∙_}
 use borrow.Author.Needs.{needs}
 use Rattle.caps.specs.AckCap.{ackCapNumber, ackCapCount}
-use Rattle.caps.proofs.edge.xurbalenz_read_ack_cap.Statement.{statement}
-use Rattle.caps.proofs.edge.xurbalenz_read_ack_cap.Tie as tie
+use Rattle.panel.proofs.capabilities.xurbalenz_read_ack_cap.Statement.{statement}
+use Rattle.panel.proofs.capabilities.xurbalenz_read_ack_cap.Tie as tie
 
 returns : tie.Need-returns
 returns c =

@@ -1,12 +1,12 @@
--- `caps::edge::xurbalenz_read_caps` meets its contract: the answer's number and fields are those of `readCaps`.
+-- `panel::capabilities::xurbalenz_read_caps` meets its contract: the answer's number and fields are those of `readCaps`.
 -- Assumes nothing.
 use mathlib.Core.Path.{ap, _∙_}
 use borrow.Author.Needs.{needs}
 use Rattle.caps.specs.Caps.{capsNumber, capsFields}
-use Rattle.caps.specs.Edge.{entryBytes}
+use Rattle.panel.specs.Capabilities.{entryBytes}
 use Rattle.caps.specs.declared.Caps.{Caps}
-use Rattle.caps.proofs.edge.xurbalenz_read_caps.Statement.{statement}
-use Rattle.caps.proofs.edge.xurbalenz_read_caps.Tie as tie
+use Rattle.panel.proofs.capabilities.xurbalenz_read_caps.Statement.{statement}
+use Rattle.panel.proofs.capabilities.xurbalenz_read_caps.Tie as tie
 
 returns : tie.Need-returns
 returns c =

@@ -1,11 +1,11 @@
--- `caps::edge::xurbalenz_read_ack` meets its contract: the answer's number and fields are those of `readAck`.
+-- `panel::capabilities::xurbalenz_read_ack` meets its contract: the answer's number and fields are those of `readAck`.
 -- Assumes nothing.
 use mathlib.Core.Path.{ap, _∙_}
 use borrow.Author.Needs.{needs}
 use Rattle.caps.specs.Ack.{ackNumber, ackFields}
-use Rattle.caps.specs.Edge.{numbersOf}
-use Rattle.caps.proofs.edge.xurbalenz_read_ack.Statement.{statement}
-use Rattle.caps.proofs.edge.xurbalenz_read_ack.Tie as tie
+use Rattle.panel.specs.Capabilities.{numbersOf}
+use Rattle.panel.proofs.capabilities.xurbalenz_read_ack.Statement.{statement}
+use Rattle.panel.proofs.capabilities.xurbalenz_read_ack.Tie as tie
 
 returns : tie.Need-returns
 returns c =

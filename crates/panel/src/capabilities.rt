@@ -1,11 +1,10 @@
-// The six calls for C. A pointer is a reference, a list is a pointer and its length; the answer is the number of the first fault, 0 for done. What is read is
-// stored on every answer, 0 where the message is refused; a writer's length is stored on every answer, refused 0. Nothing here has a `requires`.
-ghost use mathlib.Core.Path.{_≡_};
-ghost use lib.ListN.{length};
-ghost use Rattle.caps.specs.Edge.{ReadCapsCall, WriteCapsCall, ReadAckCapCall, WriteAckCapCall, ReadAckCall, WriteAckCall};
-use crate::Ack;
-use crate::Caps;
-use crate::Entry;
+// The six calls of capabilities and acknowledgements for C (02, request Twelve). A list is a pointer and its length; the answer is the number of the first
+// fault, 0 for done. What is read is stored on every answer, 0 where the message is refused; a writer's length is stored on every answer, refused 0. Each is
+// one call of `caps` and promises what that one does (specs/Capabilities). Nothing here has a `requires`.
+ghost use Rattle.panel.specs.Capabilities.{ReadCapsCall, WriteCapsCall, ReadAckCapCall, WriteAckCapCall, ReadAckCall, WriteAckCall};
+use caps::Ack;
+use caps::Caps;
+use caps::Entry;
 
 // Reads the client capability container, which is the whole message. `entries` are two of flags and entropyBits each.
 #[no_mangle]
@@ -17,14 +16,14 @@ pub extern "C" fn xurbalenz_read_caps(
 ) -> u8
     ensures { λ r. ⌜ ReadCapsCall (now (message .entry)) (now (flags .exit)) (now (n .exit)) (now (entries .exit)) r ⌝ }
 {
-    let answer = crate::read::read_caps(message);
-    let c = crate::read::caps_fields(answer);
+    let answer = caps::read::read_caps(message);
+    let c = caps::read::caps_fields(answer);
     let first = c.first;
     let second = c.second;
     *flags = c.flags;
     *n = c.n;
     *entries = [first.flags, first.mode, second.flags, second.mode];
-    crate::read::caps_number(answer)
+    caps::read::caps_number(answer)
 }
 
 // Writes the client capability container. An entry past n is ignored.
@@ -50,7 +49,7 @@ pub extern "C" fn xurbalenz_write_caps(
             mode: entries[3],
         },
     };
-    let w = crate::write::write_caps(c, out);
+    let w = caps::write::write_caps(c, out);
     *size = wire::writing_length(w);
     wire::writing_number(w)
 }
@@ -60,9 +59,9 @@ pub extern "C" fn xurbalenz_write_caps(
 pub extern "C" fn xurbalenz_read_ack_cap(message: &[u8], count: &mut u32) -> u8
     ensures { λ r. ⌜ ReadAckCapCall (now (message .entry)) (now (count .exit)) r ⌝ }
 {
-    let answer = crate::read::read_ack_cap(message);
-    *count = crate::read::ack_cap_count(answer);
-    crate::read::ack_cap_number(answer)
+    let answer = caps::read::read_ack_cap(message);
+    *count = caps::read::ack_cap_count(answer);
+    caps::read::ack_cap_number(answer)
 }
 
 // Writes the frame acknowledge capability.
@@ -70,7 +69,7 @@ pub extern "C" fn xurbalenz_read_ack_cap(message: &[u8], count: &mut u32) -> u8
 pub extern "C" fn xurbalenz_write_ack_cap(count: u32, out: &mut [u8], size: &mut usize) -> u8
     ensures { λ r. ⌜ WriteAckCapCall count (now (out .entry)) (now (out .exit)) (now (size .exit)) r ⌝ }
 {
-    let w = crate::write::write_ack_cap(count, out);
+    let w = caps::write::write_ack_cap(count, out);
     *size = wire::writing_length(w);
     wire::writing_number(w)
 }
@@ -81,8 +80,8 @@ pub extern "C" fn xurbalenz_write_ack_cap(count: u32, out: &mut [u8], size: &mut
 pub extern "C" fn xurbalenz_read_ack(message: &[u8], fields: &mut [u32; 9]) -> u8
     ensures { λ r. ⌜ ReadAckCall (now (message .entry)) (now (fields .exit)) r ⌝ }
 {
-    let answer = crate::read::read_ack(message);
-    let a = crate::read::ack_fields(answer);
+    let answer = caps::read::read_ack(message);
+    let a = caps::read::ack_fields(answer);
     *fields = [
         a.version as u32,
         a.source as u32,
@@ -94,7 +93,7 @@ pub extern "C" fn xurbalenz_read_ack(message: &[u8], fields: &mut [u32; 9]) -> u
         a.compressed as u32,
         a.frame,
     ];
-    crate::read::ack_number(answer)
+    caps::read::ack_number(answer)
 }
 
 // Writes the frame acknowledge message from its shareDataHeader on.
@@ -125,7 +124,7 @@ pub extern "C" fn xurbalenz_write_ack(
         compressed: compressed,
         frame: frame,
     };
-    let w = crate::write::write_ack(a, out);
+    let w = caps::write::write_ack(a, out);
     *size = wire::writing_length(w);
     wire::writing_number(w)
 }
