@@ -30,14 +30,21 @@ put-tiles-requires c κs =
 
 close-frame-requires : tie.Need-close-frame-requires
 close-frame-requires c κs =
-    let t = c .before .before .before .before .before .put-tiles in
-    (omega (arith, t .ensures .1), omega (arith, c .before .before .before .before .before .before .before .before .before .before .before .before .before .before .before .before .before .before .before .pre .3, c .before .before .before .before .before .before .before .before .before .before .before .put-front .kept .0, t .kept .0, t .ensures .1))
+    let c1 = c .before .before .before .before .before in
+    let c2 = c1 .before .before .before .before .before .before in
+    let s = c2 .before .before .before .before .before .before .before .before in
+    let t = c1 .put-tiles in
+    (omega (arith, t .ensures .1), omega (arith, s .pre .3, c2 .put-front .kept .0, t .kept .0, t .ensures .1))
 
 add-result : tie.Need-add-result
 add-result c = search needs
 
 same-length : tie.Need-same-length
-same-length c = c .before .before .close-frame .kept .0 ∙ (c .before .before .before .before .before .before .before .before .put-tiles .kept .0 ∙ c .before .before .before .before .before .before .before .before .before .before .before .before .before .before .put-front .kept .0)
+same-length c =
+    let c1 = c .before .before in
+    let c2 = c1 .before .before .before .before .before .before in
+    let c3 = c2 .before .before .before .before .before .before in
+    c1 .close-frame .kept .0 ∙ (c2 .put-tiles .kept .0 ∙ c3 .put-front .kept .0)
 
 same-length-2 : tie.Need-same-length-2
 same-length-2 c = c .before .before .before .before .before .before .before .before .put-tiles .kept .1 .1 .0
@@ -47,11 +54,15 @@ same-length-3 c = c .before .before .before .before .before .before .before .bef
 
 returns : tie.Need-returns
 returns c =
-    let a = c .before .before .before .before .before .before .before .before .before .before .before .before .before .before .before .before .before .before .before .before .before .before .args in
+    let c1 = c .before .before in
+    let c2 = c1 .before .before .before .before .before .before in
+    let c3 = c2 .before .before .before .before .before .before in
+    let s = c3 .before .before .before .before .before .before .before .before in
+    let a = s .args in
     let j = a .job in
-    let t = c .before .before .before .before .before .before .before .before .put-tiles .ensures in
+    let t = c2 .put-tiles .ensures in
     frame-put (now (a .out)) _ _ _ (j .quant .v) (j .index) (j .width) (j .height) (j .mode) (a .n) _ (tileIn j (now (a .pixels)))
-    (c .before .before .before .before .before .before .before .before .before .before .before .before .before .before .put-front .ensures) (t .0) (t .1) (c .before .before .close-frame .ensures)
+    (c3 .put-front .ensures) (t .0) (t .1) (c1 .close-frame .ensures)
 
 pub put-frame-spec : {M : Type 1} → statement M
 put-frame-spec =

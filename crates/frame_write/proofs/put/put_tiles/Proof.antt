@@ -42,16 +42,20 @@ loop-less c = omega (arith, c .before .before .before .before .before .before .b
 
 loop-again : tie.Need-loop-again Inv-loop μ-loop
 loop-again c =
-    let s = c .before .before .before .before .before .before .before .before .before .before .before .before in
+    let c1 = c .before .before .before .before in
+    let c2 = c1 .before .before .before .before in
+    let c3 = c2 .before in
+    let s = c3 .before .before .before in
     let a = s .args in
-    let l = c .before .before .before .before .before .before .before .before .before .loop in
-    let t = c .before .before .before .before .before .before .before .before .loop-test .taken in
-    let p = c .before .before .before .before .put-tile in (
+    let l = c3 .loop in
+    let t = c2 .loop-test .taken in
+    let p = c1 .put-tile in (
       omega (arith, t),
       p .kept .0 ∙ l .inv .1,
       p .kept .1 .1 .0 ∙ l .inv .2,
       p .kept .1 .1 .1 .0 ∙ l .inv .3,
-      front-grows (tileIn (a .job) (now (a .pixels))) (a .n) (l .i) (a .from) (l .at) _ (now (a .out)) _ _ t (omega (arith, s .pre .3)) (l .inv .4) (p .ensures .0) (p .ensures .1),
+      front-grows (tileIn (a .job) (now (a .pixels))) (a .n) (l .i) (a .from) (l .at) _ (now (a .out)) _ _ t (omega (arith, s .pre .3)) (l .inv .4)
+          (p .ensures .0) (p .ensures .1),
     )
 
 same-length : tie.Need-same-length Inv-loop μ-loop

@@ -15,10 +15,14 @@ cols-of-requires : tie.Need-cols-of-requires
 cols-of-requires c κs = c .before .before .pre .0 .picture .wider
 
 rem-load-component : tie.Need-rem-load-component
-rem-load-component c = omega (arith, c .cols-of .ensures .0, some-cols (c .before .before .before .args .job .width) (c .before .before .before .pre .0 .picture .wide))
+rem-load-component c =
+    let s = c .before .before .before in
+    omega (arith, c .cols-of .ensures .0, some-cols (s .args .job .width) (s .pre .0 .picture .wide))
 
 div-load-component : tie.Need-div-load-component
-div-load-component c = omega (arith, c .cols-of .ensures .0, some-cols (c .before .before .before .args .job .width) (c .before .before .before .pre .0 .picture .wide))
+div-load-component c =
+    let s = c .before .before .before in
+    omega (arith, c .cols-of .ensures .0, some-cols (s .args .job .width) (s .pre .0 .picture .wide))
 
 load-component-requires : tie.Need-load-component-requires
 load-component-requires c κs =
@@ -48,10 +52,13 @@ same-length-2 c = search needs
 returns : tie.Need-returns
 unfolding listOf
 returns c =
-    let a = c .before .before .before .before .before .before .before .before .args in
+    let c1 = c .before .before in
+    let c2 = c1 .before .before .before in
+    let s = c2 .before .before .before in
+    let a = s .args in
     let j = a .job in
-    c .before .before .load-component .ensures ∙
-    ap (λ (n : ℕ). roundedOf (now (a .pixels)) (j .width) (j .height) (j .quant .v) (a .k % n) (a .k / n) (a .c)) (c .before .before .before .before .before .cols-of .ensures .0)
+    c1 .load-component .ensures ∙
+    ap (λ (n : ℕ). roundedOf (now (a .pixels)) (j .width) (j .height) (j .quant .v) (a .k % n) (a .k / n) (a .c)) (c2 .cols-of .ensures .0)
 
 pub load-part-spec : {M : Type 1} → statement M
 load-part-spec =

@@ -45,12 +45,18 @@ same-length-4 c = search needs
 returns-2 : tie.Need-returns-2
 unfolding partOf
 returns-2 c =
-    let a = c .before .before .before .before .before .before .before .before .before .before .before .before .before .before .args in
+    let c1 = c .before .before in
+    let c2 = c1 .before .before in
+    let c3 = c2 .before in
+    let c4 = c3 .before .before .before .before .before in
+    let s = c4 .before .before .before .before in
+    let a = s .args in
     let j = a .job in
-    let m = c .before .before .measure-component in
-    let e = c .before .before .before .before .before .judge .ensures ∙ ap (coefficientsFault (j .quant .v)) (c .before .before .before .before .before .before .before .before .before .before .load-part .ensures) in
-    part-large (j .mode) (j .quant .v) (listIn j (now (a .pixels)) (a .k) (a .c)) (c .before .before .before .before .before .judge .result) e (c .before .before .before .before .if1 .left) (m .result)
-    (subst (λ (x : List ℤ). Measures (componentFault (j .mode) x) (length (bytesOf (j .mode) x)) (m .result)) (c .before .before .before .before .before .before .before .before .before .before .load-part .ensures) (m .ensures)) (c .if2 .taken)
+    let m = c1 .measure-component in
+    let e = c3 .judge .ensures ∙ ap (coefficientsFault (j .quant .v)) (c4 .load-part .ensures) in
+    part-large (j .mode) (j .quant .v) (listIn j (now (a .pixels)) (a .k) (a .c)) (c3 .judge .result) e (c2 .if1 .left) (m .result)
+    (subst (λ (x : List ℤ). Measures (componentFault (j .mode) x) (length (bytesOf (j .mode) x)) (m .result)) (c4 .load-part .ensures) (m .ensures))
+    (c .if2 .taken)
 
 same-length-5 : tie.Need-same-length-5
 same-length-5 c = search needs
@@ -61,12 +67,18 @@ same-length-6 c = search needs
 returns-3 : tie.Need-returns-3
 unfolding partOf
 returns-3 c =
-    let a = c .before .before .before .before .before .before .before .before .before .before .before .before .before .before .args in
+    let c1 = c .before .before in
+    let c2 = c1 .before .before in
+    let c3 = c2 .before in
+    let c4 = c3 .before .before .before .before .before in
+    let s = c4 .before .before .before .before in
+    let a = s .args in
     let j = a .job in
-    let m = c .before .before .measure-component in
-    let e = c .before .before .before .before .before .judge .ensures ∙ ap (coefficientsFault (j .quant .v)) (c .before .before .before .before .before .before .before .before .before .before .load-part .ensures) in
-    part-measured (j .mode) (j .quant .v) (listIn j (now (a .pixels)) (a .k) (a .c)) (c .before .before .before .before .before .judge .result) e (c .before .before .before .before .if1 .left) (m .result)
-    (subst (λ (x : List ℤ). Measures (componentFault (j .mode) x) (length (bytesOf (j .mode) x)) (m .result)) (c .before .before .before .before .before .before .before .before .before .before .load-part .ensures) (m .ensures)) (c .if2 .left)
+    let m = c1 .measure-component in
+    let e = c3 .judge .ensures ∙ ap (coefficientsFault (j .quant .v)) (c4 .load-part .ensures) in
+    part-measured (j .mode) (j .quant .v) (listIn j (now (a .pixels)) (a .k) (a .c)) (c3 .judge .result) e (c2 .if1 .left) (m .result)
+    (subst (λ (x : List ℤ). Measures (componentFault (j .mode) x) (length (bytesOf (j .mode) x)) (m .result)) (c4 .load-part .ensures) (m .ensures))
+    (c .if2 .left)
 
 pub part-size-spec : {M : Type 1} → statement M
 part-size-spec =

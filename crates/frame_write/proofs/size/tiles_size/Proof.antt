@@ -22,32 +22,49 @@ loop-holds : tie.Need-loop-holds Inv-loop μ-loop
 loop-holds c = (omega arith, refl, refl, sizing-start _ _ _ _ _ _)
 
 tile-size-requires : tie.Need-tile-size-requires Inv-loop μ-loop
-tile-size-requires c κs = (still-good (c .before .before .before .before .before .pre .0) (c .before .before .before .loop .inv .1) (c .before .before .before .loop .inv .2), omega (arith, c .before .before .loop-test .taken, c .before .before .before .before .before .pre .1))
+tile-size-requires c κs =
+    let c1 = c .before .before in
+    let c2 = c1 .before in
+    let s = c2 .before .before in
+    (still-good (s .pre .0) (c2 .loop .inv .1) (c2 .loop .inv .2), omega (arith, c1 .loop-test .taken, s .pre .1))
 
 same-length : tie.Need-same-length Inv-loop μ-loop
 same-length c = c .before .before .before .before .tile-size .kept .1 .1 .1 .0 ∙ c .before .before .before .before .before .before .before .before .loop .inv .1
 
 same-length-2 : tie.Need-same-length-2 Inv-loop μ-loop
-same-length-2 c = c .before .before .before .before .tile-size .kept .1 .1 .1 .1 .0 ∙ c .before .before .before .before .before .before .before .before .loop .inv .2
+same-length-2 c =
+    let c1 = c .before .before .before .before in
+    let c2 = c1 .before .before .before .before in
+    c1 .tile-size .kept .1 .1 .1 .1 .0 ∙ c2 .loop .inv .2
 
 returns : tie.Need-returns Inv-loop μ-loop
 returns c =
-    let a = c .before .before .before .before .before .before .before .before .before .before .args in
+    let c1 = c .before .before .before .before in
+    let c2 = c1 .before .before .before in
+    let c3 = c2 .before in
+    let s = c3 .before .before in
+    let a = s .args in
     let j = a .job in
-    let l = c .before .before .before .before .before .before .before .before .loop in
-    let t = c .before .before .before .before .tile-size in
-    sizing-stops (now (a .pixels)) (j .width) (j .height) (j .mode) (j .quant .v) (a .n) (l .i) (l .total) (t .result) (c .before .before .before .before .before .before .before .loop-test .taken) (l .inv .3) (t .ensures) (c .if1 .taken)
+    let l = c3 .loop in
+    let t = c1 .tile-size in
+    sizing-stops (now (a .pixels)) (j .width) (j .height) (j .mode) (j .quant .v) (a .n) (l .i) (l .total) (t .result) (c2 .loop-test .taken) (l .inv .3)
+    (t .ensures) (c .if1 .taken)
 
 add-total : tie.Need-add-total Inv-loop μ-loop
 add-total c =
-    let s = c .before .before .before .before .before .before .before .before .before .before .before in
+    let c1 = c .before in
+    let c2 = c1 .before .before .before .before in
+    let c3 = c2 .before .before .before in
+    let c4 = c3 .before in
+    let s = c4 .before .before in
     let a = s .args in
     let j = a .job in
-    let l = c .before .before .before .before .before .before .before .before .before .loop in
-    let t = c .before .before .before .before .before .tile-size in
+    let l = c4 .loop in
+    let t = c2 .tile-size in
     let g = s .pre .0 .picture in
-    let m = sizing-next (now (a .pixels)) (j .width) (j .height) (j .mode) (j .quant .v) (a .n) (l .i) (l .total) (t .result) (c .before .before .before .before .before .before .before .before .loop-test .taken) (l .inv .3) (t .ensures) (c .before .if1 .left) in
-    omega (arith, m .1, c .before .before .before .before .before .before .before .before .loop-test .taken, few (j .width) (j .height) (g .wider) (g .higher), s .pre .1)
+    let m = sizing-next (now (a .pixels)) (j .width) (j .height) (j .mode) (j .quant .v) (a .n) (l .i) (l .total) (t .result) (c3 .loop-test .taken)
+    (l .inv .3) (t .ensures) (c1 .if1 .left) in
+    omega (arith, m .1, c3 .loop-test .taken, few (j .width) (j .height) (g .wider) (g .higher), s .pre .1)
 
 add-i : tie.Need-add-i Inv-loop μ-loop
 add-i c = omega (arith, c .before .before .before .before .before .before .before .before .loop-test .taken)
@@ -57,14 +74,20 @@ loop-less c = omega (arith, c .before .before .before .before .before .before .b
 
 loop-again : tie.Need-loop-again Inv-loop μ-loop
 loop-again c =
-    let a = c .before .before .before .before .before .before .before .before .before .before .before .args in
+    let c1 = c .before in
+    let c2 = c1 .before .before .before .before in
+    let c3 = c2 .before .before .before in
+    let c4 = c3 .before in
+    let s = c4 .before .before in
+    let a = s .args in
     let j = a .job in
-    let l = c .before .before .before .before .before .before .before .before .before .loop in
-    let t = c .before .before .before .before .before .tile-size in (
-      omega (arith, c .before .before .before .before .before .before .before .before .loop-test .taken),
+    let l = c4 .loop in
+    let t = c2 .tile-size in (
+      omega (arith, c3 .loop-test .taken),
       t .kept .1 .1 .1 .0 ∙ l .inv .1,
       t .kept .1 .1 .1 .1 .0 ∙ l .inv .2,
-      sizing-next (now (a .pixels)) (j .width) (j .height) (j .mode) (j .quant .v) (a .n) (l .i) (l .total) (t .result) (c .before .before .before .before .before .before .before .before .loop-test .taken) (l .inv .3) (t .ensures) (c .before .if1 .left) .0,
+      sizing-next (now (a .pixels)) (j .width) (j .height) (j .mode) (j .quant .v) (a .n) (l .i) (l .total) (t .result) (c3 .loop-test .taken) (l .inv .3)
+          (t .ensures) (c1 .if1 .left) .0,
     )
 
 same-length-3 : tie.Need-same-length-3 Inv-loop μ-loop
