@@ -1,5 +1,6 @@
 // The frame call of document 01 over the record by value ("Order. Frame call", "Numbers the fitter sees"): the record (12), the
 // lent memory (2), every block and every tile with its codes, and only then the picture. Work lists are left with zeros.
+use frame_draw::tiles::Drawing;
 use session::Session;
 ghost use mathlib.Core.Path.{_≡_};
 ghost use Prim.Native.Nat.{_+_, _*_, _≤_, _<_};
@@ -120,7 +121,13 @@ fn draw_frame(
     ensures shows { λ _. ⌜ now (picture .exit) ≡ framed mode w h (now (m .entry)) (now (picture .entry)) ⌝ }
 {
     let sp = 14 + wire::le32_at(m, 16);
-    frame_draw::tiles::show(picture, mode, w, h, m, sp, ys, cbs, crs, tmp);
+    let draw = Drawing {
+        mode: mode,
+        width: w,
+        height: h,
+        set: sp,
+    };
+    frame_draw::tiles::show(picture, draw, m, ys, cbs, crs, tmp);
     wire::le16_at(m, sp + 16)
 }
 

@@ -1,5 +1,5 @@
 -- What a tile shows: its three components' samples and its words. sets gives the five bytes of a quantiser set by its number.
-use Prim.Native.Nat.{ℕ}
+use Prim.Native.Nat.{ℕ, _*_, _≤_}
 use mathlib.Core.Path.{_≡_}
 use mathlib.Core.List.{List}
 use lib.IntN.{ℤ}
@@ -8,7 +8,10 @@ use Rattle.frame_layout.specs.Bytes.{Tile}
 use Rattle.bands.specs.Bands.{quantOf}
 use Rattle.tile_back.specs.Component.{samplesOf}
 use Rattle.tile_back.specs.Word.{wordAt}
+use Rattle.frame_blocks.specs.Blocks.{RegionGood}
+use Rattle.frame_blocks.specs.Judged.{SetSound}
 use Rattle.frame_blocks.specs.Tiles.{indexOf, codeOf}
+use Rattle.frame_draw.specs.declared.tiles.Drawing.{Drawing}
 
 -- the samples of component k (0, 1, 2: Y, Cb, Cr) of a tile
 unfoldable pub planeOf : ℕ → (ℕ → List ℕ) → Tile → ℕ → List ℤ
@@ -24,6 +27,12 @@ pub record Lists (y cb cr tmp : List ℤ) : Type 0 where
   pub cb-len : length cb ≡ 4096
   pub cr-len : length cr ≡ 4096
   pub tmp-len : length tmp ≡ 4096
+
+-- a message that can be drawn: its region (at 14) and its tileset's front were checked, and the picture has all of the channel
+pub record Drawable (draw : Drawing) (m picture : List ℕ) : Type 0 where
+  pub region : RegionGood m 14
+  pub set : SetSound m (draw .set)
+  pub room : draw .height * draw .width ≤ length picture
 
 -- three lists that hold a tile's samples
 pub record Sampled (mode : ℕ) (sets : ℕ → List ℕ) (t : Tile) (y cb cr : List ℤ) : Type 0 where

@@ -16,10 +16,14 @@ use Rattle.tile_back.specs.laws.Word.{samples-plane}
 use Rattle.frame_blocks.specs.Tiles.{indexOf, codeOf, TileSound}
 use Rattle.frame_blocks.specs.laws.Tiles.{sound-part}
 use Rattle.frame_blocks.specs.Judged.{judged, inSet}
-use Rattle.frame_draw.specs.Show.{Lists, Sampled, planeOf, tileWord}
+use Rattle.frame_draw.specs.Show.{Lists, Drawable, Sampled, planeOf, tileWord}
+use Rattle.frame_draw.specs.declared.tiles.Drawing.{Drawing}
 
 pub lists-kept : (y cb cr tmp y′ cb′ cr′ tmp′ : List ℤ) → Lists y cb cr tmp → length y′ ≡ length y → length cb′ ≡ length cb → length cr′ ≡ length cr → length tmp′ ≡ length tmp → Lists y′ cb′ cr′ tmp′
 lists-kept y cb cr tmp y′ cb′ cr′ tmp′ l a b c t = record { y-len = a ∙ l .y-len; cb-len = b ∙ l .cb-len; cr-len = c ∙ l .cr-len; tmp-len = t ∙ l .tmp-len }
+
+pub drawable-kept : {draw : Drawing} {m p p′ : List ℕ} → Drawable draw m p → length p′ ≡ length p → Drawable draw m p′
+drawable-kept d e = let r = d .room in record { region = d .region; set = d .set; room = omega arith }
 
 -- the samples of a sound component are a plane
 pub part-plane :

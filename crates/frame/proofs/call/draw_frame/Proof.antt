@@ -1,3 +1,4 @@
+-- `draw_frame` meets its contract: a message without a fault can be drawn, and has as many tiles as its tileset says. Assumes nothing.
 use native.Mathlib.Omega.{arith}
 use denote.Ref.{now}
 use Rattle.frame_layout.specs.Reader.{sizeAt, tileCount}
@@ -5,28 +6,41 @@ use Rattle.frame.specs.laws.Frame.{message-good, drawn-set, drawn-tiles,
 use borrow.Author.Needs.{needs}
 use Rattle.frame.proofs.call.draw_frame.Statement.{statement}
 use Rattle.frame.proofs.call.draw_frame.Tie as tie
-use Rattle.frame.proofs.call.draw_frame.Reads as reads
-use Rattle.frame.proofs.call.draw_frame.Lts as lts
-use Rattle.frame_draw.proofs.tiles.show.Reads as show-reads
-use Rattle.wire.proofs.le16_at.Reads as le16-at-reads
-use Rattle.wire.proofs.le32_at.Reads as le32-at-reads
 
 le32-at-requires : tie.Need-le32-at-requires
-le32-at-requires c κs = let g = message-good (c .before .before .args .w) (c .before .before .args .h) (c .before .before .args .mode) (now (c .before .before .args .m)) (c .before .before .pre .1) in omega (arith, g .front .region .there, g .front .region .size)
+le32-at-requires c κs =
+    let s = c .before .before in
+    let a = s .args in
+    let g = message-good (a .w) (a .h) (a .mode) (now (a .m)) (s .pre .1) in
+    omega (arith, g .front .region .there, g .front .region .size)
 
 add-sp : tie.Need-add-sp
 add-sp c = search needs
 
 show-requires : tie.Need-show-requires
 unfolding sizeAt
-show-requires c κs = (c .before .before .before .before .before .before .before .before .pre .0, message-good (c .before .before .before .before .before .before .before .before .args .w) (c .before .before .before .before .before .before .before .before .args .h) (c .before .before .before .before .before .before .before .before .args .mode) (now (c .before .before .before .before .before .before .before .before .args .m)) (c .before .before .before .before .before .before .before .before .pre .1) .front .region, drawn-set (c .before .before .before .before .before .before .before .before .args .w) (c .before .before .before .before .before .before .before .before .args .h) (c .before .before .before .before .before .before .before .before .args .mode) (now (c .before .before .before .before .before .before .before .before .args .m)) (message-good (c .before .before .before .before .before .before .before .before .args .w) (c .before .before .before .before .before .before .before .before .args .h) (c .before .before .before .before .before .before .before .before .args .mode) (now (c .before .before .before .before .before .before .before .before .args .m)) (c .before .before .before .before .before .before .before .before .pre .1)) (c .before .before .before .before .before .le32-at .result) (c .before .before .before .before .before .le32-at .ensures .0), drawn-tiles (c .before .before .before .before .before .before .before .before .args .w) (c .before .before .before .before .before .before .before .before .args .h) (c .before .before .before .before .before .before .before .before .args .mode) (now (c .before .before .before .before .before .before .before .before .args .m)) (message-good (c .before .before .before .before .before .before .before .before .args .w) (c .before .before .before .before .before .before .before .before .args .h) (c .before .before .before .before .before .before .before .before .args .mode) (now (c .before .before .before .before .before .before .before .before .args .m)) (c .before .before .before .before .before .before .before .before .pre .1)) (c .before .before .before .before .before .le32-at .result) (c .before .before .before .before .before .le32-at .ensures .0), c .before .before .before .before .before .before .before .before .pre .2)
+show-requires c κs =
+    let s = c .before .before .before .before .before .before .before .before in
+    let a = s .args in
+    let r = c .before .before .before .before .before .le32-at in
+    let g = message-good (a .w) (a .h) (a .mode) (now (a .m)) (s .pre .1) in (
+      s .pre .0,
+      record { region = g .front .region; set = drawn-set (a .w) (a .h) (a .mode) (now (a .m)) g (r .result) (r .ensures .0); room = s .pre .2 },
+      drawn-tiles (a .w) (a .h) (a .mode) (now (a .m)) g (r .result) (r .ensures .0),
+    )
 
 add-le16-at : tie.Need-add-le16-at
 add-le16-at c = search needs
 
 le16-at-requires : tie.Need-le16-at-requires
 unfolding sizeAt
-le16-at-requires c κs = let g = drawn-set (c .before .before .before .before .before .before .before .before .before .before .before .before .before .before .before .args .w) (c .before .before .before .before .before .before .before .before .before .before .before .before .before .before .before .args .h) (c .before .before .before .before .before .before .before .before .before .before .before .before .before .before .before .args .mode) (now (c .before .before .before .before .before .before .before .before .before .before .before .before .before .before .before .args .m)) (message-good (c .before .before .before .before .before .before .before .before .before .before .before .before .before .before .before .args .w) (c .before .before .before .before .before .before .before .before .before .before .before .before .before .before .before .args .h) (c .before .before .before .before .before .before .before .before .before .before .before .before .before .before .before .args .mode) (now (c .before .before .before .before .before .before .before .before .before .before .before .before .before .before .before .args .m)) (c .before .before .before .before .before .before .before .before .before .before .before .before .before .before .before .pre .1)) (c .before .before .before .before .before .before .before .before .before .before .before .before .le32-at .result) (c .before .before .before .before .before .before .before .before .before .before .before .before .le32-at .ensures .0) in omega (arith, g .good .there, g .good .size)
+le16-at-requires c κs =
+    let s = c .before .before .before .before .before .before .before .before .before .before .before .before .before .before .before in
+    let a = s .args in
+    let r = c .before .before .before .before .before .before .before .before .before .before .before .before .le32-at in
+    let m = message-good (a .w) (a .h) (a .mode) (now (a .m)) (s .pre .1) in
+    let g = drawn-set (a .w) (a .h) (a .mode) (now (a .m)) m (r .result) (r .ensures .0) in
+    omega (arith, g .good .there, g .good .size)
 
 same-length : tie.Need-same-length
 same-length c = search needs
@@ -45,7 +59,14 @@ same-length-5 c = search needs
 
 returns : tie.Need-returns
 unfolding sizeAt tileCount
-returns c = (drawn-count (c .before .before .before .before .before .before .before .before .before .before .before .before .before .before .before .before .args .w) (c .before .before .before .before .before .before .before .before .before .before .before .before .before .before .before .before .args .h) (c .before .before .before .before .before .before .before .before .before .before .before .before .before .before .before .before .args .mode) (now (c .before .before .before .before .before .before .before .before .before .before .before .before .before .before .before .before .args .m)) (message-good (c .before .before .before .before .before .before .before .before .before .before .before .before .before .before .before .before .args .w) (c .before .before .before .before .before .before .before .before .before .before .before .before .before .before .before .before .args .h) (c .before .before .before .before .before .before .before .before .before .before .before .before .before .before .before .before .args .mode) (now (c .before .before .before .before .before .before .before .before .before .before .before .before .before .before .before .before .args .m)) (c .before .before .before .before .before .before .before .before .before .before .before .before .before .before .before .before .pre .1)) (c .before .before .before .before .before .before .before .before .before .before .before .before .before .le32-at .result) (c .before .before .before .before .before .before .before .before .before .before .before .before .before .le32-at .ensures .0) _ (c .le16-at .ensures .0), drawn-picture (c .before .before .before .before .before .before .before .before .before .before .before .before .before .before .before .before .args .w) (c .before .before .before .before .before .before .before .before .before .before .before .before .before .before .before .before .args .h) (c .before .before .before .before .before .before .before .before .before .before .before .before .before .before .before .before .args .mode) (now (c .before .before .before .before .before .before .before .before .before .before .before .before .before .before .before .before .args .m)) (message-good (c .before .before .before .before .before .before .before .before .before .before .before .before .before .before .before .before .args .w) (c .before .before .before .before .before .before .before .before .before .before .before .before .before .before .before .before .args .h) (c .before .before .before .before .before .before .before .before .before .before .before .before .before .before .before .before .args .mode) (now (c .before .before .before .before .before .before .before .before .before .before .before .before .before .before .before .before .args .m)) (c .before .before .before .before .before .before .before .before .before .before .before .before .before .before .before .before .pre .1)) (c .before .before .before .before .before .before .before .before .before .before .before .before .before .le32-at .result) (c .before .before .before .before .before .before .before .before .before .before .before .before .before .le32-at .ensures .0) _ _ (c .before .before .before .before .before .before .before .show .ensures))
+returns c =
+    let s = c .before .before .before .before .before .before .before .before .before .before .before .before .before .before .before .before in
+    let a = s .args in
+    let r = c .before .before .before .before .before .before .before .before .before .before .before .before .before .le32-at in
+    let g = message-good (a .w) (a .h) (a .mode) (now (a .m)) (s .pre .1) in (
+      drawn-count (a .w) (a .h) (a .mode) (now (a .m)) g (r .result) (r .ensures .0) _ (c .le16-at .ensures .0),
+      drawn-picture (a .w) (a .h) (a .mode) (now (a .m)) g (r .result) (r .ensures .0) _ _ (c .before .before .before .before .before .before .before .show .ensures),
+    )
 
 pub draw-frame-spec : {M : Type 1} → statement M
 draw-frame-spec =

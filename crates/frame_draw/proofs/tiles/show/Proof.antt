@@ -1,37 +1,23 @@
-use mathlib.Core.Path.{ap, _∙_}
+-- `show` meets its contract: the tiles of a checked tileset, as many as it says, are shown. Assumes nothing.
+use mathlib.Core.Path.{_∙_}
 use native.Mathlib.Omega.{arith}
-use denote.Ref.{now}
-use lib.ListN.{length}
-use Rattle.frame_layout.specs.Reader.{rectCount, tileCount}
-use Rattle.frame_draw.specs.laws.Show.{rects-length}
+use Rattle.frame_layout.specs.Reader.{tileCount}
 use borrow.Author.Needs.{needs}
 use Rattle.frame_draw.proofs.tiles.show.Statement.{statement}
 use Rattle.frame_draw.proofs.tiles.show.Tie as tie
-use Rattle.frame_draw.proofs.tiles.show.Reads as reads
-use Rattle.frame_draw.proofs.tiles.show.Lts as lts
-use Rattle.frame_blocks.proofs.block.rects.Reads as rects-reads
-use Rattle.frame_blocks.proofs.block.tile_data.Reads as tile-data-reads
-use Rattle.frame_draw.proofs.tiles.show_tiles.Reads as show-tiles-reads
-use Rattle.wire.proofs.le16_at.Reads as le16-at-reads
-
-le16-at-requires : tie.Need-le16-at-requires
-le16-at-requires c κs = search needs
-
-rects-requires : tie.Need-rects-requires
-rects-requires c κs = search needs
 
 add-le16-at : tie.Need-add-le16-at
-add-le16-at c = search needs
+add-le16-at c = let g = c .before .before .pre .1 .set .good in omega (arith, g .there, g .size, c .before .before .good)
 
-le16-at-requires-2 : tie.Need-le16-at-requires-2
-le16-at-requires-2 c κs = search needs
+le16-at-requires : tie.Need-le16-at-requires
+le16-at-requires c κs = let g = c .before .before .pre .1 .set .good in omega (arith, g .there, g .size)
 
 tile-data-requires : tie.Need-tile-data-requires
-tile-data-requires c κs = search needs
+tile-data-requires c κs = c .before .before .before .pre .1 .set .good
 
 show-tiles-requires : tie.Need-show-tiles-requires
-unfolding tileCount rectCount
-show-tiles-requires c κs = (c .before .before .before .before .before .before .before .before .before .before .before .pre .0, c .before .before .before .before .before .before .before .before .before .before .before .pre .2, rw (c .before .before .before .before .before .tile-data .ensures, c .before .before .before .before .before .before .le16-at2 .ensures .0) (c .before .before .before .before .before .before .before .before .before .before .before .pre .3), c .before .before .before .before .before .before .before .before .before .before .before .pre .4, omega (arith, rects-length (now (c .before .before .before .before .before .before .before .before .before .before .before .args .m)) 14 (c .before .before .before .before .before .before .before .before .before .before .before .pre .1), ap length (c .before .before .before .before .before .before .before .rects .ensures), c .before .before .before .before .before .before .before .before .le16-at .ensures .0))
+unfolding tileCount
+show-tiles-requires c κs = let s = c .before .before .before .before .before .before .before .before .before in (s .pre .0, s .pre .1, rw (c .before .before .before .before .before .tile-data .ensures, c .before .before .before .before .before .before .le16-at .ensures .0) (s .pre .2))
 
 same-length : tie.Need-same-length
 same-length c = search needs
@@ -49,17 +35,15 @@ same-length-5 : tie.Need-same-length-5
 same-length-5 c = search needs
 
 returns : tie.Need-returns
-unfolding tileCount rectCount
-returns c = c .before .before .before .before .before .before .show-tiles .ensures ∙ rw (c .before .before .before .before .before .before .before .before .before .before .before .before .before .before .rects .ensures, c .before .before .before .before .before .before .before .before .before .before .before .before .before .before .before .le16-at .ensures .0, c .before .before .before .before .before .before .before .before .before .before .before .before .tile-data .ensures, c .before .before .before .before .before .before .before .before .before .before .before .before .before .le16-at2 .ensures .0)
+unfolding tileCount
+returns c = c .before .before .before .before .before .before .show-tiles .ensures ∙ rw (c .before .before .before .before .before .before .before .before .before .before .before .before .tile-data .ensures, c .before .before .before .before .before .before .before .before .before .before .before .before .before .le16-at .ensures .0)
 
 pub show-spec : {M : Type 1} → statement M
 show-spec =
     tie.close
     (tie.spec
-    le16-at-requires
-    rects-requires
     add-le16-at
-    le16-at-requires-2
+    le16-at-requires
     tile-data-requires
     show-tiles-requires
     same-length

@@ -1,18 +1,17 @@
+-- `show_tile` meets its contract: a sound tile's samples are planes (`part-plane`), and what is drawn of them are the tile's words (`tile-shown`).
+-- Assumes nothing.
+use mathlib.Core.Path.{ap, _∙_}
 use native.Mathlib.Omega.{arith}
+use lib.ListN.{length}
 use denote.Ref.{now}
-use Rattle.frame_layout.specs.Reader.{tileAt}
-use Rattle.frame_draw.specs.laws.Show.{part-plane, tile-shown}
+use Rattle.frame_layout.specs.Reader.{tileAt, rectCount}
+use Rattle.frame_draw.specs.laws.Show.{part-plane, tile-shown, rects-length}
 use borrow.Author.Needs.{needs}
 use Rattle.frame_draw.proofs.tiles.show_tile.Statement.{statement}
 use Rattle.frame_draw.proofs.tiles.show_tile.Tie as tie
-use Rattle.frame_draw.proofs.tiles.show_tile.Reads as reads
-use Rattle.frame_draw.proofs.tiles.show_tile.Lts as lts
-use Rattle.frame_draw.proofs.paint.paint_tile.Reads as paint-tile-reads
-use Rattle.frame_draw.proofs.tiles.tile_samples.Reads as tile-samples-reads
-use Rattle.wire.proofs.le16_at.Reads as le16-at-reads
 
 tile-samples-requires : tie.Need-tile-samples-requires
-tile-samples-requires c κs = search needs
+tile-samples-requires c κs = let s = c .before .before .before .before .before .before .before in (s .pre .0, s .pre .1 .set, s .pre .2)
 
 add-le16-at : tie.Need-add-le16-at
 add-le16-at c = search needs
@@ -26,8 +25,28 @@ add-le16-at-2 c = search needs
 le16-at-requires-2 : tie.Need-le16-at-requires-2
 le16-at-requires-2 c κs = search needs
 
+le16-at-requires-3 : tie.Need-le16-at-requires-3
+le16-at-requires-3 c κs = let r = c .before .before .before .before .before .before .before .before .before .before .before .before .before .before .pre .1 .region in omega (arith, r .there, r .size)
+
+rects-requires : tie.Need-rects-requires
+rects-requires c κs = c .before .before .before .before .before .before .before .before .before .before .before .before .before .before .before .pre .1 .region
+
 paint-tile-requires : tie.Need-paint-tile-requires
-paint-tile-requires c κs = (c .before .before .before .before .before .before .before .before .before .before .before .before .before .before .before .before .before .before .before .pre .3, c .before .before .before .before .before .before .before .before .before .before .before .before .before .before .before .before .before .before .before .pre .4, c .before .before .before .before .before .le16-at .ensures .1, c .before .before .before .before .le16-at2 .ensures .1, part-plane (c .before .before .before .before .before .before .before .before .before .before .before .before .before .before .before .before .before .before .before .args .mode) (now (c .before .before .before .before .before .before .before .before .before .before .before .before .before .before .before .before .before .before .before .args .m)) (c .before .before .before .before .before .before .before .before .before .before .before .before .before .before .before .before .before .before .before .args .sp) _ (now (c .before .before .before .before .before .before .before .before .before .before .before .before .before .before .before .before .before .before .before .args .d)) (c .before .before .before .before .before .before .before .before .before .before .before .before .before .before .before .before .before .before .before .args .at) 0 _ (c .before .before .before .before .before .before .before .before .before .before .before .before .before .before .before .before .before .before .before .pre .2) (omega arith) (c .before .before .before .before .before .before .before .before .before .before .tile-samples .ensures .y-is), part-plane (c .before .before .before .before .before .before .before .before .before .before .before .before .before .before .before .before .before .before .before .args .mode) (now (c .before .before .before .before .before .before .before .before .before .before .before .before .before .before .before .before .before .before .before .args .m)) (c .before .before .before .before .before .before .before .before .before .before .before .before .before .before .before .before .before .before .before .args .sp) _ (now (c .before .before .before .before .before .before .before .before .before .before .before .before .before .before .before .before .before .before .before .args .d)) (c .before .before .before .before .before .before .before .before .before .before .before .before .before .before .before .before .before .before .before .args .at) 1 _ (c .before .before .before .before .before .before .before .before .before .before .before .before .before .before .before .before .before .before .before .pre .2) (omega arith) (c .before .before .before .before .before .before .before .before .before .before .tile-samples .ensures .cb-is), part-plane (c .before .before .before .before .before .before .before .before .before .before .before .before .before .before .before .before .before .before .before .args .mode) (now (c .before .before .before .before .before .before .before .before .before .before .before .before .before .before .before .before .before .before .before .args .m)) (c .before .before .before .before .before .before .before .before .before .before .before .before .before .before .before .before .before .before .before .args .sp) _ (now (c .before .before .before .before .before .before .before .before .before .before .before .before .before .before .before .before .before .before .before .args .d)) (c .before .before .before .before .before .before .before .before .before .before .before .before .before .before .before .before .before .before .before .args .at) 2 _ (c .before .before .before .before .before .before .before .before .before .before .before .before .before .before .before .before .before .before .before .pre .2) (omega arith) (c .before .before .before .before .before .before .before .before .before .before .tile-samples .ensures .cr-is))
+unfolding rectCount
+paint-tile-requires c κs =
+    let s = c .before .before .before .before .before .before .before .before .before .before .before .before .before .before .before .before .before .before .before .before in
+    let a = s .args in
+    let d = a .draw in
+    let p = part-plane (d .mode) (now (a .m)) (d .set) _ (now (a .d)) (a .at) in
+    let t = c .before .before .before .before .before .before .before .before .before .before .before .before .tile-samples .ensures in (
+      s .pre .1 .room,
+      omega (arith, rects-length (now (a .m)) 14 (s .pre .1 .region), ap length (c .before .before .before .before .rects .ensures), c .before .before .before .before .before .le16-at3 .ensures .0),
+      c .before .before .before .before .before .before .before .le16-at .ensures .1,
+      c .before .before .before .before .before .before .le16-at2 .ensures .1,
+      p 0 _ (s .pre .2) (omega arith) (t .y-is),
+      p 1 _ (s .pre .2) (omega arith) (t .cb-is),
+      p 2 _ (s .pre .2) (omega arith) (t .cr-is),
+    )
 
 same-length : tie.Need-same-length
 same-length c = search needs
@@ -45,8 +64,11 @@ same-length-5 : tie.Need-same-length-5
 same-length-5 c = search needs
 
 returns : tie.Need-returns
-unfolding tileAt
-returns c = tile-shown _ _ _ _ _ _ (tileAt (now (c .before .before .before .before .before .before .before .before .before .before .before .before .before .before .before .before .before .before .before .before .before .before .args .d)) (c .before .before .before .before .before .before .before .before .before .before .before .before .before .before .before .before .before .before .before .before .before .before .args .at)) _ _ _ _ _ _ _ (c .before .before .before .before .before .before .before .before .before .before .before .before .before .tile-samples .ensures) (c .before .before .before .before .before .before .before .before .le16-at .ensures .0) (c .before .before .before .before .before .before .before .le16-at2 .ensures .0) (c .before .before .paint-tile .ensures)
+unfolding tileAt rectCount
+returns c =
+    let a = c .before .before .before .before .before .before .before .before .before .before .before .before .before .before .before .before .before .before .before .before .before .before .before .args in
+    tile-shown _ _ _ _ _ _ (tileAt (now (a .d)) (a .at)) _ _ _ _ _ _ _ (c .before .before .before .before .before .before .before .before .before .before .before .before .before .before .before .tile-samples .ensures) (c .before .before .before .before .before .before .before .before .before .before .le16-at .ensures .0) (c .before .before .before .before .before .before .before .before .before .le16-at2 .ensures .0) (c .before .before .paint-tile .ensures) ∙
+    rw (c .before .before .before .before .before .before .before .rects .ensures, c .before .before .before .before .before .before .before .before .le16-at3 .ensures .0)
 
 pub show-tile-spec : {M : Type 1} → statement M
 show-tile-spec =
@@ -57,6 +79,8 @@ show-tile-spec =
     le16-at-requires
     add-le16-at-2
     le16-at-requires-2
+    le16-at-requires-3
+    rects-requires
     paint-tile-requires
     same-length
     same-length-2
