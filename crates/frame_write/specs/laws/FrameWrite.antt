@@ -25,7 +25,7 @@ use Rattle.bands.specs.laws.Band.{good-set}
 use Rattle.code_write.specs.declared.call.Sized.{Sized}
 use Rattle.frame_pieces.specs.Parts.{tilesNo}
 use Rattle.frame_pieces.specs.laws.Parts.{frame-long}
-use Rattle.frame_write.specs.Encode.{tileP, refusals, frameP, Picture}
+use Rattle.frame_write.specs.Encode.{tileP, refusals, frameP}
 use Rattle.frame_write.specs.FrameWrite.{pixelsGood, argFault, sendFault, workLeft, FrameWritten}
 use Rattle.frame_write.specs.Job.{ArgsGood, Sizes}
 use Rattle.frame_write.specs.laws.Encode.{size-done}

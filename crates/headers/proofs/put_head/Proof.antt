@@ -21,7 +21,12 @@ same-length c = search needs
 
 returns : tie.Need-returns
 unfolding bytes16 bytes32 patch
-returns c = patch-refill _ _ _ (bytes16 (c .before .before .before .before .before .before .before .before .before .args .kind) ++ bytes32 0) (bytes32 (c .before .before .before .before .before .before .before .before .before .args .size)) (c .before .before .before .before .before .before .before .before .before .args .at) 2 (c .before .before .before .before .before .before .open-block .ensures) (c .before .before .put32-at .ensures) (omega arith) (omega arith)
+returns c =
+    let c1 = c .before .before in
+    let c2 = c1 .before .before .before .before in
+    let s = c2 .before .before .before in
+    patch-refill _ _ _ (bytes16 (s .args .kind) ++ bytes32 0) (bytes32 (s .args .size)) (s .args .at) 2 (c2 .open-block .ensures) (c1 .put32-at .ensures)
+    (omega arith) (omega arith)
 
 pub put-head-spec : {M : Type 1} → statement M
 put-head-spec = tie.close (tie.spec open-block-requires add-put32-at put32-at-requires same-length returns)
