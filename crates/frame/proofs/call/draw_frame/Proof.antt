@@ -60,12 +60,14 @@ same-length-5 c = search needs
 returns : tie.Need-returns
 unfolding sizeAt tileCount
 returns c =
-    let s = c .before .before .before .before .before .before .before .before .before .before .before .before .before .before .before .before in
+    let c1 = c .before .before .before .before .before .before .before in
+    let c2 = c1 .before .before .before .before .before .before in
+    let s = c2 .before .before .before in
     let a = s .args in
-    let r = c .before .before .before .before .before .before .before .before .before .before .before .before .before .le32-at in
+    let r = c2 .le32-at in
     let g = message-good (a .w) (a .h) (a .mode) (now (a .m)) (s .pre .1) in (
       drawn-count (a .w) (a .h) (a .mode) (now (a .m)) g (r .result) (r .ensures .0) _ (c .le16-at .ensures .0),
-      drawn-picture (a .w) (a .h) (a .mode) (now (a .m)) g (r .result) (r .ensures .0) _ _ (c .before .before .before .before .before .before .before .show .ensures),
+      drawn-picture (a .w) (a .h) (a .mode) (now (a .m)) g (r .result) (r .ensures .0) _ _ (c1 .show .ensures),
     )
 
 pub draw-frame-spec : {M : Type 1} → statement M

@@ -41,7 +41,8 @@ joined c =
     (λ v. case-no _ _ _ _ (le-ltb _ _ (v .0 .left)) (v .1))
     (c .if1 .came)
 
-same : (c : tie.Joined1 Inv-loop μ-loop) → length (c .if1 .picture) ≡ length (now (c .before .before .before .before .before .before .before .before .args .picture))
+same : (c : tie.Joined1 Inv-loop μ-loop) →
+    length (c .if1 .picture) ≡ length (now (c .before .before .before .before .before .before .before .before .args .picture))
 same c =
     ⊎-elim (λ v. ap length (v .5) ∙ v .2 .kept .0) (λ v. ap length (v .1)) (c .if1 .came)
     ∙ c .before .before .before .before .loop .inv .1

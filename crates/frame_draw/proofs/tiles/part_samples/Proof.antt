@@ -1,11 +1,8 @@
 -- `part_samples` meets its contract: the component's set lies in the message (`set-fits`) and is the definition's (`set-is`). Assumes nothing.
-use Prim.Native.Nat.{_+_, _*_, _≤_}
 use mathlib.Core.Path.{_∙_, subst⁻¹}
 use native.Mathlib.Omega.{arith}
-use lib.ListN.{length}
 use denote.Ref.{now}
 use Rattle.bands.specs.Bands.{QuantGood}
-use Rattle.frame_blocks.specs.Tiles.{indexOf}
 use Rattle.frame_blocks.specs.laws.Tiles.{index-below, sound-part}
 use Rattle.frame_blocks.specs.Judged.{inSet, judged}
 use Rattle.frame_blocks.specs.laws.Judged.{set-fits, set-values, set-is}
@@ -75,8 +72,13 @@ same-length-2 c = search needs
 returns : tie.Need-returns
 unfolding planeOf
 returns c =
-    let a = c .before .before .before .before .before .before .before .before .before .before .before .args in
-    c .before .before .samples .ensures ∙ rw (set-is (now (a .m)) (a .draw .set) _ _ _ (c .before .before .before .before .before .before .quant-at .ensures) (c .before .before .before .before .before .before .before .before .quant-index .ensures), c .before .before .before .before .before .code-part .ensures)
+    let c1 = c .before .before in
+    let c2 = c1 .before .before .before in
+    let c3 = c2 .before in
+    let c4 = c3 .before .before in
+    let s = c4 .before .before .before in
+    let a = s .args in
+    c1 .samples .ensures ∙ rw (set-is (now (a .m)) (a .draw .set) _ _ _ (c3 .quant-at .ensures) (c4 .quant-index .ensures), c2 .code-part .ensures)
 
 pub part-samples-spec : {M : Type 1} → statement M
 part-samples-spec =

@@ -17,7 +17,11 @@ tile-data-requires c κs = c .before .before .before .pre .1 .set .good
 
 show-tiles-requires : tie.Need-show-tiles-requires
 unfolding tileCount
-show-tiles-requires c κs = let s = c .before .before .before .before .before .before .before .before .before in (s .pre .0, s .pre .1, rw (c .before .before .before .before .before .tile-data .ensures, c .before .before .before .before .before .before .le16-at .ensures .0) (s .pre .2))
+show-tiles-requires c κs =
+    let c1 = c .before .before .before .before .before in
+    let c2 = c1 .before in
+    let s = c2 .before .before .before in
+    (s .pre .0, s .pre .1, rw (c1 .tile-data .ensures, c2 .le16-at .ensures .0) (s .pre .2))
 
 same-length : tie.Need-same-length
 same-length c = search needs
@@ -36,7 +40,11 @@ same-length-5 c = search needs
 
 returns : tie.Need-returns
 unfolding tileCount
-returns c = c .before .before .before .before .before .before .show-tiles .ensures ∙ rw (c .before .before .before .before .before .before .before .before .before .before .before .before .tile-data .ensures, c .before .before .before .before .before .before .before .before .before .before .before .before .before .le16-at .ensures .0)
+returns c =
+    let c1 = c .before .before .before .before .before .before in
+    let c2 = c1 .before .before .before .before .before .before in
+    let c3 = c2 .before in
+    c1 .show-tiles .ensures ∙ rw (c2 .tile-data .ensures, c3 .le16-at .ensures .0)
 
 pub show-spec : {M : Type 1} → statement M
 show-spec =

@@ -26,7 +26,9 @@ le16-at-requires-2 : tie.Need-le16-at-requires-2
 le16-at-requires-2 c κs = search needs
 
 le16-at-requires-3 : tie.Need-le16-at-requires-3
-le16-at-requires-3 c κs = let r = c .before .before .before .before .before .before .before .before .before .before .before .before .before .before .pre .1 .region in omega (arith, r .there, r .size)
+le16-at-requires-3 c κs =
+    let s = c .before .before .before .before .before .before .before .before .before .before .before .before .before .before in
+    let r = s .pre .1 .region in omega (arith, r .there, r .size)
 
 rects-requires : tie.Need-rects-requires
 rects-requires c κs = c .before .before .before .before .before .before .before .before .before .before .before .before .before .before .before .pre .1 .region
@@ -34,15 +36,20 @@ rects-requires c κs = c .before .before .before .before .before .before .before
 paint-tile-requires : tie.Need-paint-tile-requires
 unfolding rectCount
 paint-tile-requires c κs =
-    let s = c .before .before .before .before .before .before .before .before .before .before .before .before .before .before .before .before .before .before .before .before in
+    let c1 = c .before .before .before .before in
+    let c2 = c1 .before in
+    let c3 = c2 .before in
+    let c4 = c3 .before in
+    let c5 = c4 .before .before .before .before .before in
+    let s = c5 .before .before .before .before .before .before .before .before in
     let a = s .args in
     let d = a .draw in
     let p = part-plane (d .mode) (now (a .m)) (d .set) _ (now (a .d)) (a .at) in
-    let t = c .before .before .before .before .before .before .before .before .before .before .before .before .tile-samples .ensures in (
+    let t = c5 .tile-samples .ensures in (
       s .pre .1 .room,
-      omega (arith, rects-length (now (a .m)) 14 (s .pre .1 .region), ap length (c .before .before .before .before .rects .ensures), c .before .before .before .before .before .le16-at3 .ensures .0),
-      c .before .before .before .before .before .before .before .le16-at .ensures .1,
-      c .before .before .before .before .before .before .le16-at2 .ensures .1,
+      omega (arith, rects-length (now (a .m)) 14 (s .pre .1 .region), ap length (c1 .rects .ensures), c2 .le16-at3 .ensures .0),
+      c4 .le16-at .ensures .1,
+      c3 .le16-at2 .ensures .1,
       p 0 _ (s .pre .2) (omega arith) (t .y-is),
       p 1 _ (s .pre .2) (omega arith) (t .cb-is),
       p 2 _ (s .pre .2) (omega arith) (t .cr-is),
@@ -66,9 +73,17 @@ same-length-5 c = search needs
 returns : tie.Need-returns
 unfolding tileAt rectCount
 returns c =
-    let a = c .before .before .before .before .before .before .before .before .before .before .before .before .before .before .before .before .before .before .before .before .before .before .before .args in
-    tile-shown _ _ _ _ _ _ (tileAt (now (a .d)) (a .at)) _ _ _ _ _ _ _ (c .before .before .before .before .before .before .before .before .before .before .before .before .before .before .before .tile-samples .ensures) (c .before .before .before .before .before .before .before .before .before .before .le16-at .ensures .0) (c .before .before .before .before .before .before .before .before .before .le16-at2 .ensures .0) (c .before .before .paint-tile .ensures) ∙
-    rw (c .before .before .before .before .before .before .before .rects .ensures, c .before .before .before .before .before .before .before .before .le16-at3 .ensures .0)
+    let c1 = c .before .before in
+    let c2 = c1 .before .before .before .before .before in
+    let c3 = c2 .before in
+    let c4 = c3 .before in
+    let c5 = c4 .before in
+    let c6 = c5 .before .before .before .before .before in
+    let s = c6 .before .before .before .before .before .before .before .before in
+    let a = s .args in
+    tile-shown _ _ _ _ _ _ (tileAt (now (a .d)) (a .at)) _ _ _ _ _ _ _ (c6 .tile-samples .ensures) (c5 .le16-at .ensures .0) (c4 .le16-at2 .ensures .0)
+    (c1 .paint-tile .ensures) ∙
+    rw (c2 .rects .ensures, c3 .le16-at3 .ensures .0)
 
 pub show-tile-spec : {M : Type 1} → statement M
 show-tile-spec =

@@ -56,18 +56,29 @@ show-tile-requires c κs =
     (a .loop .inv .4, drawable-kept (c .before .before .before .before .before .before .before .before .before .before .pre .1) (a .loop .inv .3), here l .0)
 
 add-le32-at : tie.Need-add-le32-at Inv-loop μ-loop
-add-le32-at c = omega (arith, here ((c .before .before .before .before .before .before .before .before .before .before .before .before)) .0 .good .whole, c .before .before .before .before .before .before .before .before .before .before .before .before .before .before .before .before .before .good)
+add-le32-at c =
+    let c1 = c .before .before .before .before .before .before .before .before .before .before .before .before in
+    let c2 = c1 .before .before .before .before .before in
+    omega (arith, here ((c1)) .0 .good .whole, c2 .good)
 
 le32-at-requires : tie.Need-le32-at-requires Inv-loop μ-loop
 unfolding sizeAt
-le32-at-requires c κs = omega (arith, here ((c .before .before .before .before .before .before .before .before .before .before .before .before)) .0 .good .whole)
+le32-at-requires c κs =
+    let c1 = c .before .before .before .before .before .before .before .before .before .before .before .before in
+    omega (arith, here ((c1)) .0 .good .whole)
 
 add-at : tie.Need-add-at Inv-loop μ-loop
 unfolding sizeAt
-add-at c = omega (arith, here ((c .before .before .before .before .before .before .before .before .before .before .before .before .before)) .0 .good .whole, c .le32-at .ensures, c .before .before .before .before .before .before .before .before .before .before .before .before .before .before .before .before .before .before .good)
+add-at c =
+    let c1 = c .before .before .before .before .before .before .before .before .before .before .before .before .before in
+    let c2 = c1 .before .before .before .before .before in
+    omega (arith, here ((c1)) .0 .good .whole, c .le32-at .ensures, c2 .good)
 
 add-i : tie.Need-add-i Inv-loop μ-loop
-add-i c = omega (arith, more ((c .before .before .before .before .before .before .before .before .before .before .before .before .before)), c .before .before .before .before .before .before .before .before .before .before .before .before .before .before .before .before .before .before .fits)
+add-i c =
+    let c1 = c .before .before .before .before .before .before .before .before .before .before .before .before .before in
+    let c2 = c1 .before .before .before .before .before in
+    omega (arith, more ((c1)), c2 .fits)
 
 loop-less : tie.Need-loop-less Inv-loop μ-loop
 loop-less c = omega (arith, more ((c .before .before .before .before .before .before .before .before .before .before .before .before .before)))
@@ -75,10 +86,11 @@ loop-less c = omega (arith, more ((c .before .before .before .before .before .be
 loop-again : tie.Need-loop-again Inv-loop μ-loop
 unfolding sizeAt
 loop-again c =
-    let t = c .before .before .before .before .before .before .before .show-tile in
-    let l = c .before .before .before .before .before .before .before .before .before .before .before .before .before in
+    let c1 = c .before .before .before .before .before .before .before in
+    let l = c1 .before .before .before .before .before .before in
+    let s = l .before .before .before .before .before in
+    let t = c1 .show-tile in
     let a = l .before in
-    let s = c .before .before .before .before .before .before .before .before .before .before .before .before .before .before .before .before .before .before in
     let k = t .kept .1 .1 .1 .1 .1 in
     let g = here l in (
       omega (arith, more l),
