@@ -1,12 +1,10 @@
 -- Small cases of the collector, computed by the definitions.
 use Prim.Native.Nat.{ℕ}
-use mathlib.Core.Path.{_≡_, refl}
+use mathlib.Core.Path.{_≡_}
 use mathlib.Core.List.{List, [], _∷_, _++_}
 use lib.ListN.{replicate}
-use Rattle.wire.specs.Le.{patch}
-use Rattle.whole.specs.Row.{_!_⨾_, _⇒_∣_, _⨟_}
 use Rattle.collect.specs.declared.Collected.the-variants.{More, Header, Frame, Refused}
-use Rattle.collect.specs.Collect.{inFrame, waiting, fresh, gathering, refusing, joined, headBytes, headFault, partAfter, state, step, took, settled, headDone, headByte, byte, between, refusalOf, madeWaiting, mayEnd, madeGathering, collectorMade, collectorFault, walk, collectOf}
+use Rattle.collect.specs.Collect.{inFrame, waiting, fresh, gathering, refusing, state, step, took, collectOf}
 
 -- a store of so many bytes, all 0; the head of a block of type CC.. and a blockLen under 256
 abbrev room : ℕ → List ℕ
@@ -37,21 +35,3 @@ pub record Cases : Type 0 where
   -- a record that no calls could have made is 12; a store shorter than the block under way is 2, and takes nothing
   pub unmade : collectOf (state (gathering inFrame 6 6) (room 9)) (1 ∷ []) ≡ took 0 (step (gathering inFrame 6 6) (room 9) (Refused 12))
   pub short : collectOf (state (gathering inFrame 6 10) (room 9)) (1 ∷ []) ≡ took 0 (step (gathering inFrame 6 10) (room 9) (Refused 2))
-
-pub cases : Cases
-unfolding patch _!_⨾_ _⇒_∣_ _⨟_ joined headBytes headFault partAfter settled headDone headByte byte between refusalOf madeWaiting mayEnd madeGathering
-    collectorMade collectorFault walk collectOf
-cases = record {
-  alone = refl;
-  stops = refl;
-  begin = refl;
-  frame = refl;
-  waits = refl;
-  kind = refl;
-  size = refl;
-  full = refl;
-  earlier = refl;
-  kept = refl;
-  unmade = refl;
-  short = refl;
-}

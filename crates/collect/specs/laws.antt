@@ -1,5 +1,6 @@
 pub mod Block
 pub mod Byte
+pub mod Cases
 pub mod Code
 pub mod Cut
 pub mod Kept

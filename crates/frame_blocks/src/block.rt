@@ -2,9 +2,11 @@
 // end, each with the first fault by 01's number. Judges take plain numbers; faults read them from the message.
 ghost use mathlib.Core.Path.{_≡_};
 ghost use Prim.Native.Nat.{_+_, _*_, _≤_, _<_};
+ghost use lib.Dec.{eqb, leb};
 ghost use lib.ListN.{length};
+ghost use Rattle.whole.specs.Row.{_⇒_∣_};
 ghost use Rattle.frame_layout.specs.Reader.{headJudge, fixedHead, leastHead, codecJudge, codecFault, beginJudge, beginFault, regionJudge, lastJudge, regionFault, propsGood, setJudge, halvesFault, quantsFault, endFault, dataOf};
-ghost use Rattle.frame_blocks.specs.Blocks.{setFields, setFront, rectsOf, RegionGood, SetGood};
+ghost use Rattle.frame_blocks.specs.Blocks.{headBy, setFields, setFront, rectsOf, RegionGood, SetGood};
 
 // kind, then the size against the layout, then the room
 fn head_judge(kind: usize, is: usize, fits: bool, size: usize, room: usize) -> u8
@@ -22,32 +24,42 @@ fn head_judge(kind: usize, is: usize, fits: bool, size: usize, room: usize) -> u
     4
 }
 
-// The head of a block of fixed size.
+// Is the size that a head says the block's fixed size, or at least its least size?
+fn size_fits(fixed: bool, size: usize, said: usize) -> bool
+    ensures { λ r. ⌜ r ≡ (fixed ⇒ eqb said size ∣ leb size said) ⌝ }
+{
+    if fixed {
+        return said == size;
+    }
+    size <= said
+}
+
+// The head of a block of a fixed or of a least size.
+fn block_head(fixed: bool, kind: usize, size: usize, m: &[u8], at: usize) -> u8
+    requires { ⌜ at ≤ length (now m) ⌝ }
+    ensures { λ r. ⌜ r ≡ headBy fixed kind size (now (m .entry)) at ⌝ }
+{
+    let room = m.len() - at;
+    if room < 6 {
+        return 1;
+    }
+    let is = wire::le16_at(m, at);
+    let said = wire::le32_at(m, at + 2);
+    head_judge(kind, is, size_fits(fixed, size, said), said, room)
+}
+
 pub fn fixed_head(kind: usize, size: usize, m: &[u8], at: usize) -> u8
     requires { ⌜ at ≤ length (now m) ⌝ }
     ensures { λ r. ⌜ r ≡ fixedHead kind size (now (m .entry)) at ⌝ }
 {
-    let room = m.len() - at;
-    if room < 6 {
-        return 1;
-    }
-    let is = wire::le16_at(m, at);
-    let said = wire::le32_at(m, at + 2);
-    head_judge(kind, is, said == size, said, room)
+    block_head(true, kind, size, m, at)
 }
 
-// The head of a block of a least size.
 pub fn least_head(kind: usize, least: usize, m: &[u8], at: usize) -> u8
     requires { ⌜ at ≤ length (now m) ⌝ }
     ensures { λ r. ⌜ r ≡ leastHead kind least (now (m .entry)) at ⌝ }
 {
-    let room = m.len() - at;
-    if room < 6 {
-        return 1;
-    }
-    let is = wire::le16_at(m, at);
-    let said = wire::le32_at(m, at + 2);
-    head_judge(kind, is, least <= said, said, room)
+    block_head(false, kind, least, m, at)
 }
 
 fn codec_judge(codec: usize, channel: usize) -> u8

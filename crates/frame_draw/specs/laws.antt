@@ -1,4 +1,5 @@
 pub mod Asked
+pub mod Cases
 pub mod Clip
 pub mod Draw
 pub mod Note

@@ -1,3 +1,4 @@
 pub mod Encode
 pub mod FrameWrite
+pub mod Job
 pub mod laws

@@ -1,13 +1,15 @@
 // The frame writer of document 01 (last paragraph of "Colour", "Numbers the fitter sees", and what is left of output and work lists):
 // "Frame writer's refusals in order: size or mode 5, quantiser 7, pixel or work list length 2, then per component in order 9 .. then 6, then 13."
+use crate::size::Job;
 use bands::Quant;
 use wire::Writing;
 ghost use mathlib.Core.Path.{_≡_};
-ghost use Prim.Native.Nat.{_+_, _*_, _≤_, _<_};
+ghost use Prim.Native.Nat.{_+_, _*_, _≤_};
 ghost use lib.ListN.{length};
 ghost use Rattle.wire.specs.Wrote.{Wrote};
-ghost use Rattle.frame_write.specs.Encode.{frameP, Picture};
+ghost use Rattle.frame_write.specs.Encode.{frameP};
 ghost use Rattle.frame_write.specs.FrameWrite.{pixelsGood, argFault, sendFault, FrameWritten};
+ghost use Rattle.frame_write.specs.Job.{Ready};
 
 // Is the picture's length three bytes a pixel?
 fn is_pixels(w: usize, h: usize, pixels: usize) -> bool
@@ -51,22 +53,12 @@ fn arg_judge(
 }
 
 // What is left to refuse once the arguments are good: 9, 6, 13; then the frame is written.
-fn send(
-    out: &mut [u8],
-    list: &mut [i32],
-    scratch: &mut [i32],
-    pixels: &[u8],
-    w: usize,
-    h: usize,
-    mode: u8,
-    q: Quant,
-    index: usize,
-) -> Writing
-    requires { ⌜ Picture (now pixels) w h (q .v) × (mode < 16) × (length (now list) ≡ 4096) × (length (now scratch) ≡ 4096) ⌝ }
-    ensures { λ r. ⌜ Wrote (sendFault index w h mode (q .v) (now (pixels .entry)) (length (now (out .entry)))) (frameP index w h mode (q .v) (now (pixels .entry))) (now (out .entry)) (now (out .exit)) r ⌝ }
+fn send(out: &mut [u8], list: &mut [i32], scratch: &mut [i32], pixels: &[u8], job: Job) -> Writing
+    requires { ⌜ Ready job (now pixels) (now list) (now scratch) ⌝ }
+    ensures { λ r. ⌜ Wrote (sendFault (job .index) (job .width) (job .height) (job .mode) (job .quant .v) (now (pixels .entry)) (length (now (out .entry)))) (frameP (job .index) (job .width) (job .height) (job .mode) (job .quant .v) (now (pixels .entry))) (now (out .entry)) (now (out .exit)) r ⌝ }
 {
-    let n = frame_pieces::tiles_no(w, h);
-    let s = crate::size::tiles_size(pixels, w, h, mode, q, n, list, scratch);
+    let n = frame_pieces::tiles_no(job.width, job.height);
+    let s = crate::size::tiles_size(job, pixels, n, list, scratch);
     let number = s.number;
     let size = s.size;
     if number != 0 {
@@ -75,7 +67,7 @@ fn send(
     if out.len() < 72 + size {
         return Writing::Refused(13);
     }
-    let end = crate::put::put_frame(out, list, scratch, pixels, w, h, mode, q, index, n);
+    let end = crate::put::put_frame(out, list, scratch, pixels, job, n);
     Writing::Done(end)
 }
 
@@ -105,17 +97,14 @@ pub fn write_frame(
     if fault != 0 {
         return Writing::Refused(fault);
     }
-    let r = send(
-        out,
-        list,
-        scratch,
-        pixels,
-        width,
-        height,
-        mode,
-        q,
-        index as usize,
-    );
+    let job = Job {
+        width: width,
+        height: height,
+        mode: mode,
+        index: index as usize,
+        quant: q,
+    };
+    let r = send(out, list, scratch, pixels, job);
     whole::clear(list);
     whole::clear(scratch);
     r

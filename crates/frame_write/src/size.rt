@@ -3,77 +3,83 @@
 use bands::Quant;
 use code_write::call::Sized;
 ghost use mathlib.Core.Path.{_≡_};
-ghost use Prim.Native.Nat.{_+_, _<_};
+ghost use Prim.Native.Nat.{_<_};
 ghost use lib.ListN.{length};
 ghost use Rattle.frame_layout.specs.Bytes.{tileLen, tilesOf};
-ghost use Rattle.code_write.specs.Write.{Measures};
-ghost use Rattle.frame_pieces.specs.Parts.{tilesNo};
-ghost use Rattle.frame_write.specs.Encode.{listOf, partOf, tileP, partRefusal, tileRefusal, refusals, Picture};
+ghost use Rattle.frame_write.specs.Job.{listIn, partIn, tileIn, tilesIn, partStop, tileStop, tilesStop, Ready, Sizes};
+
+// What the writer is asked, beside the pixels: size, mode, the frame's index, and the quantisers.
+pub struct Job {
+    pub width: usize,
+    pub height: usize,
+    pub mode: u8,
+    pub index: usize,
+    pub quant: Quant,
+}
 
 // The list of component c of tile k.
-pub fn load_part(
-    pixels: &[u8],
-    w: usize,
-    h: usize,
-    q: Quant,
-    k: usize,
-    c: usize,
-    list: &mut [i32],
-    scratch: &mut [i32],
-)
-    requires { ⌜ Picture (now pixels) w h (q .v) × (k < tilesNo w h) × (length (now list) ≡ 4096) × (length (now scratch) ≡ 4096) ⌝ }
-    ensures { λ _. ⌜ now (list .exit) ≡ listOf (now (pixels .entry)) w h (q .v) k c ⌝ }
+pub fn load_part(job: Job, pixels: &[u8], k: usize, c: usize, list: &mut [i32], scratch: &mut [i32])
+    requires { ⌜ Ready job (now pixels) (now list) (now scratch) × (k < tilesIn job) ⌝ }
+    ensures { λ _. ⌜ now (list .exit) ≡ listIn job (now (pixels .entry)) k c ⌝ }
 {
+    let w = job.width;
+    let q = job.quant;
     let cols = frame_pieces::cols_of(w);
-    tile_forth::load_component(pixels, w, h, q, k % cols, k / cols, c, list, scratch);
+    tile_forth::load_component(
+        pixels,
+        w,
+        job.height,
+        q,
+        k % cols,
+        k / cols,
+        c,
+        list,
+        scratch,
+    );
 }
 
 // Component c of tile k, judged and sized.
 fn part_size(
+    job: Job,
     pixels: &[u8],
-    w: usize,
-    h: usize,
-    mode: u8,
-    q: Quant,
     k: usize,
     c: usize,
     list: &mut [i32],
     scratch: &mut [i32],
 ) -> Sized
-    requires { ⌜ Picture (now pixels) w h (q .v) × (k < tilesNo w h) × (length (now list) ≡ 4096) × (length (now scratch) ≡ 4096) ⌝ }
-    ensures { λ r. ⌜ Measures (partRefusal mode (q .v) (listOf (now (pixels .entry)) w h (q .v) k c)) (length (partOf (now (pixels .entry)) w h mode (q .v) k c)) r ⌝ }
+    requires { ⌜ Ready job (now pixels) (now list) (now scratch) × (k < tilesIn job) ⌝ }
+    ensures { λ r. ⌜ Sizes (partStop job (now (pixels .entry)) k c) (length (partIn job (now (pixels .entry)) k c)) r ⌝ }
 {
-    load_part(pixels, w, h, q, k, c, list, scratch);
+    load_part(job, pixels, k, c, list, scratch);
+    let q = job.quant;
     let f = bands::judge(list, q);
     if f != 0 {
         return Sized { number: f, size: 0 };
     }
-    code_write::call::measure_component(mode, list)
+    let m = code_write::call::measure_component(job.mode, list);
+    if m.number != 0 {
+        return Sized {
+            number: m.number,
+            size: 0,
+        };
+    }
+    m
 }
 
 // Tile k: the first refusal of Y, Cb, Cr, or its bytes.
-fn tile_size(
-    pixels: &[u8],
-    w: usize,
-    h: usize,
-    mode: u8,
-    q: Quant,
-    k: usize,
-    list: &mut [i32],
-    scratch: &mut [i32],
-) -> Sized
-    requires { ⌜ Picture (now pixels) w h (q .v) × (k < tilesNo w h) × (length (now list) ≡ 4096) × (length (now scratch) ≡ 4096) ⌝ }
-    ensures { λ r. ⌜ Measures (tileRefusal (now (pixels .entry)) w h mode (q .v) k) (tileLen (tileP (now (pixels .entry)) w h mode (q .v) k)) r ⌝ }
+fn tile_size(job: Job, pixels: &[u8], k: usize, list: &mut [i32], scratch: &mut [i32]) -> Sized
+    requires { ⌜ Ready job (now pixels) (now list) (now scratch) × (k < tilesIn job) ⌝ }
+    ensures { λ r. ⌜ Sizes (tileStop job (now (pixels .entry)) k) (tileLen (tileIn job (now (pixels .entry)) k)) r ⌝ }
 {
-    let a = part_size(pixels, w, h, mode, q, k, 0, list, scratch);
+    let a = part_size(job, pixels, k, 0, list, scratch);
     if a.number != 0 {
         return a;
     }
-    let b = part_size(pixels, w, h, mode, q, k, 1, list, scratch);
+    let b = part_size(job, pixels, k, 1, list, scratch);
     if b.number != 0 {
         return b;
     }
-    let c = part_size(pixels, w, h, mode, q, k, 2, list, scratch);
+    let c = part_size(job, pixels, k, 2, list, scratch);
     if c.number != 0 {
         return c;
     }
@@ -84,23 +90,14 @@ fn tile_size(
 }
 
 // All n tiles: the first refusal, or the bytes of all.
-pub fn tiles_size(
-    pixels: &[u8],
-    w: usize,
-    h: usize,
-    mode: u8,
-    q: Quant,
-    n: usize,
-    list: &mut [i32],
-    scratch: &mut [i32],
-) -> Sized
-    requires { ⌜ Picture (now pixels) w h (q .v) × (n ≡ tilesNo w h) × (length (now list) ≡ 4096) × (length (now scratch) ≡ 4096) ⌝ }
-    ensures { λ r. ⌜ Measures (refusals (now (pixels .entry)) w h mode (q .v) n 0) (length (tilesOf (tileP (now (pixels .entry)) w h mode (q .v)) n 0)) r ⌝ }
+pub fn tiles_size(job: Job, pixels: &[u8], n: usize, list: &mut [i32], scratch: &mut [i32]) -> Sized
+    requires { ⌜ Ready job (now pixels) (now list) (now scratch) × (n ≡ tilesIn job) ⌝ }
+    ensures { λ r. ⌜ Sizes (tilesStop job (now (pixels .entry)) n) (length (tilesOf (tileIn job (now (pixels .entry))) n 0)) r ⌝ }
 {
     let mut total = 0;
     let mut i = 0;
     while i < n {
-        let s = tile_size(pixels, w, h, mode, q, i, list, scratch);
+        let s = tile_size(job, pixels, i, list, scratch);
         if s.number != 0 {
             return s;
         }

@@ -8,11 +8,12 @@ ghost use Rattle.wire.specs.Le.{bytes16, bytes32, patch, written};
 ghost use Rattle.headers.specs.Headers.{syncOf, versionsOf, channelsOf, propertiesOf, contextOf, headersOf, headersFault, HeadersWritten};
 use wire::Writing;
 
+// A block opened, and its length, which is known, filled in.
 fn put_head(out: &mut [u8], at: usize, kind: usize, size: usize)
     requires { ⌜ at + 6 ≤ length (now out) ⌝ }
     ensures { λ _. ⌜ now (out .exit) ≡ patch (now (out .entry)) at (bytes16 kind ++ bytes32 size) ⌝ }
 {
-    wire::put16_at(out, at, kind);
+    wire::open_block(out, at, kind);
     wire::put32_at(out, at + 2, size);
 }
 

@@ -1,4 +1,5 @@
 pub mod Cases
 pub mod Component
 pub mod Judged
+pub mod Once
 pub mod Word

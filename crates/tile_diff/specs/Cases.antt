@@ -1,13 +1,10 @@
 -- Small cases of request Seven, computed by the definitions.
-use mathlib.Core.Path.{_≡_, refl}
+use mathlib.Core.Path.{_≡_}
 use mathlib.Core.List.{List, [], _∷_}
 use Prim.Native.Nat.{ℕ}
 use lib.ListN.{replicate, set}
-use Rattle.whole.specs.Row.{_!_⨾_, _⇒_∣_}
-use Rattle.wire.specs.Le.{le16}
-use Rattle.session.specs.Header.{tilesOver, sizeGood}
-use Rattle.tile_diff.specs.Tiles.{notSame, howMany, differsAt, differs, linesOf, listed}
-use Rattle.tile_diff.specs.Pic.{picOf, isWhole, sizesJudge, verdictOf}
+use Rattle.tile_diff.specs.Tiles.{listed}
+use Rattle.tile_diff.specs.Pic.{picOf, verdictOf}
 use Rattle.tile_diff.specs.declared.count.Line.{Line}
 use Rattle.tile_diff.specs.declared.pic.Verdict.the-variants.{Bad, Size, Tiles}
 
@@ -35,9 +32,3 @@ pub record Cases : Type 0 where
   pub no-width : verdictOf (picOf (file 0 1 [])) (picOf (file 0 1 [])) ≡ Bad
   pub size : verdictOf (picOf (file 2 1 (1 ∷ 2 ∷ 3 ∷ 4 ∷ []))) (picOf (file 1 2 (1 ∷ 2 ∷ 3 ∷ 4 ∷ []))) ≡ Size
   pub tiles : verdictOf (picOf (file 1 1 (1 ∷ 2 ∷ []))) (picOf (file 1 1 (3 ∷ 4 ∷ []))) ≡ Tiles
-
-pub cases : Cases
-unfolding tilesOver notSame howMany differsAt differs linesOf listed picOf isWhole sizesJudge verdictOf sizeGood le16 _!_⨾_ _⇒_∣_
-cases =
-    record
-    { top-left = refl; column = refl; next-column = refl; next-row = refl; bad-first = refl; too-long = refl; no-width = refl; size = refl; tiles = refl }

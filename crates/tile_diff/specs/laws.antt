@@ -4,3 +4,4 @@ pub mod Mark
 pub mod Picture
 pub mod Listed
 pub mod Request
+pub mod Cases

@@ -6,7 +6,7 @@ ghost use mathlib.Core.List.{_++_};
 ghost use lib.ListN.{length};
 ghost use Rattle.whole.specs.Tab.{at, grid};
 ghost use Rattle.whole.specs.laws.Tab.{AllNear};
-ghost use Rattle.wave_back.specs.laws.Column.{Two, colAt};
+ghost use Rattle.wave_back.specs.laws.Column.{Turn, colAt};
 ghost use Rattle.wave_back.specs.laws.Level.{levelFrom};
 ghost use Rattle.wave_back.specs.Tile.{lowAt, highAt, level, tileBack};
 
@@ -14,7 +14,7 @@ ghost use Rattle.wave_back.specs.Tile.{lowAt, highAt, level, tileBack};
 fn pair(src: &[i32], dst: &mut [i32], n: usize, w: usize, r: usize, a: usize, z: usize, y: usize)
     requires { ⌜ (n ≤ 32) × (w ≤ 64) × (length (now src) ≡ 2 * n * w) × (length (now dst) ≡ 2 * n * w) × AllNear 268435456 (now src) ⌝ }
     requires { ⌜ (r < n) × (a ≡ r - 1) × (z ≡ min (r + 1) (n - 1)) × (y ≡ z - 1) ⌝ }
-    ensures { λ u. ⌜ Two n w (now (src .entry)) r w (now (dst .entry)) (now (dst .exit)) ⌝ }
+    ensures { λ u. ⌜ Turn n w (now (src .entry)) r w (now (dst .entry)) (now (dst .exit)) ⌝ }
 {
     let l = r * w;
     let g = (n + a) * w;

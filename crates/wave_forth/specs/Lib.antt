@@ -1,3 +1,4 @@
+pub mod Cases
 pub mod Forth
 pub mod Halves
 pub mod laws

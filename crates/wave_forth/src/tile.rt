@@ -7,13 +7,13 @@ ghost use lib.ListN.{length};
 ghost use Rattle.whole.specs.Tab.{at, grid};
 ghost use Rattle.whole.specs.laws.Tab.{AllNear};
 ghost use Rattle.wave_forth.specs.Forth.{lowRow, highRow, levelForth, forthFrom, tileForth};
-ghost use Rattle.wave_forth.specs.laws.Column.{Two};
+ghost use Rattle.wave_forth.specs.laws.Column.{Turn};
 
 // Rows r and n + r of the column pass, L and H, from the source alone: a is the row of H before r, b and z are the even places after a and r.
 fn pair(src: &[i32], dst: &mut [i32], n: usize, w: usize, r: usize, a: usize, b: usize, z: usize)
     requires { ⌜ (n ≤ 32) × (w ≤ 64) × (length (now src) ≡ 2 * n * w) × (length (now dst) ≡ 2 * n * w) × AllNear 268435456 (now src) ⌝ }
     requires { ⌜ (r < n) × (a ≡ r - 1) × (b ≡ min (a + 1) (n - 1)) × (z ≡ min (r + 1) (n - 1)) ⌝ }
-    ensures { λ u. ⌜ Two n w (now (src .entry)) r w (now (dst .entry)) (now (dst .exit)) ⌝ }
+    ensures { λ u. ⌜ Turn n w (now (src .entry)) r w (now (dst .entry)) (now (dst .exit)) ⌝ }
 {
     let e = 2 * r * w;
     let o = (2 * r + 1) * w;

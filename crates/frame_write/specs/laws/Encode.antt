@@ -7,11 +7,11 @@ use mathlib.Core.List.{List}
 use native.Mathlib.Omega.{arith}
 use native.Mathlib.Decide.{decLt}
 use native.Mathlib.Nat.{div-lt-iff-lt-mul, mod-lt, mul-comm, sub-zero, add-zero}
-use borrow.Author.Tests.{leb-true}
+use borrow.Author.Tests.{leb-true, eq-eqb, ne-eqb}
 use lib.IntN.{ℤ, pos, natAbs}
 use lib.ListN.{length, getD, length-append, List·getD-eq-default}
 use Rattle.whole.specs.Row.{_⨟_}
-use Rattle.whole.specs.laws.Row.{held, both, stops, goes-on, passes}
+use Rattle.whole.specs.laws.Row.{held, both, stops, goes-on, passes, case-yes, case-no, case-is, case-not}
 use Rattle.whole.specs.Tab.{at}
 use Rattle.frame_layout.specs.Bytes.{tileLen, tileOf, tilesOf}
 use Rattle.frame_layout.specs.laws.Here.{tile-length}
@@ -24,6 +24,22 @@ use Rattle.frame_pieces.specs.Parts.{colsOf, tilesNo}
 use Rattle.frame_pieces.specs.laws.Parts.{tile-parts, tiles-step-length, few-tiles}
 use Rattle.tile_forth.specs.laws.TileForth.{rounded-of-length}
 use Rattle.frame_write.specs.Encode.{listOf, partOf, tileP, partRefusal, tileRefusal, refusals}
+use Rattle.frame_write.specs.Job.{Sizes}
+
+-- ---- what the sizing pass says, by the two cases: it refuses, or it does not
+
+module _ (f n : ℕ) (r : Sized) where
+  pub sizes-none : r .number ≡ f → (r .number ≡ 0 → ⊥) → r .size ≡ 0 → Sizes f n r
+  sizes-none e h z = record { number = e; size = case-no _ _ _ _ (ne-eqb f 0 (λ y. h (e ∙ y))) z }
+
+  pub sizes-done : r .number ≡ f → r .number ≡ 0 → r .size ≡ n → Sizes f n r
+  sizes-done e h z = record { number = e; size = case-yes _ _ _ _ (eq-eqb f 0 (sym e ∙ h)) z }
+
+  pub size-none : Sizes f n r → (r .number ≡ 0 → ⊥) → r .size ≡ 0
+  size-none s h = case-not _ _ _ _ (ne-eqb f 0 (λ y. h (s .number ∙ y))) (s .size)
+
+  pub size-done : Sizes f n r → r .number ≡ 0 → r .size ≡ n
+  size-done s h = case-is _ _ _ _ (eq-eqb f 0 (sym (s .number) ∙ h)) (s .size)
 
 -- ---- where a tile stands
 
@@ -67,46 +83,50 @@ module _ (mode : ℕ) (q : List ℕ) (zs : List ℤ) where
   unfolding partRefusal
   part-range e = judged-range q zs (both _ _ e .0)
 
-  pub part-judged : (f : ℕ) → f ≡ coefficientsFault q zs → (f ≡ 0 → ⊥) → Measures (partRefusal mode q zs) (length (bytesOf mode zs)) (record { number = f; size = 0 })
+  pub part-judged : (f : ℕ) → f ≡ coefficientsFault q zs → (f ≡ 0 → ⊥) → Sizes (partRefusal mode q zs) (length (bytesOf mode zs)) (record { number = f; size = 0 })
   unfolding partRefusal
-  part-judged f e h = record { number = stops _ _ _ (λ z. h (e ∙ z)) e; size = λ z. absurd (h z) }
+  part-judged f e h = sizes-none _ _ _ (stops _ _ _ (λ z. h (e ∙ z)) e) h refl
 
   -- behind the reader's 9 the component writer's own is silent
   same-six : 0 ≡ coefficientsFault q zs → componentFault mode zs ≡ partRefusal mode q zs
   unfolding partRefusal componentFault
   same-six e = goes-on _ _ _ (sym e) (sym (passes _ _ _ _ (judged-range q zs e) refl))
 
-  pub part-measured : (f : ℕ) → f ≡ coefficientsFault q zs → f ≡ 0 → (s : Sized) → Measures (componentFault mode zs) (length (bytesOf mode zs)) s → Measures (partRefusal mode q zs) (length (bytesOf mode zs)) s
-  part-measured f e z s m = record { number = m .number ∙ same-six (sym z ∙ e); size = m .size }
+  module _ (f : ℕ) (e : f ≡ coefficientsFault q zs) (z : f ≡ 0) (s : Sized) (m : Measures (componentFault mode zs) (length (bytesOf mode zs)) s) where
+    pub part-large : (s .number ≡ 0 → ⊥) → Sizes (partRefusal mode q zs) (length (bytesOf mode zs)) (record { number = s .number; size = 0 })
+    part-large h = sizes-none _ _ _ (m .number ∙ same-six (sym z ∙ e)) h refl
+
+    pub part-measured : s .number ≡ 0 → Sizes (partRefusal mode q zs) (length (bytesOf mode zs)) s
+    part-measured h = sizes-done _ _ _ (m .number ∙ same-six (sym z ∙ e)) h (m .size h)
 
 -- ---- a tile: the first of three refusals, or the three sizes together
 
-module _ (a b c x y z : ℕ) where
-  pub first-of : (s : Sized) (n : ℕ) → Measures a x s → (s .number ≡ 0 → ⊥) → Measures (a ⨟ (b ⨟ c)) n s
-  first-of s n m h = record { number = stops _ _ _ (λ e. h (m .number ∙ e)) (m .number); size = λ e. absurd (h e) }
+module _ (a b c x y z n : ℕ) (r : Sized) (mr : Sizes a x r) where
+  pub first-of : (r .number ≡ 0 → ⊥) → Sizes (a ⨟ (b ⨟ c)) n r
+  first-of h = sizes-none _ _ _ (stops _ _ _ (λ e. h (mr .number ∙ e)) (mr .number)) h (size-none _ _ _ mr h)
 
-  pub second-of : (r s : Sized) (n : ℕ) → Measures a x r → r .number ≡ 0 → Measures b y s → (s .number ≡ 0 → ⊥) → Measures (a ⨟ (b ⨟ c)) n s
-  second-of r s n mr er m h = record { number = goes-on _ _ _ (sym (mr .number) ∙ er) (stops _ _ _ (λ e. h (m .number ∙ e)) (m .number)); size = λ e. absurd (h e) }
+  module _ (er : r .number ≡ 0) (s : Sized) (ms : Sizes b y s) where
+    pub second-of : (s .number ≡ 0 → ⊥) → Sizes (a ⨟ (b ⨟ c)) n s
+    second-of h = sizes-none _ _ _ (goes-on _ _ _ (sym (mr .number) ∙ er) (stops _ _ _ (λ e. h (ms .number ∙ e)) (ms .number))) h (size-none _ _ _ ms h)
 
-  pub third-of : (r s t : Sized) (n : ℕ) → Measures a x r → r .number ≡ 0 → Measures b y s → s .number ≡ 0 → Measures c z t → (t .number ≡ 0 → ⊥) → Measures (a ⨟ (b ⨟ c)) n t
-  third-of r s t n mr er ms es m h = record { number = goes-on _ _ _ (sym (mr .number) ∙ er) (goes-on _ _ _ (sym (ms .number) ∙ es) (m .number)); size = λ e. absurd (h e) }
+    pub third-of : s .number ≡ 0 → (t : Sized) → Sizes c z t → (t .number ≡ 0 → ⊥) → Sizes (a ⨟ (b ⨟ c)) n t
+    third-of es t mt h =
+        sizes-none _ _ _ (goes-on _ _ _ (sym (mr .number) ∙ er) (goes-on _ _ _ (sym (ms .number) ∙ es) (mt .number))) h (size-none _ _ _ mt h)
 
 module _ (p : List ℕ) (w h mode : ℕ) (q : List ℕ) where
   pub tile-long : (k : ℕ) → tileLen (tileP p w h mode q k) ≡ 19 + length (partOf p w h mode q k 0) + length (partOf p w h mode q k 1) + length (partOf p w h mode q k 2)
   unfolding tileP
   tile-long k = tile-parts (k % colsOf w) (k / colsOf w) (partOf p w h mode q k 0) (partOf p w h mode q k 1) (partOf p w h mode q k 2)
 
-  module _ (k : ℕ) (r s t : Sized) where
-    pub tile-sized :
-        Measures (partRefusal mode q (listOf p w h q k 0)) (length (partOf p w h mode q k 0)) r → r .number ≡ 0 →
-        Measures (partRefusal mode q (listOf p w h q k 1)) (length (partOf p w h mode q k 1)) s → s .number ≡ 0 →
-        Measures (partRefusal mode q (listOf p w h q k 2)) (length (partOf p w h mode q k 2)) t → t .number ≡ 0 →
-        (n : ℕ) → n ≡ 19 + r .size + s .size + t .size → Measures (tileRefusal p w h mode q k) (tileLen (tileP p w h mode q k)) (record { number = 0; size = n })
+  module _ (k : ℕ) (r s t : Sized)
+      (mr : Sizes (partRefusal mode q (listOf p w h q k 0)) (length (partOf p w h mode q k 0)) r) (er : r .number ≡ 0)
+      (ms : Sizes (partRefusal mode q (listOf p w h q k 1)) (length (partOf p w h mode q k 1)) s) (es : s .number ≡ 0)
+      (mt : Sizes (partRefusal mode q (listOf p w h q k 2)) (length (partOf p w h mode q k 2)) t) (et : t .number ≡ 0) where
+    pub tile-sized : (n : ℕ) → n ≡ 19 + r .size + s .size + t .size → Sizes (tileRefusal p w h mode q k) (tileLen (tileP p w h mode q k)) (record { number = 0; size = n })
     unfolding tileRefusal
-    tile-sized mr er ms es mt et n e = record {
-      number = goes-on _ _ _ (sym (mr .number) ∙ er) (goes-on _ _ _ (sym (ms .number) ∙ es) (sym et ∙ mt .number));
-      size = λ u. omega (arith, tile-long k, mr .size er, ms .size es, mt .size et);
-    }
+    tile-sized n e =
+        sizes-done _ _ _ (goes-on _ _ _ (sym (mr .number) ∙ er) (goes-on _ _ _ (sym (ms .number) ∙ es) (sym et ∙ mt .number))) refl
+        (omega (arith, tile-long k, size-done _ _ _ mr er, size-done _ _ _ ms es, size-done _ _ _ mt et))
 
   tile-small : (k : ℕ) → 0 ≡ tileRefusal p w h mode q k → tileLen (tileP p w h mode q k) ≤ 196624
   unfolding tileRefusal partOf
@@ -128,8 +148,8 @@ module _ (p : List ℕ) (w h mode : ℕ) (q : List ℕ) where
       subst (λ (j : ℕ). 0 ≡ tileRefusal p w h mode q j) s (not-refused n (i + 1) d (both _ _ e .1) (omega arith))
 
 -- a part that is sized and not refused
-pub part-sized : (mode : ℕ) (q : List ℕ) (zs : List ℤ) (s : Sized) → Measures (partRefusal mode q zs) (length (bytesOf mode zs)) s → s .number ≡ 0 → s .size ≤ 65535
-part-sized mode q zs s m e = let a = m .size e in let b = part-small mode q zs (sym e ∙ m .number) in omega arith
+pub part-sized : (mode : ℕ) (q : List ℕ) (zs : List ℤ) (s : Sized) → Sizes (partRefusal mode q zs) (length (bytesOf mode zs)) s → s .number ≡ 0 → s .size ≤ 65535
+part-sized mode q zs s m e = let a = size-done _ _ _ m e in let b = part-small mode q zs (sym e ∙ m .number) in omega arith
 
 -- ---- the sizing loop: what is left to refuse, and the bytes so far
 
@@ -149,16 +169,13 @@ module _ (p : List ℕ) (w h mode : ℕ) (q : List ℕ) where
   unfolding refusals
   refusals-step n i l = rw (left n i l)
 
-  module _ (n i total : ℕ) (r : Sized) (l : i < n) (s : Sizing p w h mode q n i total) (m : Measures (tileRefusal p w h mode q i) (tileLen (tileP p w h mode q i)) r) where
-    pub sizing-stops : (r .number ≡ 0 → ⊥) → Measures (refusals p w h mode q n 0) (length (tilesOf (tileP p w h mode q) n 0)) r
-    sizing-stops f = record {
-      number = stops _ _ _ (λ e. f (m .number ∙ e)) (m .number) ∙ sym (s .rest ∙ refusals-step n i l);
-      size = λ z. absurd (f z);
-    }
+  module _ (n i total : ℕ) (r : Sized) (l : i < n) (s : Sizing p w h mode q n i total) (m : Sizes (tileRefusal p w h mode q i) (tileLen (tileP p w h mode q i)) r) where
+    pub sizing-stops : (r .number ≡ 0 → ⊥) → Sizes (refusals p w h mode q n 0) (length (tilesOf (tileP p w h mode q) n 0)) r
+    sizing-stops f = sizes-none _ _ _ (stops _ _ _ (λ e. f (m .number ∙ e)) (m .number) ∙ sym (s .rest ∙ refusals-step n i l)) f (size-none _ _ _ m f)
 
     pub sizing-next : r .number ≡ 0 → Sizing p w h mode q n (i + 1) (total + r .size) × (total + r .size ≤ (i + 1) * 196624)
     sizing-next e =
-        let k = m .size e in
+        let k = size-done _ _ _ m e in
         let t = tile-small p w h mode q i (sym e ∙ m .number) in
         let u = tiles-step-length (tileP p w h mode q) n i l in
         let a = s .sum in
@@ -166,14 +183,12 @@ module _ (p : List ℕ) (w h mode : ℕ) (q : List ℕ) where
         let c : total + r .size ≤ (i + 1) * 196624 = omega arith in
         (record { rest = s .rest ∙ (refusals-step n i l ∙ sym (goes-on _ _ _ (sym (m .number) ∙ e) refl)); sum = omega arith; small = c }, c)
 
-  pub sizing-ends : (n i total : ℕ) → n ≤ i → Sizing p w h mode q n i total → Measures (refusals p w h mode q n 0) (length (tilesOf (tileP p w h mode q) n 0)) (record { number = 0; size = total })
+  pub sizing-ends : (n i total : ℕ) → n ≤ i → Sizing p w h mode q n i total → Sizes (refusals p w h mode q n 0) (length (tilesOf (tileP p w h mode q) n 0)) (record { number = 0; size = total })
   unfolding refusals tilesOf
   sizing-ends n i total l s =
       let z : n - i ≡ 0 = omega arith in
-      record {
-        number = sym (s .rest ∙ ap (λ (k : ℕ). refusals p w h mode q k i) z);
-        size = λ e. omega (arith, subst (λ (k : ℕ). total + length (tilesOf (tileP p w h mode q) k i) ≡ length (tilesOf (tileP p w h mode q) n 0)) z (s .sum));
-      }
+      sizes-done _ _ _ (sym (s .rest ∙ ap (λ (k : ℕ). refusals p w h mode q k i) z)) refl
+      (omega (arith, subst (λ (k : ℕ). total + length (tilesOf (tileP p w h mode q) k i) ≡ length (tilesOf (tileP p w h mode q) n 0)) z (s .sum)))
 
   -- the bytes of tiles that are not refused
   refusals-small : (n i : ℕ) → 0 ≡ refusals p w h mode q n i → length (tilesOf (tileP p w h mode q) n i) ≤ n * 196624
@@ -187,9 +202,9 @@ module _ (p : List ℕ) (w h mode : ℕ) (q : List ℕ) where
       let a = length-append (tileOf (tileP p w h mode q i)) (tilesOf (tileP p w h mode q) n (i + 1)) in
       omega arith
 
-  pub sized-small : (n : ℕ) (s : Sized) → n ≤ 2048 → Measures (refusals p w h mode q n 0) (length (tilesOf (tileP p w h mode q) n 0)) s → s .number ≡ 0 →
+  pub sized-small : (n : ℕ) (s : Sized) → n ≤ 2048 → Sizes (refusals p w h mode q n 0) (length (tilesOf (tileP p w h mode q) n 0)) s → s .number ≡ 0 →
       (s .size ≡ length (tilesOf (tileP p w h mode q) n 0)) × (s .size ≤ 402685952)
   sized-small n s l m e =
-      let a = m .size e in
+      let a = size-done _ _ _ m e in
       let b = refusals-small n 0 (sym e ∙ m .number) in
       (a, omega arith)

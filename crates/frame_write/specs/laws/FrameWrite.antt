@@ -22,20 +22,15 @@ use Rattle.session.specs.Header.{sizeGood}
 use Rattle.session.specs.laws.Header.{allowed}
 use Rattle.bands.specs.Bands.{isGood}
 use Rattle.bands.specs.laws.Band.{good-set}
-use Rattle.code_write.specs.Write.{Measures}
 use Rattle.code_write.specs.declared.call.Sized.{Sized}
 use Rattle.frame_pieces.specs.Parts.{tilesNo}
 use Rattle.frame_pieces.specs.laws.Parts.{frame-long}
-use Rattle.frame_write.specs.Encode.{tileP, refusals, frameP, Picture}
+use Rattle.frame_write.specs.Encode.{tileP, refusals, frameP}
 use Rattle.frame_write.specs.FrameWrite.{pixelsGood, argFault, sendFault, workLeft, FrameWritten}
+use Rattle.frame_write.specs.Job.{ArgsGood, Sizes}
+use Rattle.frame_write.specs.laws.Encode.{size-done}
 
 -- ---- the arguments
-
-pub record ArgsGood (w h mode : ℕ) (q p : List ℕ) (list scratch : ℕ) : Type 0 where
-  pub picture : Picture p w h q
-  pub small : mode < 16
-  pub first : list ≡ 4096
-  pub second : scratch ≡ 4096
 
 pub args-good : (w h mode : ℕ) (q p : List ℕ) (list scratch : ℕ) → 0 ≡ argFault w h mode q (length p) list scratch → ArgsGood w h mode q p list scratch
 unfolding argFault pixelsGood
@@ -61,13 +56,17 @@ args-good w h mode q p list scratch e =
       second = eqb-true scratch 4096 (g .0);
     }
 
+-- work lists keep their lengths, and so the arguments stay good
+pub still-good : {w h mode : ℕ} {q p : List ℕ} {a b a′ b′ : ℕ} → ArgsGood w h mode q p a b → a′ ≡ a → b′ ≡ b → ArgsGood w h mode q p a′ b′
+still-good g x y = record { picture = g .picture; small = g .small; first = x ∙ g .first; second = y ∙ g .second }
+
 -- the size has been judged: no product of it is too big
 pub size-small : (w h : ℕ) → w ≤ 4096 → h ≤ 2048 → w * h ≤ 8388608
 size-small w h a b = mul-le-mul {n₂ = 4096} {m₂ = 2048} a b
 
 -- ---- the answers
 
-module _ (index w h mode : ℕ) (q p out : List ℕ) (n : ℕ) (count : n ≡ tilesNo w h) (s : Sized) (m : Measures (refusals p w h mode q n 0) (length (tilesOf (tileP p w h mode q) n 0)) s) where
+module _ (index w h mode : ℕ) (q p out : List ℕ) (n : ℕ) (count : n ≡ tilesNo w h) (s : Sized) (m : Sizes (refusals p w h mode q n 0) (length (tilesOf (tileP p w h mode q) n 0)) s) where
   frame-is : frameOf index w h mode q n (tileP p w h mode q) ≡ frameP index w h mode q p
   unfolding frameP
   frame-is = ap (λ (k : ℕ). frameOf index w h mode q k (tileP p w h mode q)) count
@@ -81,7 +80,7 @@ module _ (index w h mode : ℕ) (q p out : List ℕ) (n : ℕ) (count : n ≡ ti
 
   module _ (e : s .number ≡ 0) where
     frame-size : length (frameP index w h mode q p) ≡ 72 + s .size
-    frame-size = sym (ap length frame-is) ∙ (frame-long index w h mode q n (tileP p w h mode q) ∙ ap (λ (k : ℕ). 72 + k) (sym (m .size e)))
+    frame-size = sym (ap length frame-is) ∙ (frame-long index w h mode q n (tileP p w h mode q) ∙ ap (λ (k : ℕ). 72 + k) (sym (size-done _ _ _ m e)))
 
     pub send-room : length out < 72 + s .size → Wrote (sendFault index w h mode q p (length out)) (frameP index w h mode q p) out out (Refused 13)
     unfolding sendFault

@@ -1,17 +1,14 @@
-use mathlib.Core.Path.{refl}
+-- `put_head` meets its contract: the length that was opened as 0 is filled in (`patch-refill`). Assumes nothing.
+use mathlib.Core.List.{_++_}
 use native.Mathlib.Omega.{arith}
-use Rattle.wire.specs.Le.{bytes16}
-use Rattle.wire.specs.laws.Le.{patch-next}
+use Rattle.wire.specs.Le.{bytes16, bytes32, patch}
+use Rattle.wire.specs.laws.Le.{patch-refill}
 use borrow.Author.Needs.{needs}
 use Rattle.headers.proofs.put_head.Statement.{statement}
 use Rattle.headers.proofs.put_head.Tie as tie
-use Rattle.headers.proofs.put_head.Reads as reads
-use Rattle.headers.proofs.put_head.Lts as lts
-use Rattle.wire.proofs.put16_at.Reads as put16-at-reads
-use Rattle.wire.proofs.put32_at.Reads as put32-at-reads
 
-put16-at-requires : tie.Need-put16-at-requires
-put16-at-requires c κs = search needs
+open-block-requires : tie.Need-open-block-requires
+open-block-requires c κs = search needs
 
 add-put32-at : tie.Need-add-put32-at
 add-put32-at c = search needs
@@ -23,9 +20,13 @@ same-length : tie.Need-same-length
 same-length c = search needs
 
 returns : tie.Need-returns
-unfolding bytes16
-returns c = patch-next _ _ _ _ _ _ _ (c .before .before .before .before .before .before .put16-at .ensures) (c .before .before .put32-at .ensures) refl (omega arith)
+unfolding bytes16 bytes32 patch
+returns c =
+    let c1 = c .before .before in
+    let c2 = c1 .before .before .before .before in
+    let s = c2 .before .before .before in
+    patch-refill _ _ _ (bytes16 (s .args .kind) ++ bytes32 0) (bytes32 (s .args .size)) (s .args .at) 2 (c2 .open-block .ensures) (c1 .put32-at .ensures)
+    (omega arith) (omega arith)
 
 pub put-head-spec : {M : Type 1} → statement M
-put-head-spec =
-    tie.close (tie.spec put16-at-requires add-put32-at put32-at-requires same-length returns)
+put-head-spec = tie.close (tie.spec open-block-requires add-put32-at put32-at-requires same-length returns)

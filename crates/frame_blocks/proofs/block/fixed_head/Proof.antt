@@ -1,45 +1,17 @@
-use Rattle.whole.specs.laws.Row.{rows, passes}
-use Rattle.frame_layout.specs.Reader.{fixedHead, sizeAt}
+-- `fixed_head` meets its contract: it is `block_head` for a block of a fixed size. Assumes nothing.
+use Rattle.whole.specs.Row.{_⇒_∣_}
+use Rattle.frame_layout.specs.Reader.{fixedHead}
+use Rattle.frame_blocks.specs.Blocks.{headBy}
 use borrow.Author.Needs.{needs}
 use Rattle.frame_blocks.proofs.block.fixed_head.Statement.{statement}
 use Rattle.frame_blocks.proofs.block.fixed_head.Tie as tie
-use Rattle.frame_blocks.proofs.block.fixed_head.Reads as reads
-use Rattle.frame_blocks.proofs.block.fixed_head.Lts as lts
-use Rattle.frame_blocks.proofs.block.head_judge.Reads as head-judge-reads
-use Rattle.wire.proofs.le16_at.Reads as le16-at-reads
-use Rattle.wire.proofs.le32_at.Reads as le32-at-reads
 
-sub-room : tie.Need-sub-room
-sub-room c = search needs
+block-head-requires : tie.Need-block-head-requires
+block-head-requires c κs = search needs
 
 returns : tie.Need-returns
-unfolding fixedHead sizeAt
-returns c = search rows
-
-le16-at-requires : tie.Need-le16-at-requires
-le16-at-requires c κs = search needs
-
-add-le32-at : tie.Need-add-le32-at
-add-le32-at c = search needs
-
-le32-at-requires : tie.Need-le32-at-requires
-le32-at-requires c κs = search needs
-
-head-judge-requires : tie.Need-head-judge-requires
-head-judge-requires c κs = search needs
-
-returns-2 : tie.Need-returns-2
-unfolding fixedHead sizeAt
-returns-2 c = passes _ _ _ _ (search rows) (cc)
+unfolding fixedHead headBy _⇒_∣_
+returns c = c .block-head .ensures
 
 pub fixed-head-spec : {M : Type 1} → statement M
-fixed-head-spec =
-    tie.close
-    (tie.spec
-    sub-room
-    returns
-    le16-at-requires
-    add-le32-at
-    le32-at-requires
-    head-judge-requires
-    returns-2)
+fixed-head-spec = tie.close (tie.spec block-head-requires returns)

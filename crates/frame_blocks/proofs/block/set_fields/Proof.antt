@@ -1,65 +1,9 @@
+-- `set_fields` meets its contract: the eight numbers that it reads are those of the definition. Assumes nothing.
 use Rattle.frame_layout.specs.Reader.{sizeAt, quantCount, tileCount, dataSize}
 use Rattle.frame_blocks.specs.Blocks.{setFields}
 use borrow.Author.Needs.{needs}
 use Rattle.frame_blocks.proofs.block.set_fields.Statement.{statement}
 use Rattle.frame_blocks.proofs.block.set_fields.Tie as tie
-use Rattle.frame_blocks.proofs.block.set_fields.Reads as reads
-use Rattle.frame_blocks.proofs.block.set_fields.Lts as lts
-use Rattle.frame_blocks.proofs.block.set_judge.Reads as set-judge-reads
-use Rattle.wire.proofs.byte_at.Reads as byte-at-reads
-use Rattle.wire.proofs.le16_at.Reads as le16-at-reads
-use Rattle.wire.proofs.le32_at.Reads as le32-at-reads
-
-add-le32-at : tie.Need-add-le32-at
-add-le32-at c = search needs
-
-le32-at-requires : tie.Need-le32-at-requires
-le32-at-requires c κs = search needs
-
-add-le16-at : tie.Need-add-le16-at
-add-le16-at c = search needs
-
-le16-at-requires : tie.Need-le16-at-requires
-le16-at-requires c κs = search needs
-
-add-le16-at-2 : tie.Need-add-le16-at-2
-add-le16-at-2 c = search needs
-
-le16-at-requires-2 : tie.Need-le16-at-requires-2
-le16-at-requires-2 c κs = search needs
-
-add-le16-at-3 : tie.Need-add-le16-at-3
-add-le16-at-3 c = search needs
-
-le16-at-requires-3 : tie.Need-le16-at-requires-3
-le16-at-requires-3 c κs = search needs
-
-add-byte-at : tie.Need-add-byte-at
-add-byte-at c = search needs
-
-byte-at-requires : tie.Need-byte-at-requires
-byte-at-requires c κs = search needs
-
-add-byte-at-2 : tie.Need-add-byte-at-2
-add-byte-at-2 c = search needs
-
-byte-at-requires-2 : tie.Need-byte-at-requires-2
-byte-at-requires-2 c κs = search needs
-
-add-le16-at-4 : tie.Need-add-le16-at-4
-add-le16-at-4 c = search needs
-
-le16-at-requires-4 : tie.Need-le16-at-requires-4
-le16-at-requires-4 c κs = search needs
-
-add-le32-at-2 : tie.Need-add-le32-at-2
-add-le32-at-2 c = search needs
-
-le32-at-requires-2 : tie.Need-le32-at-requires-2
-le32-at-requires-2 c κs = search needs
-
-set-judge-requires : tie.Need-set-judge-requires
-set-judge-requires c κs = search needs
 
 returns : tie.Need-returns
 unfolding setFields sizeAt quantCount tileCount dataSize
@@ -69,21 +13,13 @@ pub set-fields-spec : {M : Type 1} → statement M
 set-fields-spec =
     tie.close
     (tie.spec
-    add-le32-at
-    le32-at-requires
-    add-le16-at
-    le16-at-requires
-    add-le16-at-2
-    le16-at-requires-2
-    add-le16-at-3
-    le16-at-requires-3
-    add-byte-at
-    byte-at-requires
-    add-byte-at-2
-    byte-at-requires-2
-    add-le16-at-4
-    le16-at-requires-4
-    add-le32-at-2
-    le32-at-requires-2
-    set-judge-requires
+    (λ c. search needs) (λ c κs. search needs)
+    (λ c. search needs) (λ c κs. search needs)
+    (λ c. search needs) (λ c κs. search needs)
+    (λ c. search needs) (λ c κs. search needs)
+    (λ c. search needs) (λ c κs. search needs)
+    (λ c. search needs) (λ c κs. search needs)
+    (λ c. search needs) (λ c κs. search needs)
+    (λ c. search needs) (λ c κs. search needs)
+    (λ c κs. search needs)
     returns)

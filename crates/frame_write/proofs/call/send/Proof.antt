@@ -1,23 +1,18 @@
-use Prim.Native.Nat.{_-_}
+-- `send` meets its contract: one law for each way out (`send-stop`, `send-room`, `send-done`). Assumes nothing.
 use mathlib.Core.Path.{sym, _∙_}
 use native.Mathlib.Omega.{arith}
 use denote.Ref.{now}
 use Rattle.frame_write.specs.laws.Encode.{sized-small}
-use Rattle.frame_write.specs.laws.FrameWrite.{send-stop, send-room, send-done}
+use Rattle.frame_write.specs.laws.FrameWrite.{still-good, send-stop, send-room, send-done}
 use borrow.Author.Needs.{needs}
 use Rattle.frame_write.proofs.call.send.Statement.{statement}
 use Rattle.frame_write.proofs.call.send.Tie as tie
-use Rattle.frame_write.proofs.call.send.Reads as reads
-use Rattle.frame_write.proofs.call.send.Lts as lts
-use Rattle.frame_pieces.proofs.tiles_no.Reads as tiles-no-reads
-use Rattle.frame_write.proofs.put.put_frame.Reads as put-frame-reads
-use Rattle.frame_write.proofs.size.tiles_size.Reads as tiles-size-reads
 
 tiles-no-requires : tie.Need-tiles-no-requires
-tiles-no-requires c κs = (c .before .before .pre .0 .wider, c .before .before .pre .0 .higher)
+tiles-no-requires c κs = (c .before .before .pre .picture .wider, c .before .before .pre .picture .higher)
 
 tiles-size-requires : tie.Need-tiles-size-requires
-tiles-size-requires c κs = (c .before .before .before .before .before .pre .0, c .before .before .tiles-no .ensures .0, c .before .before .before .before .before .pre .2, c .before .before .before .before .before .pre .3)
+tiles-size-requires c κs = (c .before .before .before .before .before .pre, c .before .before .tiles-no .ensures .0)
 
 same-length : tie.Need-same-length
 same-length c = search needs
@@ -26,10 +21,31 @@ same-length-2 : tie.Need-same-length-2
 same-length-2 c = search needs
 
 returns : tie.Need-returns
-returns c = send-stop (c .before .before .before .before .before .before .before .before .before .args .index) (c .before .before .before .before .before .before .before .before .before .args .w) (c .before .before .before .before .before .before .before .before .before .args .h) (c .before .before .before .before .before .before .before .before .before .args .mode) (c .before .before .before .before .before .before .before .before .before .args .q .v) (now (c .before .before .before .before .before .before .before .before .before .args .pixels)) (now (c .before .before .before .before .before .before .before .before .before .args .out)) (c .before .before .before .before .before .before .tiles-no .result) (c .before .before .before .before .before .before .tiles-no .ensures .0) (c .before .before .before .tiles-size .result) (c .before .before .before .tiles-size .ensures) (c .if1 .taken)
+returns c =
+    let c1 = c .before .before .before in
+    let c2 = c1 .before .before .before in
+    let c3 = c2 .before .before .before in
+    let a = c3 .args in
+    let j = a .job in
+    let n = c2 .tiles-no in
+    let s = c1 .tiles-size in
+    send-stop (j .index) (j .width) (j .height) (j .mode) (j .quant .v) (now (a .pixels)) (now (a .out)) (n .result) (n .ensures .0) (s .result) (s .ensures)
+    (c .if1 .taken)
 
 add-if2 : tie.Need-add-if2
-add-if2 c = omega (arith, sized-small (now (c .before .before .before .before .before .before .before .before .before .args .pixels)) (c .before .before .before .before .before .before .before .before .before .args .w) (c .before .before .before .before .before .before .before .before .before .args .h) (c .before .before .before .before .before .before .before .before .before .args .mode) (c .before .before .before .before .before .before .before .before .before .args .q .v) (c .before .before .before .before .before .before .tiles-no .result) (c .before .before .before .tiles-size .result) (c .before .before .before .before .before .before .tiles-no .ensures .1) (c .before .before .before .tiles-size .ensures) (c .if1 .left) .1)
+add-if2 c =
+    let c1 = c .before .before .before in
+    let c2 = c1 .before .before .before in
+    let c3 = c2 .before .before .before in
+    let a = c3 .args in
+    let j = a .job in
+    let n = c2 .tiles-no in
+    let s = c1 .tiles-size in
+    omega (
+      arith,
+      sized-small (now (a .pixels)) (j .width) (j .height) (j .mode) (j .quant .v) (n .result) (s .result) (n .ensures .1) (s .ensures)
+          (c .if1 .left) .1,
+    )
 
 same-length-3 : tie.Need-same-length-3
 same-length-3 c = search needs
@@ -38,24 +54,67 @@ same-length-4 : tie.Need-same-length-4
 same-length-4 c = search needs
 
 returns-2 : tie.Need-returns-2
-returns-2 c = send-room (c .before .before .before .before .before .before .before .before .before .before .args .index) (c .before .before .before .before .before .before .before .before .before .before .args .w) (c .before .before .before .before .before .before .before .before .before .before .args .h) (c .before .before .before .before .before .before .before .before .before .before .args .mode) (c .before .before .before .before .before .before .before .before .before .before .args .q .v) (now (c .before .before .before .before .before .before .before .before .before .before .args .pixels)) (now (c .before .before .before .before .before .before .before .before .before .before .args .out)) (c .before .before .before .before .before .before .before .tiles-no .result) (c .before .before .before .before .before .before .before .tiles-no .ensures .0) (c .before .before .before .before .tiles-size .result) (c .before .before .before .before .tiles-size .ensures) (c .before .if1 .left) (c .if2 .taken)
+returns-2 c =
+    let c1 = c .before in
+    let c2 = c1 .before .before .before in
+    let c3 = c2 .before .before .before in
+    let c4 = c3 .before .before .before in
+    let a = c4 .args in
+    let j = a .job in
+    let n = c3 .tiles-no in
+    let s = c2 .tiles-size in
+    send-room (j .index) (j .width) (j .height) (j .mode) (j .quant .v) (now (a .pixels)) (now (a .out)) (n .result) (n .ensures .0) (s .result) (s .ensures)
+    (c1 .if1 .left) (c .if2 .taken)
 
 put-frame-requires : tie.Need-put-frame-requires
 put-frame-requires c κs =
-    let t = sized-small (now (c .before .before .before .before .before .before .before .before .before .before .before .before .before .args .pixels)) (c .before .before .before .before .before .before .before .before .before .before .before .before .before .args .w) (c .before .before .before .before .before .before .before .before .before .before .before .before .before .args .h) (c .before .before .before .before .before .before .before .before .before .before .before .before .before .args .mode) (c .before .before .before .before .before .before .before .before .before .before .before .before .before .args .q .v) (c .before .before .before .before .before .before .before .before .before .before .tiles-no .result) (c .before .before .before .before .before .before .before .tiles-size .result) (c .before .before .before .before .before .before .before .before .before .before .tiles-no .ensures .1) (c .before .before .before .before .before .before .before .tiles-size .ensures) (c .before .before .before .before .if1 .left) in
-    (c .before .before .before .before .before .before .before .before .before .before .before .before .before .pre .0, c .before .before .before .before .before .before .before .before .before .before .tiles-no .ensures .0, c .before .before .before .before .before .before .before .tiles-size .kept .1 .1 .1 .1 .1 .1 .0 ∙ c .before .before .before .before .before .before .before .before .before .before .before .before .before .pre .2, c .before .before .before .before .before .before .before .tiles-size .kept .1 .1 .1 .1 .1 .1 .1 .0 ∙ c .before .before .before .before .before .before .before .before .before .before .before .before .before .pre .3, sym (c .before .before .before .before .if1 .left) ∙ c .before .before .before .before .before .before .before .tiles-size .ensures .number, omega (arith, t .0, c .before .before .before .if2 .left), c .before .before .before .before .before .before .before .before .before .before .before .before .before .pre .1)
+    let c1 = c .before .before .before in
+    let c2 = c1 .before in
+    let c3 = c2 .before .before .before in
+    let c4 = c3 .before .before .before in
+    let b = c4 .before .before .before in
+    let j = b .args .job in
+    let n = c4 .tiles-no in
+    let s = c3 .tiles-size in
+    let k = s .kept .1 .1 .1 in
+    let t = sized-small (now (b .args .pixels)) (j .width) (j .height) (j .mode) (j .quant .v) (n .result) (s .result) (n .ensures .1) (s .ensures)
+    (c2 .if1 .left) in (
+      still-good (b .pre) (k .0) (k .1 .0),
+      n .ensures .0,
+      sym (c2 .if1 .left) ∙ s .ensures .number,
+      omega (arith, t .0, c1 .if2 .left),
+    )
 
 same-length-5 : tie.Need-same-length-5
 same-length-5 c = c .before .before .before .before .put-frame .kept .0
 
 same-length-6 : tie.Need-same-length-6
-same-length-6 c = c .before .before .before .before .put-frame .kept .1 .0 ∙ c .before .before .before .before .before .before .before .before .before .before .before .before .tiles-size .kept .1 .1 .1 .1 .1 .1 .0
+same-length-6 c =
+    let c1 = c .before .before .before .before in
+    let c2 = c1 .before .before .before .before .before .before .before .before in
+    c1 .put-frame .kept .1 .0 ∙ c2 .tiles-size .kept .1 .1 .1 .0
 
 same-length-7 : tie.Need-same-length-7
-same-length-7 c = c .before .before .before .before .put-frame .kept .1 .1 .0 ∙ c .before .before .before .before .before .before .before .before .before .before .before .before .tiles-size .kept .1 .1 .1 .1 .1 .1 .1 .0
+same-length-7 c =
+    let c1 = c .before .before .before .before in
+    let c2 = c1 .before .before .before .before .before .before .before .before in
+    c1 .put-frame .kept .1 .1 .0 ∙ c2 .tiles-size .kept .1 .1 .1 .1 .0
 
 returns-3 : tie.Need-returns-3
-returns-3 c = send-done (c .before .before .before .before .before .before .before .before .before .before .before .before .before .before .before .before .before .before .args .index) (c .before .before .before .before .before .before .before .before .before .before .before .before .before .before .before .before .before .before .args .w) (c .before .before .before .before .before .before .before .before .before .before .before .before .before .before .before .before .before .before .args .h) (c .before .before .before .before .before .before .before .before .before .before .before .before .before .before .before .before .before .before .args .mode) (c .before .before .before .before .before .before .before .before .before .before .before .before .before .before .before .before .before .before .args .q .v) (now (c .before .before .before .before .before .before .before .before .before .before .before .before .before .before .before .before .before .before .args .pixels)) (now (c .before .before .before .before .before .before .before .before .before .before .before .before .before .before .before .before .before .before .args .out)) (c .before .before .before .before .before .before .before .before .before .before .before .before .before .before .before .tiles-no .result) (c .before .before .before .before .before .before .before .before .before .before .before .before .before .before .before .tiles-no .ensures .0) (c .before .before .before .before .before .before .before .before .before .before .before .before .tiles-size .result) (c .before .before .before .before .before .before .before .before .before .before .before .before .tiles-size .ensures) (c .before .before .before .before .before .before .before .before .before .if1 .left) (c .before .before .before .before .before .before .before .before .if2 .left) _ _ (c .before .before .before .before .put-frame .ensures .0) (c .before .before .before .before .put-frame .ensures .1)
+returns-3 c =
+    let c1 = c .before .before .before .before in
+    let c2 = c1 .before .before .before .before in
+    let c3 = c2 .before in
+    let c4 = c3 .before .before .before in
+    let c5 = c4 .before .before .before in
+    let c6 = c5 .before .before .before in
+    let a = c6 .args in
+    let j = a .job in
+    let n = c5 .tiles-no in
+    let s = c4 .tiles-size in
+    let p = c1 .put-frame .ensures in
+    send-done (j .index) (j .width) (j .height) (j .mode) (j .quant .v) (now (a .pixels)) (now (a .out)) (n .result) (n .ensures .0) (s .result) (s .ensures)
+    (c3 .if1 .left) (c2 .if2 .left) _ _ (p .0) (p .1)
 
 pub send-spec : {M : Type 1} → statement M
 send-spec =

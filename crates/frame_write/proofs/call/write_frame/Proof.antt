@@ -1,4 +1,5 @@
-use Prim.Native.Nat.{ℕ, _-_}
+-- `write_frame` meets its contract: refused with everything as it was, or sent and both work lists cleared (`all-refused`, `all-sent`). Assumes nothing.
+use Prim.Native.Nat.{ℕ}
 use mathlib.Core.Path.{ap, sym, _∙_}
 use lib.IntN.{pos}
 use lib.ListN.{length, replicate}
@@ -7,20 +8,27 @@ use Rattle.frame_write.specs.laws.FrameWrite.{args-good, all-refused, al
 use borrow.Author.Needs.{needs}
 use Rattle.frame_write.proofs.call.write_frame.Statement.{statement}
 use Rattle.frame_write.proofs.call.write_frame.Tie as tie
-use Rattle.frame_write.proofs.call.write_frame.Reads as reads
-use Rattle.frame_write.proofs.call.write_frame.Lts as lts
-use Rattle.frame_write.proofs.call.arg_judge.Reads as arg-judge-reads
-use Rattle.frame_write.proofs.call.send.Reads as send-reads
-use Rattle.whole.proofs.clear.Reads as clear-reads
 
 arg-judge-requires : tie.Need-arg-judge-requires
 arg-judge-requires c κs = search needs
 
 returns : tie.Need-returns
-returns c = all-refused (c .before .before .before .before .args .width) (c .before .before .before .before .args .height) (c .before .before .before .before .args .mode) (c .before .before .before .before .args .q .v) (c .before .before .before .before .args .index) (now (c .before .before .before .before .args .pixels)) (now (c .before .before .before .before .args .list)) (now (c .before .before .before .before .args .scratch)) (now (c .before .before .before .before .args .out)) (c .before .arg-judge .result) (c .before .arg-judge .ensures) (c .if1 .taken)
+returns c =
+    let c1 = c .before in
+    let s = c1 .before .before .before in
+    let a = s .args in
+    let j = c1 .arg-judge in
+    all-refused (a .width) (a .height) (a .mode) (a .q .v) (a .index) (now (a .pixels)) (now (a .list)) (now (a .scratch)) (now (a .out)) (j .result)
+    (j .ensures) (c .if1 .taken)
 
 send-requires : tie.Need-send-requires
-send-requires c κs = let g = args-good (c .before .before .before .before .before .before .before .args .width) (c .before .before .before .before .before .before .before .args .height) (c .before .before .before .before .before .before .before .args .mode) (c .before .before .before .before .before .before .before .args .q .v) (now (c .before .before .before .before .before .before .before .args .pixels)) (length (now (c .before .before .before .before .before .before .before .args .list))) (length (now (c .before .before .before .before .before .before .before .args .scratch))) (sym (c .before .before .before .if1 .left) ∙ c .before .before .before .before .arg-judge .ensures) in (g .picture, g .small, g .first, g .second)
+send-requires c κs =
+    let c1 = c .before .before .before in
+    let c2 = c1 .before in
+    let s = c2 .before .before .before in
+    let a = s .args in
+    let n = length (now (a .list)) in
+    args-good (a .width) (a .height) (a .mode) (a .q .v) (now (a .pixels)) n (length (now (a .scratch))) (sym (c1 .if1 .left) ∙ c2 .arg-judge .ensures)
 
 clear-requires : tie.Need-clear-requires
 clear-requires c κs = search needs
@@ -29,7 +37,10 @@ clear-requires-2 : tie.Need-clear-requires-2
 clear-requires-2 c κs = search needs
 
 same-length : tie.Need-same-length
-same-length c = c .before .before .before .before .clear .kept .0 ∙ c .before .before .before .before .before .before .before .before .before .before .send .kept .1 .0
+same-length c =
+    let c1 = c .before .before .before .before in
+    let c2 = c1 .before .before .before .before .before .before in
+    c1 .clear .kept .0 ∙ c2 .send .kept .1 .0
 
 same-length-2 : tie.Need-same-length-2
 same-length-2 c = c .before .clear2 .kept .0 ∙ c .before .before .before .before .before .before .before .before .before .before .send .kept .1 .1 .0
@@ -39,8 +50,23 @@ same-length-3 c = c .before .before .before .before .before .before .before .bef
 
 returns-2 : tie.Need-returns-2
 returns-2 c =
-    let g = args-good (c .before .before .before .before .before .before .before .before .before .before .before .before .before .before .before .before .before .before .args .width) (c .before .before .before .before .before .before .before .before .before .before .before .before .before .before .before .before .before .before .args .height) (c .before .before .before .before .before .before .before .before .before .before .before .before .before .before .before .before .before .before .args .mode) (c .before .before .before .before .before .before .before .before .before .before .before .before .before .before .before .before .before .before .args .q .v) (now (c .before .before .before .before .before .before .before .before .before .before .before .before .before .before .before .before .before .before .args .pixels)) (length (now (c .before .before .before .before .before .before .before .before .before .before .before .before .before .before .before .before .before .before .args .list))) (length (now (c .before .before .before .before .before .before .before .before .before .before .before .before .before .before .before .before .before .before .args .scratch))) (sym (c .before .before .before .before .before .before .before .before .before .before .before .before .before .before .if1 .left) ∙ c .before .before .before .before .before .before .before .before .before .before .before .before .before .before .before .arg-judge .ensures) in
-    all-sent (c .before .before .before .before .before .before .before .before .before .before .before .before .before .before .before .before .before .before .args .width) (c .before .before .before .before .before .before .before .before .before .before .before .before .before .before .before .before .before .before .args .height) (c .before .before .before .before .before .before .before .before .before .before .before .before .before .before .before .before .before .before .args .mode) (c .before .before .before .before .before .before .before .before .before .before .before .before .before .before .before .before .before .before .args .q .v) (c .before .before .before .before .before .before .before .before .before .before .before .before .before .before .before .before .before .before .args .index) (now (c .before .before .before .before .before .before .before .before .before .before .before .before .before .before .before .before .before .before .args .pixels)) (now (c .before .before .before .before .before .before .before .before .before .before .before .before .before .before .before .before .before .before .args .list)) (now (c .before .before .before .before .before .before .before .before .before .before .before .before .before .before .before .before .before .before .args .scratch)) (now (c .before .before .before .before .before .before .before .before .before .before .before .before .before .before .before .before .before .before .args .out)) (c .before .before .before .before .before .before .before .before .before .before .before .before .before .before .before .arg-judge .result) (c .before .before .before .before .before .before .before .before .before .before .before .before .before .before .before .arg-judge .ensures) (c .before .before .before .before .before .before .before .before .before .before .before .before .before .before .if1 .left) _ _ _ (c .before .before .before .before .before .before .before .before .before .before .send .result) (c .before .before .before .before .before .before .before .before .before .before .send .ensures) (c .before .before .before .before .clear .ensures ∙ ap (λ (n : ℕ). replicate n (pos 0)) (c .before .before .before .before .before .before .before .before .before .before .send .kept .1 .0 ∙ g .first)) (c .before .clear2 .ensures ∙ ap (λ (n : ℕ). replicate n (pos 0)) (c .before .before .before .before .before .before .before .before .before .before .send .kept .1 .1 .0 ∙ g .second))
+    let c1 = c .before in
+    let c2 = c1 .before .before .before in
+    let c3 = c2 .before .before .before .before .before .before in
+    let c4 = c3 .before .before .before .before in
+    let c5 = c4 .before in
+    let c6 = c5 .before .before .before in
+    let a = c6 .args in
+    let j = c5 .arg-judge in
+    let z = c4 .if1 .left in
+    let s = c3 .send in
+    let n = length (now (a .list)) in
+    let g = args-good (a .width) (a .height) (a .mode) (a .q .v) (now (a .pixels)) n (length (now (a .scratch))) (sym z ∙ j .ensures) in
+    all-sent (a .width) (a .height) (a .mode) (a .q .v) (a .index) (now (a .pixels)) (now (a .list)) (now (a .scratch)) (now (a .out)) (j .result)
+    (j .ensures) z
+    _ _ _ (s .result) (s .ensures)
+    (c2 .clear .ensures ∙ ap (λ (n : ℕ). replicate n (pos 0)) (s .kept .1 .0 ∙ g .first))
+    (c1 .clear2 .ensures ∙ ap (λ (n : ℕ). replicate n (pos 0)) (s .kept .1 .1 .0 ∙ g .second))
 
 pub write-frame-spec : {M : Type 1} → statement M
 write-frame-spec =

@@ -1,4 +1,5 @@
-use Prim.Native.Nat.{ℕ, _*_, _-_, _/_, _%_, _<_}
+-- `load_part` meets its contract: the tile lies in the picture (`place-good`), in the column and row of the definition. Assumes nothing.
+use Prim.Native.Nat.{ℕ, _*_, _/_, _%_, _<_}
 use mathlib.Core.Path.{ap, sym, subst, _∙_}
 use native.Mathlib.Omega.{arith}
 use denote.Ref.{now}
@@ -9,27 +10,37 @@ use Rattle.frame_write.specs.laws.Encode.{place-good}
 use borrow.Author.Needs.{needs}
 use Rattle.frame_write.proofs.size.load_part.Statement.{statement}
 use Rattle.frame_write.proofs.size.load_part.Tie as tie
-use Rattle.frame_write.proofs.size.load_part.Reads as reads
-use Rattle.frame_write.proofs.size.load_part.Lts as lts
-use Rattle.frame_pieces.proofs.cols_of.Reads as cols-of-reads
-use Rattle.tile_forth.proofs.load_component.Reads as load-component-reads
 
 cols-of-requires : tie.Need-cols-of-requires
-cols-of-requires c κs = search needs
+cols-of-requires c κs = c .before .before .pre .0 .picture .wider
 
 rem-load-component : tie.Need-rem-load-component
-rem-load-component c = omega (arith, c .cols-of .ensures .0, some-cols (c .before .before .args .w) (c .before .before .pre .0 .wide))
+rem-load-component c =
+    let s = c .before .before .before in
+    omega (arith, c .cols-of .ensures .0, some-cols (s .args .job .width) (s .pre .0 .picture .wide))
 
 div-load-component : tie.Need-div-load-component
-div-load-component c = omega (arith, c .cols-of .ensures .0, some-cols (c .before .before .args .w) (c .before .before .pre .0 .wide))
+div-load-component c =
+    let s = c .before .before .before in
+    omega (arith, c .cols-of .ensures .0, some-cols (s .args .job .width) (s .pre .0 .picture .wide))
 
 load-component-requires : tie.Need-load-component-requires
 load-component-requires c κs =
-    let g = c .before .before .before .before .pre .0 in
-    let t = place-good (c .before .before .before .before .args .w) (c .before .before .before .before .args .h) (c .before .before .before .before .args .k) (g .wide) (c .before .before .before .before .pre .1) in
+    let s = c .before .before .before .before .before in
+    let j = s .args .job in
+    let g = s .pre .0 .picture in
+    let t = place-good (j .width) (j .height) (s .args .k) (g .wide) (s .pre .1) in
     let e = sym (c .before .before .cols-of .ensures .0) in (
-      (g .wide, g .wider, g .high, g .higher, sym (g .pixels), subst (λ (n : ℕ). 64 * (c .before .before .before .before .args .k % n) < c .before .before .before .before .args .w) e (t .0), subst (λ (n : ℕ). 64 * (c .before .before .before .before .args .k / n) < c .before .before .before .before .args .h) e (t .1)),
-      (c .before .before .before .before .pre .2, c .before .before .before .before .pre .3, g .quants),
+      (
+        g .wide,
+        g .wider,
+        g .high,
+        g .higher,
+        sym (g .pixels),
+        subst (λ (n : ℕ). 64 * (s .args .k % n) < j .width) e (t .0),
+        subst (λ (n : ℕ). 64 * (s .args .k / n) < j .height) e (t .1),
+      ),
+      (s .pre .0 .first, s .pre .0 .second, g .quants),
     )
 
 same-length : tie.Need-same-length
@@ -40,7 +51,14 @@ same-length-2 c = search needs
 
 returns : tie.Need-returns
 unfolding listOf
-returns c = c .before .before .load-component .ensures ∙ ap (λ (n : ℕ). roundedOf (now (c .before .before .before .before .before .before .before .args .pixels)) (c .before .before .before .before .before .before .before .args .w) (c .before .before .before .before .before .before .before .args .h) (c .before .before .before .before .before .before .before .args .q .v) (c .before .before .before .before .before .before .before .args .k % n) (c .before .before .before .before .before .before .before .args .k / n) (c .before .before .before .before .before .before .before .args .c)) (c .before .before .before .before .before .cols-of .ensures .0)
+returns c =
+    let c1 = c .before .before in
+    let c2 = c1 .before .before .before in
+    let s = c2 .before .before .before in
+    let a = s .args in
+    let j = a .job in
+    c1 .load-component .ensures ∙
+    ap (λ (n : ℕ). roundedOf (now (a .pixels)) (j .width) (j .height) (j .quant .v) (a .k % n) (a .k / n) (a .c)) (c2 .cols-of .ensures .0)
 
 pub load-part-spec : {M : Type 1} → statement M
 load-part-spec =

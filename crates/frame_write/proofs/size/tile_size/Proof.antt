@@ -1,18 +1,17 @@
-use Prim.Native.Nat.{_-_}
+-- `tile_size` meets its contract: the first refusal of three (`first-of`, `second-of`, `third-of`), or the three sizes together (`tile-sized`).
+-- Each size is at most 65,535, so no sum is too big. Assumes nothing.
 use mathlib.Core.Path.{refl, _∙_}
 use native.Mathlib.Omega.{arith}
 use denote.Ref.{now}
 use Rattle.frame_write.specs.Encode.{partOf, tileRefusal}
 use Rattle.frame_write.specs.laws.Encode.{part-sized, first-of, second-of, third-of, tile-sized}
+use Rattle.frame_write.specs.laws.FrameWrite.{still-good}
 use borrow.Author.Needs.{needs}
 use Rattle.frame_write.proofs.size.tile_size.Statement.{statement}
 use Rattle.frame_write.proofs.size.tile_size.Tie as tie
-use Rattle.frame_write.proofs.size.tile_size.Reads as reads
-use Rattle.frame_write.proofs.size.tile_size.Lts as lts
-use Rattle.frame_write.proofs.size.part_size.Reads as part-size-reads
 
 part-size-requires : tie.Need-part-size-requires
-part-size-requires c κs = search needs
+part-size-requires c κs = c .before .before .before .pre
 
 same-length : tie.Need-same-length
 same-length c = search needs
@@ -22,10 +21,14 @@ same-length-2 c = search needs
 
 returns : tie.Need-returns
 unfolding tileRefusal
-returns c = first-of _ _ _ _ 0 0 (c .before .before .before .before .part-size .result) _ (c .before .before .before .before .part-size .ensures) (c .if1 .taken)
+returns c = let r = c .before .before .before .before .part-size in first-of _ _ _ _ 0 0 _ (r .result) (r .ensures) (c .if1 .taken)
 
 part-size-requires-2 : tie.Need-part-size-requires-2
-part-size-requires-2 c κs = search needs
+part-size-requires-2 c κs =
+    let c1 = c .before .before .before .before .before .before in
+    let s = c1 .before .before .before .before in
+    let k = c1 .part-size .kept .1 .1 .1 .1 in
+    (still-good (s .pre .0) (k .0) (k .1 .0), s .pre .1)
 
 same-length-3 : tie.Need-same-length-3
 same-length-3 c = search needs
@@ -35,10 +38,22 @@ same-length-4 c = search needs
 
 returns-2 : tie.Need-returns-2
 unfolding tileRefusal
-returns-2 c = second-of _ _ _ _ _ 0 (c .before .before .before .before .before .before .before .before .before .before .before .part-size .result) (c .before .before .before .before .part-size2 .result) _ (c .before .before .before .before .before .before .before .before .before .before .before .part-size .ensures) (c .before .before .before .before .before .before .before .if1 .left) (c .before .before .before .before .part-size2 .ensures) (c .if2 .taken)
+returns-2 c =
+    let c1 = c .before .before .before .before in
+    let c2 = c1 .before .before .before in
+    let c3 = c2 .before .before .before .before in
+    let r = c3 .part-size in
+    let s = c1 .part-size2 in
+    second-of _ _ _ _ _ 0 _ (r .result) (r .ensures) (c2 .if1 .left) (s .result) (s .ensures) (c .if2 .taken)
 
 part-size-requires-3 : tie.Need-part-size-requires-3
-part-size-requires-3 c κs = (c .before .before .before .before .before .before .before .before .before .before .before .before .before .before .before .before .before .pre .0, c .before .before .before .before .before .before .before .before .before .before .before .before .before .before .before .before .before .pre .1, c .before .before .before .before .before .before .part-size2 .kept .1 .1 .1 .1 .1 .1 .1 .0 ∙ (c .before .before .before .before .before .before .before .before .before .before .before .before .before .part-size .kept .1 .1 .1 .1 .1 .1 .1 .0 ∙ c .before .before .before .before .before .before .before .before .before .before .before .before .before .before .before .before .before .pre .2), c .before .before .before .before .before .before .part-size2 .kept .1 .1 .1 .1 .1 .1 .1 .1 .0 ∙ (c .before .before .before .before .before .before .before .before .before .before .before .before .before .part-size .kept .1 .1 .1 .1 .1 .1 .1 .1 .0 ∙ c .before .before .before .before .before .before .before .before .before .before .before .before .before .before .before .before .before .pre .3))
+part-size-requires-3 c κs =
+    let c1 = c .before .before .before .before .before .before in
+    let c2 = c1 .before .before .before .before .before .before .before in
+    let s = c2 .before .before .before .before in
+    let k = c2 .part-size .kept .1 .1 .1 .1 in
+    let l = c1 .part-size2 .kept .1 .1 .1 .1 in
+    (still-good (s .pre .0) (l .0 ∙ k .0) (l .1 .0 ∙ k .1 .0), s .pre .1)
 
 same-length-5 : tie.Need-same-length-5
 same-length-5 c = search needs
@@ -48,31 +63,51 @@ same-length-6 c = search needs
 
 returns-3 : tie.Need-returns-3
 unfolding tileRefusal
-returns-3 c = third-of _ _ _ _ _ _ (c .before .before .before .before .before .before .before .before .before .before .before .before .before .before .before .before .before .before .part-size .result) (c .before .before .before .before .before .before .before .before .before .before .before .part-size2 .result) (c .before .before .before .before .part-size3 .result) _ (c .before .before .before .before .before .before .before .before .before .before .before .before .before .before .before .before .before .before .part-size .ensures) (c .before .before .before .before .before .before .before .before .before .before .before .before .before .before .if1 .left) (c .before .before .before .before .before .before .before .before .before .before .before .part-size2 .ensures) (c .before .before .before .before .before .before .before .if2 .left) (c .before .before .before .before .part-size3 .ensures) (c .if3 .taken)
+returns-3 c =
+    let c1 = c .before .before .before .before in
+    let c2 = c1 .before .before .before in
+    let c3 = c2 .before .before .before .before in
+    let c4 = c3 .before .before .before in
+    let c5 = c4 .before .before .before .before in
+    let r = c5 .part-size in
+    let s = c3 .part-size2 in
+    let t = c1 .part-size3 in
+    third-of _ _ _ _ _ _ _ (r .result) (r .ensures) (c4 .if1 .left) (s .result) (s .ensures) (c2 .if2 .left) (t .result) (t .ensures) (c .if3 .taken)
 
-add-t25 : tie.Need-add-t25
+add-t22 : tie.Need-add-t22
 unfolding partOf
-add-t25 c =
-    let a = part-sized _ _ _ (c .before .before .before .before .before .before .before .before .before .before .before .before .before .before .before .before .before .before .before .part-size .result) (c .before .before .before .before .before .before .before .before .before .before .before .before .before .before .before .before .before .before .before .part-size .ensures) (c .before .before .before .before .before .before .before .before .before .before .before .before .before .before .before .if1 .left) in
-    let b = part-sized _ _ _ (c .before .before .before .before .before .before .before .before .before .before .before .before .part-size2 .result) (c .before .before .before .before .before .before .before .before .before .before .before .before .part-size2 .ensures) (c .before .before .before .before .before .before .before .before .if2 .left) in
-    let d = part-sized _ _ _ (c .before .before .before .before .before .part-size3 .result) (c .before .before .before .before .before .part-size3 .ensures) (c .before .if3 .left) in
-    omega (arith, a, b, d)
+add-t22 c =
+    let c1 = c .before .before .before .before .before .before .before .before .before .before .before .before .before .before .before in
+    let c2 = c1 .before .before .before .before in
+    let r = c2 .part-size in
+    omega (arith, part-sized _ _ _ (r .result) (r .ensures) (c1 .if1 .left))
 
-add-t26 : tie.Need-add-t26
+add-t23 : tie.Need-add-t23
 unfolding partOf
-add-t26 c =
-    let a = part-sized _ _ _ (c .before .before .before .before .before .before .before .before .before .before .before .before .before .before .before .before .before .before .before .before .part-size .result) (c .before .before .before .before .before .before .before .before .before .before .before .before .before .before .before .before .before .before .before .before .part-size .ensures) (c .before .before .before .before .before .before .before .before .before .before .before .before .before .before .before .before .if1 .left) in
-    let b = part-sized _ _ _ (c .before .before .before .before .before .before .before .before .before .before .before .before .before .part-size2 .result) (c .before .before .before .before .before .before .before .before .before .before .before .before .before .part-size2 .ensures) (c .before .before .before .before .before .before .before .before .before .if2 .left) in
-    let d = part-sized _ _ _ (c .before .before .before .before .before .before .part-size3 .result) (c .before .before .before .before .before .before .part-size3 .ensures) (c .before .before .if3 .left) in
-    omega (arith, a, b, d)
+add-t23 c =
+    let c1 = c .before .before .before .before .before .before .before .before .before in
+    let c2 = c1 .before .before .before .before in
+    let c3 = c2 .before .before .before in
+    let c4 = c3 .before .before .before .before in
+    let r = c4 .part-size in
+    let s = c2 .part-size2 in
+    omega (arith, part-sized _ _ _ (r .result) (r .ensures) (c3 .if1 .left), part-sized _ _ _ (s .result) (s .ensures) (c1 .if2 .left))
 
-add-t27 : tie.Need-add-t27
+add-t24 : tie.Need-add-t24
 unfolding partOf
-add-t27 c =
-    let a = part-sized _ _ _ (c .before .before .before .before .before .before .before .before .before .before .before .before .before .before .before .before .before .before .before .before .before .part-size .result) (c .before .before .before .before .before .before .before .before .before .before .before .before .before .before .before .before .before .before .before .before .before .part-size .ensures) (c .before .before .before .before .before .before .before .before .before .before .before .before .before .before .before .before .before .if1 .left) in
-    let b = part-sized _ _ _ (c .before .before .before .before .before .before .before .before .before .before .before .before .before .before .part-size2 .result) (c .before .before .before .before .before .before .before .before .before .before .before .before .before .before .part-size2 .ensures) (c .before .before .before .before .before .before .before .before .before .before .if2 .left) in
-    let d = part-sized _ _ _ (c .before .before .before .before .before .before .before .part-size3 .result) (c .before .before .before .before .before .before .before .part-size3 .ensures) (c .before .before .before .if3 .left) in
-    omega (arith, a, b, d)
+add-t24 c =
+    let c1 = c .before .before .before in
+    let c2 = c1 .before .before .before .before in
+    let c3 = c2 .before .before .before in
+    let c4 = c3 .before .before .before .before in
+    let c5 = c4 .before .before .before in
+    let c6 = c5 .before .before .before .before in
+    let r = c6 .part-size in
+    let s = c4 .part-size2 in
+    let t = c2 .part-size3 in
+    let a = part-sized _ _ _ (r .result) (r .ensures) (c5 .if1 .left) in
+    let b = part-sized _ _ _ (s .result) (s .ensures) (c3 .if2 .left) in
+    omega (arith, a, b, part-sized _ _ _ (t .result) (t .ensures) (c1 .if3 .left))
 
 same-length-7 : tie.Need-same-length-7
 same-length-7 c = search needs
@@ -81,7 +116,21 @@ same-length-8 : tie.Need-same-length-8
 same-length-8 c = search needs
 
 returns-4 : tie.Need-returns-4
-returns-4 c = tile-sized (now (c .before .before .before .before .before .before .before .before .before .before .before .before .before .before .before .before .before .before .before .before .before .before .before .before .before .args .pixels)) (c .before .before .before .before .before .before .before .before .before .before .before .before .before .before .before .before .before .before .before .before .before .before .before .before .before .args .w) (c .before .before .before .before .before .before .before .before .before .before .before .before .before .before .before .before .before .before .before .before .before .before .before .before .before .args .h) (c .before .before .before .before .before .before .before .before .before .before .before .before .before .before .before .before .before .before .before .before .before .before .before .before .before .args .mode) (c .before .before .before .before .before .before .before .before .before .before .before .before .before .before .before .before .before .before .before .before .before .before .before .before .before .args .q .v) (c .before .before .before .before .before .before .before .before .before .before .before .before .before .before .before .before .before .before .before .before .before .before .before .before .before .args .k) (c .before .before .before .before .before .before .before .before .before .before .before .before .before .before .before .before .before .before .before .before .before .part-size .result) (c .before .before .before .before .before .before .before .before .before .before .before .before .before .before .part-size2 .result) (c .before .before .before .before .before .before .before .part-size3 .result) (c .before .before .before .before .before .before .before .before .before .before .before .before .before .before .before .before .before .before .before .before .before .part-size .ensures) (c .before .before .before .before .before .before .before .before .before .before .before .before .before .before .before .before .before .if1 .left) (c .before .before .before .before .before .before .before .before .before .before .before .before .before .before .part-size2 .ensures) (c .before .before .before .before .before .before .before .before .before .before .if2 .left) (c .before .before .before .before .before .before .before .part-size3 .ensures) (c .before .before .before .if3 .left) _ refl
+returns-4 c =
+    let c1 = c .before .before .before in
+    let c2 = c1 .before .before .before .before in
+    let c3 = c2 .before .before .before in
+    let c4 = c3 .before .before .before .before in
+    let c5 = c4 .before .before .before in
+    let c6 = c5 .before .before .before .before in
+    let c7 = c6 .before .before .before .before in
+    let a = c7 .args in
+    let j = a .job in
+    let r = c6 .part-size in
+    let s = c4 .part-size2 in
+    let t = c2 .part-size3 in
+    tile-sized (now (a .pixels)) (j .width) (j .height) (j .mode) (j .quant .v) (a .k) (r .result) (s .result) (t .result)
+    (r .ensures) (c5 .if1 .left) (s .ensures) (c3 .if2 .left) (t .ensures) (c1 .if3 .left) _ refl
 
 pub tile-size-spec : {M : Type 1} → statement M
 tile-size-spec =
@@ -99,9 +148,9 @@ tile-size-spec =
     same-length-5
     same-length-6
     returns-3
-    add-t25
-    add-t26
-    add-t27
+    add-t22
+    add-t23
+    add-t24
     same-length-7
     same-length-8
     returns-4)

@@ -1,29 +1,14 @@
--- `wavelet::level_from` meets its contract.
-use Prim.Native.Nat.{_*_, _-_}
-use mathlib.Core.Path.{_∙_}
-use native.Mathlib.Omega.{arith}
-use lib.ListN.{length}
-use lib.Seq.{length-take-le}
-use Rattle.whole.specs.laws.Part.{part-near}
-use Rattle.whole.specs.laws.More.{tail-length, tail-put}
+-- `level_from` meets its contract: its parts are what `level_back` asks for (`level-asks`), and what that gives stands on the end (`tail-put`).
+use Prim.Native.Nat.{_*_}
+use Rattle.whole.specs.laws.More.{tail-put}
 use Rattle.wave_back.specs.Tile.{level}
+use Rattle.wave_back.specs.laws.Pass.{level-asks}
 use borrow.Author.Needs.{needs}
 use Rattle.wave_back.proofs.tile.level_from.Statement.{statement}
 use Rattle.wave_back.proofs.tile.level_from.Tie as tie
 
 asks : tie.Need-level-back-requires
-asks c κs =
-    let s = c .before .before in
-    let w = s .args .work .now in
-    let a = s .args .a in
-    let k = 4 * (s .args .n * s .args .n) in (
-      s .pre .0,
-      s .pre .1,
-      tail-length a k w (s .pre .2),
-      length-take-le (k - 0) (s .args .tmp .now) (omega arith) ∙ omega arith,
-      part-near w a (length w - a) (s .pre .5),
-      s .pre .6,
-    )
+asks c κs = let s = c .before .before in level-asks (s .args .a) (s .args .n) (s .args .w) (s .args .work .now) (s .args .tmp .now) (s .pre)
 
 returns : tie.Need-returns
 returns c =

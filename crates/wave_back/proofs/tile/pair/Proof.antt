@@ -1,4 +1,4 @@
--- `wavelet::pair` meets its contract. Invariant: the first c places of both rows are done.
+-- `pair` meets its contract. Invariant: the first c places of both rows are done.
 use Prim.Native.Nat.{_≤_, _-_}
 use mathlib.Core.Path.{_≡_, _∙_, ap, sym, subst}
 use native.Mathlib.Omega.{arith}
@@ -8,12 +8,13 @@ use Rattle.whole.specs.laws.Near.{Near, back, back-near, back-ok}
 use Rattle.whole.specs.Tab.{at}
 use Rattle.wave_back.specs.Line.{colAvg, evenAt}
 use Rattle.wave_back.specs.laws.Line.{odd-step, even-step, even-near}
-use Rattle.wave_back.specs.laws.Column.{lowCol, highCol, Even, Two, two-start, two-put, two-whole, Room, room}
+use Rattle.wave_back.specs.laws.Column.{lowCol, highCol, Even, Turn, Room, room}
+use Rattle.wave_back.specs.laws.Pass.{two-start, two-put, two-whole}
 use Rattle.wave_back.proofs.tile.pair.Statement.{statement}
 use Rattle.wave_back.proofs.tile.pair.Tie as tie
 
 abbrev Inv-loop : tie.InvT-loop
-Inv-loop src dst₀ n w r a z y l g h m p q e o c₀ dst c = (c ≤ w) × Two n w src r c dst₀ dst
+Inv-loop src dst₀ n w r a z y l g h m p q e o c₀ dst c = (c ≤ w) × Turn n w src r c dst₀ dst
 
 abbrev μ-loop : tie.MeasureT-loop
 μ-loop src dst₀ n w r a z y l g h m p q e o c₀ dst c = w - c
@@ -57,7 +58,8 @@ loop-again c =
     let u = back-ok w32 (c .before .before .before .before .before .before .even .result) (c .before .before .before .before .before .before .even .ok) ∙ s-is (c .before .before .before .before .before .before) in
     let v = back-ok w32 (c .before .before .even2 .result) (c .before .before .even2 .ok) ∙ t-is (c .before .before) ∙ ap (evenAt (lowCol w (at src) k) (highCol n w (at src) k)) (s .pre .1 .2) in (
       omega arith,
-      two-put n w src (s .args .r) k _ (c .before .before .before .before .before .before .before .before .before .before .before .loop .dst) _ _ (omega arith) (omega (arith, space s)) u
+      two-put w _ _ _ _ k _ (c .before .before .before .before .before .before .before .before .before .before .before .loop .dst) _ _ (λ d. omega arith) (omega arith)
+          (omega (arith, space s)) (omega (arith, space s)) u
           (back-ok w32 (c .odd-down .result) (c .odd-down .ok)
           ∙ odd-step colAvg n (highCol n w (at src) k) _ (s .args .r) (c .odd-down .ensures) (back w32 (s .pre .0 .4 .all _) tt) u v)
           (c .before .before .before .before .before .before .before .before .before .before .before .loop .inv .1),
@@ -69,7 +71,7 @@ pair-spec =
     (tie.spec Inv-loop μ-loop (λ c. omega (arith, space c)) (λ c. omega (arith, space c)) (λ c. omega (arith, space c)) (λ c. omega (arith, space c))
     (λ c. omega (arith, space c)) (λ c. omega (arith, space c)) (λ c. omega (arith, space c)) (λ c. omega (arith, space c)) (λ c. omega (arith, space c))
     (λ c. omega (arith, space c)) (λ c. omega (arith, space c)) (λ c. omega (arith, space c)) (λ c. omega (arith, space c)) (λ c. omega (arith, space c))
-    (λ c. omega (arith, space c)) (λ c. (omega arith, two-start _ _ _ _ _)) (λ c. omega (arith, space (c .before .before))) (λ c. omega (arith, space (c .before .before)))
+    (λ c. omega (arith, space c)) (λ c. (omega arith, two-start _ _ _ _ _ _)) (λ c. omega (arith, space (c .before .before))) (λ c. omega (arith, space (c .before .before)))
     (λ c. omega (arith, space (c .before .before))) (λ c. omega (arith, space (c .before .before .before))) (λ c. omega (arith, space (c .before .before .before)))
     (λ c. omega (arith, space (c .before .before .before))) (λ c. omega (arith, space (c .before .before .before .before)))
     (λ c. omega (arith, space (c .before .before .before .before))) (λ c. omega (arith, space (c .before .before .before .before)))

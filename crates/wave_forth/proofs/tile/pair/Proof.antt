@@ -1,4 +1,4 @@
--- `forth::pair` meets its contract. Invariant: the first c places of both rows are done.
+-- `pair` meets its contract. Invariant: the first c places of both rows are done.
 use Prim.Native.Nat.{ℕ, _≤_, _*_, _-_}
 use mathlib.Core.Path.{_≡_, _∙_, ap, sym, subst}
 use native.Mathlib.Omega.{arith}
@@ -7,12 +7,13 @@ use mir.Syntax.{w32}
 use Rattle.whole.specs.laws.Near.{Near, back, back-near, back-ok}
 use Rattle.wave_forth.specs.Halves.{highAt}
 use Rattle.wave_forth.specs.laws.Halves.{high-step, low-step, high-near}
-use Rattle.wave_forth.specs.laws.Column.{colOf, High, Two, two-start, two-put, two-whole, Room, room}
+use Rattle.wave_back.specs.laws.Pass.{two-start, two-put, two-whole}
+use Rattle.wave_forth.specs.laws.Column.{colOf, High, Turn, Room, room}
 use Rattle.wave_forth.proofs.tile.pair.Statement.{statement}
 use Rattle.wave_forth.proofs.tile.pair.Tie as tie
 
 abbrev Inv-loop : tie.InvT-loop
-Inv-loop src dst₀ n w r a b z e o f i k m l h c₀ dst c = (c ≤ w) × Two n w src r c dst₀ dst
+Inv-loop src dst₀ n w r a b z e o f i k m l h c₀ dst c = (c ≤ w) × Turn n w src r c dst₀ dst
 
 abbrev μ-loop : tie.MeasureT-loop
 μ-loop src dst₀ n w r a b z e o f i k m l h c₀ dst c = w - c
@@ -53,7 +54,8 @@ again c =
     let u = back-ok w32 (c .before .before .before .before .before .before .high .result) (c .before .before .before .before .before .before .high .ok) ∙ g-is (c .before .before .before .before .before .before) ∙ ap (highAt n x) (s .pre .1 .1) in
     let v = back-ok w32 (c .before .before .high2 .result) (c .before .before .high2 .ok) ∙ t-is (c .before .before) in (
       omega arith,
-      two-put n w src (s .args .r) k _ (c .before .before .before .before .before .before .before .before .before .before .before .loop .dst) _ _ (s .pre .1 .0) (omega arith) (omega (arith, space s))
+      two-put w _ _ _ _ k _ (c .before .before .before .before .before .before .before .before .before .before .before .loop .dst) _ _ (λ d. omega arith) (omega arith)
+          (omega (arith, space s)) (omega (arith, space s))
           (back-ok w32 (c .low .result) (c .low .ok) ∙ low-step n x (s .args .r) (c .low .ensures) (back w32 (s .pre .0 .4 .all _) tt) u v) v
           (c .before .before .before .before .before .before .before .before .before .before .before .loop .inv .1),
     )
@@ -65,7 +67,7 @@ pair-spec =
     (λ c. omega (arith, space c)) (λ c. omega (arith, space c)) (λ c. omega (arith, space c)) (λ c. omega (arith, space c)) (λ c. omega (arith, space c)) (λ c. omega (arith, space c))
     (λ c. omega (arith, space c)) (λ c. omega (arith, space c)) (λ c. omega (arith, space c)) (λ c. omega (arith, space c)) (λ c. omega (arith, space c)) (λ c. omega (arith, space c))
     (λ c. omega (arith, space c)) (λ c. omega (arith, space c)) (λ c. omega (arith, space c)) (λ c. omega (arith, space c)) (λ c. omega (arith, space c))
-    (λ c. (omega arith, two-start _ _ _ _ _)) (λ c. omega (arith, space (c .before .before))) (λ c. omega (arith, space (c .before .before))) (λ c. omega (arith, space (c .before .before)))
+    (λ c. (omega arith, two-start _ _ _ _ _ _)) (λ c. omega (arith, space (c .before .before))) (λ c. omega (arith, space (c .before .before))) (λ c. omega (arith, space (c .before .before)))
     (λ c. omega (arith, space (c .before .before .before))) (λ c. omega (arith, space (c .before .before .before))) (λ c. omega (arith, space (c .before .before .before)))
     (λ c. omega (arith, space (c .before .before .before .before))) (λ c. omega (arith, space (c .before .before .before .before)))
     (λ c. omega (arith, space (c .before .before .before .before)))
