@@ -37,6 +37,7 @@ use Rattle.frame.specs.Frame.{frameNumber, frameReadingNumber, frameReadingTile
 use Rattle.frame.specs.laws.Glass.{number-is, refused, accepted, shown-pixel, shown-past, shown-length}
 use Rattle.frame.specs.laws.Numbers.{frame-among, untouched, cleared}
 use Rattle.frame_write.specs.laws.Numbers as SendNumbers
+use Rattle.bounds.specs.laws.Refuses.{writer-refuses, writer-done}
 use Rattle.frame_readback.specs.laws.OurFrames.{our-own-frames}
 use Rattle.demands.specs.Calls.{ReadHeader, sessionAfter, ReadFrame, ReadComponent, WriteComponent, WriteHeaders, WriteFrame, sentBy}
 use Rattle.demands.specs.Demands.{firstFault, Untouched, Demand1, OurCalls, OurFrame, Sent, Demand2, Demand3, SmallNumbers, PaperCases, Demands}
@@ -200,6 +201,8 @@ demand-2 = record {
   header-writer = λ c. c .promise .number;
   frame-sent = λ c. sent-by _ _ _ _ _ (c .promise .wrote);
   headers-sent = λ c. sent-by _ _ _ _ _ (c .promise);
+  writer-refuses = λ c b. writer-refuses b (c .promise);
+  writer-done = λ c b e l. writer-done b (c .promise) (sym e) l;
   work-untouched = λ c e. SendNumbers.work-untouched _ _ _ _ _ _ _ _ _ _ _ _ _ (c .promise) e;
   work-zeros = λ c o. SendNumbers.work-zeros _ _ _ _ _ _ _ _ _ _ _ _ _ (c .promise) o;
 }

@@ -150,6 +150,11 @@ pub record Demand2 : Type 0 where
   pub header-writer : (c : WriteHeaders) → writingNumber (c .answer) ≡ headersFault (c .width) (c .height) (c .mode) (length (c .out))
   pub frame-sent : (c : WriteFrame) → Sent (frameP (c .index) (c .width) (c .height) (c .mode) (c .quant) (c .pixels)) (c .out) (c .out′) (c .answer)
   pub headers-sent : (c : WriteHeaders) → Sent (headersOf (c .width) (c .height) (c .mode)) (c .out) (c .out′) (c .answer)
+  -- The frame writer never refuses a picture: 9 and 6 do not happen, whatever its bytes; and given good arguments and this much room it is written
+  pub writer-refuses : (c : WriteFrame) → ((i : ℕ) → getD (c .pixels) i 0 < 256) → Among (0 ∷ 5 ∷ 7 ∷ 2 ∷ 13 ∷ []) (writingNumber (c .answer))
+  pub writer-done : (c : WriteFrame) → ((i : ℕ) → getD (c .pixels) i 0 < 256) →
+      argFault (c .width) (c .height) (c .mode) (c .quant) (length (c .pixels)) (length (c .list)) (length (c .scratch)) ≡ 0 →
+      72 + 194911 * tilesNo (c .width) (c .height) ≤ length (c .out) → writingNumber (c .answer) ≡ 0
   -- "The frame writer's work lists are untouched on 5, 7 and 2 and hold only zeros after every other answer."
   pub work-untouched : (c : WriteFrame) → Among (5 ∷ 7 ∷ 2 ∷ []) (writingNumber (c .answer)) → (c .list′ ≡ c .list) × (c .scratch′ ≡ c .scratch)
   pub work-zeros : (c : WriteFrame) → Other (5 ∷ 7 ∷ 2 ∷ []) (writingNumber (c .answer)) → (c .list′ ≡ replicate 4096 (pos 0)) × (c .scratch′ ≡ replicate 4096 (pos 0))
