@@ -222,8 +222,24 @@ demand-3 = record {
 }
 
 paper : PaperCases
-paper = record { read = CodeOnesLaws.cases; sent = write-cases; tile = TileOnesLaws.cases; headers = HeaderOnesLaws.cases; tileset = props-cases; writer = SendOnesLaws.cases }
+paper = record {
+  read = CodeOnesLaws.cases;
+  sent = write-cases;
+  tile = TileOnesLaws.cases;
+  headers = HeaderOnesLaws.cases;
+  tileset = props-cases;
+  writer = SendOnesLaws.cases;
+}
 
 pub demands : Demands
-demands =
-    record { one = demand-1; two = demand-2; three = demand-3; once = one-answer; once-for-c = one-answer-c; for-c = edge-demands demand-1 demand-2; six = record-right; small = small-numbers; cases = paper }
+demands = record {
+  one = demand-1;
+  two = demand-2;
+  three = demand-3;
+  once = one-answer;
+  once-for-c = one-answer-c;
+  for-c = edge-demands demand-1 demand-2;
+  six = record-right;
+  small = small-numbers;
+  cases = paper;
+}
