@@ -240,11 +240,13 @@ impl Pen {
     fn golomb(&mut self, krp: &mut u32, g: u32) {
         let kr = *krp / 8;
         let v = g >> kr;
-        for _ in 0..v {
-            self.put(1, 1);
+        let mut ones = v;
+        while ones > 20 {
+            self.put(20, (1 << 20) - 1);
+            ones -= 20;
         }
-        self.put(1, 0);
-        self.put(kr, g & ((1 << kr) - 1));
+        // the last ones, the zero and the low bits at once: at most 31 bits
+        self.put(ones + 1 + kr, ((1 << ones) - 1) << (kr + 1) | g & ((1 << kr) - 1));
         *krp = match v {
             0 => krp.saturating_sub(2),
             1 => *krp,

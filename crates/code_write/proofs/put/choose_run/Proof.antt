@@ -31,7 +31,8 @@ returns c =
     let s = c .before .before in
     let a = s .args in
     let w = shift-one (a .kp / 8) (omega (arith, s .pre .4)) in
-    sym (item-full (a .two) (a .kp) (drop (a .i) (map foldZ (a .xs .now))) (omega (arith, s .pre .3)) (omega (arith, w, c .before .zeros-from .ensures, c .if1 .taken)))
+    sym (item-full (a .two) (a .kp) (drop (a .i) (map foldZ (a .xs .now))) (omega (arith, s .pre .3))
+    (omega (arith, w, c .before .zeros-from .ensures, c .if1 .taken)))
 
 returns-2 : tie.Need-returns-2
 returns-2 c =

@@ -1,4 +1,4 @@
--- `code_write::put::zeros_from` meets its contract. The loop's invariant: z zeros are counted, at most `most`, and those from j on are the others. Assumes nothing.
+-- `code_write::put::zeros_from` meets its contract. The loop's invariant: z zeros are counted, at most `most`, and the others stand from j on. Assumes nothing.
 use Prim.Native.Nat.{_+_, _-_, _≤_}
 use mathlib.Core.Path.{_≡_, sym, _∙_}
 use mathlib.Core.List.{map}
