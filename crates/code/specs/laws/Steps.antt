@@ -133,7 +133,19 @@ size-small (suc f) zero k h = omega arith
 size-small (suc f) (suc g) zero h = absurd (omega arith)
 size-small (suc f) (suc g) (suc k) h = let e : 2 ^ suc k ≡ 2 ^ k * 2 = pow-suc 2 k in omega (arith, size-small f (suc g / 2) k (omega arith))
 
-size-end : (f : ℕ) → sizeF f 0 ≡ 0
+pub size-le : (f g : ℕ) → sizeF f g ≤ g
+unfolding sizeF
+size-le zero g = omega arith
+size-le (suc f) zero = omega arith
+size-le (suc f) (suc g) = omega (arith, size-le f (suc g / 2))
+
+pub size-half : (f x : ℕ) → x ≤ f → 0 < x → (g : ℕ) × (x / 2 ≤ g) × (sizeF f x ≡ suc (sizeF g (x / 2)))
+unfolding sizeF
+size-half zero x h p = absurd (omega arith)
+size-half (suc f) zero h p = absurd (omega arith)
+size-half (suc f) (suc x) h p = (f, omega arith, refl)
+
+pub size-end : (f : ℕ) → sizeF f 0 ≡ 0
 unfolding sizeF
 size-end zero = refl
 size-end (suc f) = refl

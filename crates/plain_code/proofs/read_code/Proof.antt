@@ -8,8 +8,8 @@ use denote.Ref.{now}
 use Rattle.bits.specs.Bits.{bitsOf}
 use Rattle.code.specs.declared.element.State.{State}
 use Rattle.code.specs.declared.element.Element.{Element}
-use Rattle.code.specs.Fill.{placedOf}
-use Rattle.code.specs.laws.Filling.{Filling, filling-start, filling-fine, filling-end, turn-bad}
+use Rattle.code.specs.Fill.{placedOf, Filling}
+use Rattle.code.specs.laws.Filling.{filling-start, filling-fine, filling-end, turn-bad}
 use Rattle.code.specs.laws.Read.{whole-fits, code-bad, code-done, code-tail}
 use Rattle.plain_code.specs.laws.Gone.{gone-next, gone-not}
 use Rattle.plain_code.proofs.read_code.Statement.{statement}

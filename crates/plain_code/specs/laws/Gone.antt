@@ -6,8 +6,8 @@ use mathlib.Core.List.{List}
 use native.Mathlib.Omega.{arith}
 use lib.IntN.{ℤ}
 use Rattle.code.specs.ReadList.{elemOf}
-use Rattle.code.specs.Fill.{storedOf}
-use Rattle.code.specs.laws.Filling.{Filling, filling-next}
+use Rattle.code.specs.Fill.{storedOf, Filling}
+use Rattle.code.specs.laws.Filling.{filling-next}
 use Rattle.code.specs.declared.element.State.{State}
 use Rattle.code.specs.declared.element.Refusal.{Refusal}
 use Rattle.code.specs.declared.element.Element.{Element}
