@@ -10,8 +10,8 @@ use Rattle.app_stream.specs.declared.Call.{Call}
 use Rattle.app_stream.specs.declared.Call.the-variants.{Header, Frame, End}
 
 -- a blockLen that can be used: at least the head's 6 bytes, and no more than are left; else 0
-unfoldable pub sizeOf : ℕ → ℕ → ℕ
-sizeOf size left =
+unfoldable pub partSize : ℕ → ℕ → ℕ
+partSize size left =
     leb 6 size ! 0 ⨾
     leb size left ! 0 ⨾
     size
@@ -20,7 +20,7 @@ sizeOf size left =
 unfoldable pub blockSize : List ℕ → ℕ → ℕ
 blockSize m at =
     leb 6 (length m - at) ! 0 ⨾
-    sizeOf (le32 m (at + 2)) (length m - at)
+    partSize (le32 m (at + 2)) (length m - at)
 
 -- the type of the block at a place, 0 where its head is cut
 unfoldable pub typeAt : List ℕ → ℕ → ℕ

@@ -3,7 +3,7 @@
 ghost use mathlib.Core.Path.{_≡_};
 ghost use Prim.Native.Nat.{_+_, _≤_};
 ghost use lib.ListN.{length};
-ghost use Rattle.app_stream.specs.Split.{sizeOf, blockSize, blockEnd, frameEnd, typeAt, callAt, partOf};
+ghost use Rattle.app_stream.specs.Split.{partSize, blockSize, blockEnd, frameEnd, typeAt, callAt, partOf};
 
 // The call that begins at a place, with the place where its message ends.
 pub enum Call {
@@ -14,7 +14,7 @@ pub enum Call {
 
 // A blockLen that can be used: at least the head's 6 bytes, and not past the end; else 0.
 fn size_of(size: usize, left: usize) -> usize
-    ensures { λ r. ⌜ r ≡ sizeOf size left ⌝ }
+    ensures { λ r. ⌜ r ≡ partSize size left ⌝ }
 {
     if size < 6 {
         return 0;

@@ -8,7 +8,7 @@ use lib.Dec.{ltb, leb}
 use lib.IntN.{ℤ, pos, natAbs, _+ℤ_, _*ℤ_}
 use lib.ListN.{length, getD, take}
 use Rattle.whole.specs.Row.{_!_⨾_, _⇒_∣_, _⨟_}
-use Rattle.whole.specs.Tab.{at, tab}
+use Rattle.whole.specs.Tab.{at, table}
 use Rattle.bands.specs.declared.Band.{Band}
 
 -- "A quantiser set is five bytes, low half first, ten values"
@@ -29,51 +29,20 @@ goodTo q (suc n) = goodTo q n && (leb 6 (getD q n 0) && leb (getD q n 0) 15)
 abbrev pub isGood : List ℕ → Bool
 isGood q = goodTo q 10
 
--- "LL3, LH3, HL3, HH3, LH2, HL2, HH2, LH1, HL1, HH1": where in the set each band's quantiser stands
-abbrev pub LL3 : ℕ
-LL3 = 0
-
-abbrev pub LH3 : ℕ
-LH3 = 1
-
-abbrev pub HL3 : ℕ
-HL3 = 2
-
-abbrev pub HH3 : ℕ
-HH3 = 3
-
-abbrev pub LH2 : ℕ
-LH2 = 4
-
-abbrev pub HL2 : ℕ
-HL2 = 5
-
-abbrev pub HH2 : ℕ
-HH2 = 6
-
-abbrev pub LH1 : ℕ
-LH1 = 7
-
-abbrev pub HL1 : ℕ
-HL1 = 8
-
-abbrev pub HH1 : ℕ
-HH1 = 9
-
--- a band: where in the set its quantiser stands, and where it ends in the list
+-- a band: where in the set its quantiser stands, "LL3, LH3, HL3, HH3, LH2, HL2, HH2, LH1, HL1, HH1" from 0 on, and where it ends in the list
 abbrev band : ℕ → ℕ → Band
 band set end = record { set = set; end = end }
 
 -- "The list holds HL1, LH1, HH1 (1,024 each), HL2, LH2, HH2 (256), HL3, LH3, HH3, LL3 (64)": those before LL3
 unfoldable pub bands : List Band
 bands =
-    band HL1 1024 ∷ band LH1 2048 ∷ band HH1 3072 ∷
-    band HL2 3328 ∷ band LH2 3584 ∷ band HH2 3840 ∷
-    band HL3 3904 ∷ band LH3 3968 ∷ band HH3 4032 ∷ []
+    band 8 1024 ∷ band 7 2048 ∷ band 9 3072 ∷
+    band 5 3328 ∷ band 4 3584 ∷ band 6 3840 ∷
+    band 2 3904 ∷ band 1 3968 ∷ band 3 4032 ∷ []
 
 -- the first of them that ends behind place k; behind all of them stands LL3
 unfoldable pub firstBand : List Band → ℕ → Band
-firstBand [] k = band LL3 4096
+firstBand [] k = band 0 4096
 firstBand (b ∷ bs) k = ltb k (b .end) ⇒ b ∣ firstBand bs k
 
 -- the band of place k
@@ -113,7 +82,7 @@ unfoldable pub sumsFault : List ℤ → ℕ
 sumsFault xs = allIn (sumsOf xs) 64 ! 9 ⨾ 0
 
 unfoldable pub summed : List ℤ → List ℤ
-summed xs = take 4032 xs ++ tab 64 (sumsOf xs)
+summed xs = take 4032 xs ++ table 64 (sumsOf xs)
 
 -- "Scaling is times 2^(q-1)", each place by its own band's quantiser
 abbrev pub scaleAt : List ℕ → (ℕ → ℤ) → ℕ → ℤ
@@ -123,7 +92,7 @@ unfoldable pub scaleFault : List ℕ → List ℤ → ℕ
 scaleFault q xs = allIn (scaleAt q (at xs)) 4096 ! 9 ⨾ 0
 
 unfoldable pub scaledBy : List ℕ → List ℤ → List ℤ
-scaledBy q xs = tab 4096 (scaleAt q (at xs))
+scaledBy q xs = table 4096 (scaleAt q (at xs))
 
 -- "9 range: a coefficient, LL3 sum or scaled value", for a whole list: "9 (as the reader would judge)"
 unfoldable pub rangeFault : List ℤ → ℕ

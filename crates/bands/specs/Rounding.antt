@@ -6,7 +6,7 @@ use mathlib.Core.List.{List, _++_}
 use lib.IntN.{ℤ, pos, _+ℤ_, _-ℤ_}
 use lib.Signed.{shrZ}
 use lib.ListN.{take}
-use Rattle.whole.specs.Tab.{at, tab}
+use Rattle.whole.specs.Tab.{at, table}
 use Rattle.bands.specs.Bands.{quantAt, ll3}
 
 -- floor((v + 2^(q-2)) / 2^(q-1))
@@ -24,8 +24,8 @@ diffAt f (suc n) = f (suc n) -ℤ f n
 
 -- "then the LL3 differences"
 unfoldable pub differences : List ℤ → List ℤ
-differences xs = take 4032 xs ++ tab 64 (diffAt (ll3 xs))
+differences xs = take 4032 xs ++ table 64 (diffAt (ll3 xs))
 
 -- the list that the writer codes
 unfoldable pub roundedBy : List ℕ → List ℤ → List ℤ
-roundedBy q xs = differences (tab 4096 (roundAt q (at xs)))
+roundedBy q xs = differences (table 4096 (roundAt q (at xs)))

@@ -8,7 +8,7 @@ ghost use lib.Signed.{shrZ};
 ghost use lib.ListN.{length, getD, take, drop};
 ghost use Rattle.whole.specs.Row.{_⇒_∣_};
 ghost use Rattle.whole.specs.laws.Near.{Near};
-ghost use Rattle.whole.specs.Tab.{at, tab};
+ghost use Rattle.whole.specs.Tab.{at, table};
 ghost use Rattle.whole.specs.laws.Tab.{AllNear};
 ghost use Rattle.bands.specs.Bands.{quantOf, QuantGood, isGood, bandAt, sumTo, summed, scaledBy, coefficientsFault};
 ghost use Rattle.bands.specs.Rounding.{roundAt, diffAt, roundedBy};
@@ -126,7 +126,7 @@ fn quant_of(q: Quant, b: Band) -> u32
 // Running sums over LL3.
 fn sum_part(part: &mut [i32])
     requires { ⌜ (length (now part) ≡ 64) × AllNear 32767 (now part) ⌝ }
-    ensures { λ _. ⌜ now (part .exit) ≡ tab 64 (λ (i : ℕ). sumTo (at (now (part .entry))) (i + 1)) ⌝ }
+    ensures { λ _. ⌜ now (part .exit) ≡ table 64 (λ (i : ℕ). sumTo (at (now (part .entry))) (i + 1)) ⌝ }
 {
     let mut s = 0;
     let mut i = 0;
@@ -148,7 +148,7 @@ pub fn sum_up(work: &mut [i32])
 // One band times a factor.
 fn scale_band(part: &mut [i32], m: i32)
     requires { ⌜ AllNear 32767 (now part) × Near 16384 m ⌝ }
-    ensures { λ _. ⌜ now (part .exit) ≡ tab (length (now (part .entry))) (λ (i : ℕ). at (now (part .entry)) i *ℤ m) ⌝ }
+    ensures { λ _. ⌜ now (part .exit) ≡ table (length (now (part .entry))) (λ (i : ℕ). at (now (part .entry)) i *ℤ m) ⌝ }
 {
     let mut i = 0;
     while i < part.len() {
@@ -277,7 +277,7 @@ fn rounded(v: i32, half: i32, k: u32) -> i32
 // One band rounded: half of the divisor added, then shifted down.
 fn round_band(part: &mut [i32], half: i32, k: u32)
     requires { ⌜ AllNear 268435456 (now part) × Near 8192 half × (k < 31) ⌝ }
-    ensures { λ _. ⌜ now (part .exit) ≡ tab (length (now (part .entry))) (λ (i : ℕ). shrZ (at (now (part .entry)) i +ℤ half) (2 ^ k)) ⌝ }
+    ensures { λ _. ⌜ now (part .exit) ≡ table (length (now (part .entry))) (λ (i : ℕ). shrZ (at (now (part .entry)) i +ℤ half) (2 ^ k)) ⌝ }
 {
     let mut i = 0;
     while i < part.len() {
@@ -289,7 +289,7 @@ fn round_band(part: &mut [i32], half: i32, k: u32)
 // Rounding, band by band.
 fn round_bands(work: &mut [i32], q: Quant)
     requires { ⌜ (length (now work) ≡ 4096) × AllNear 268435456 (now work) × QuantGood (q .v) ⌝ }
-    ensures { λ _. ⌜ now (work .exit) ≡ tab 4096 (roundAt (q .v) (at (now (work .entry)))) ⌝ }
+    ensures { λ _. ⌜ now (work .exit) ≡ table 4096 (roundAt (q .v) (at (now (work .entry)))) ⌝ }
 {
     let mut from = 0;
     while from < 4096 {
@@ -311,7 +311,7 @@ fn minus(a: i32, b: i32) -> i32
 // LL3's first value and then differences.
 fn difference_part(part: &mut [i32])
     requires { ⌜ (length (now part) ≡ 64) × AllNear 268443648 (now part) ⌝ }
-    ensures { λ _. ⌜ now (part .exit) ≡ tab 64 (diffAt (at (now (part .entry)))) ⌝ }
+    ensures { λ _. ⌜ now (part .exit) ≡ table 64 (diffAt (at (now (part .entry)))) ⌝ }
 {
     let mut last = 0;
     let mut i = 0;

@@ -1,5 +1,5 @@
 -- The code of a list, defined from the list alone: 01, "The component code" (001, 3.1.8.1.7).
--- Values are folded numbers (Fold.antt). The mode is a Bool: `two` says RLGR3, else it is RLGR1.
+-- Values are folded numbers (Fold.antt). The mode is a Bool: `rlgr3` says RLGR3, else it is RLGR1.
 -- (01 is this project's scope document, 02 its change requests, 001 is MS-RDPRFX: README, "What 01 is".)
 use Prim.Native.Nat.{ℕ, zero, suc, _+_, _-_, _/_, _^_, _≤_, min}
 use mathlib.Core.Bool.{Bool, true, false}
@@ -14,15 +14,15 @@ use Rattle.code.specs.declared.element.Item.the-variants.{Full, Run, Sin
 -- ---- the running parameters: "k = floor(kp/8), kr = floor(krp/8); kp and krp stay in 0 to 80 by clamping"
 
 -- p and d more (d less is p - d, which stops at 0)
-abbrev pub up : ℕ → ℕ → ℕ
-up d p = min 80 (p + d)
+abbrev pub raised : ℕ → ℕ → ℕ
+raised d p = min 80 (p + d)
 
 -- "A GR number: v ones, a zero, kr bits b; it is v x 2^kr + b." is grBits of the crate bits.
 -- "Then krp falls by 2 if v = 0, rises by v if v > 1."
 unfoldable pub krNext : ℕ → ℕ → ℕ
 krNext krp zero = krp - 2
 krNext krp (suc zero) = krp
-krNext krp (suc (suc v)) = up (suc (suc v)) krp
+krNext krp (suc (suc v)) = raised (suc (suc v)) krp
 
 unfoldable pub krAfter : ℕ → ℕ → ℕ
 unfolding krNext
@@ -30,12 +30,12 @@ krAfter krp g = krNext krp (g / 2 ^ (krp / 8))
 
 -- RLGR1: "Zero: kp + 3, else kp - 3."
 unfoldable pub kpOne : ℕ → ℕ → ℕ
-kpOne kp zero = up 3 kp
+kpOne kp zero = raised 3 kp
 kpOne kp (suc v) = kp - 3
 
 -- RLGR3: "Both zero: kp + 6; both not: kp - 6."
 unfoldable pub kpTwo : ℕ → ℕ → ℕ → ℕ
-kpTwo kp zero zero = up 6 kp
+kpTwo kp zero zero = raised 6 kp
 kpTwo kp zero (suc b) = kp
 kpTwo kp (suc a) zero = kp
 kpTwo kp (suc a) (suc b) = kp - 6
@@ -76,8 +76,8 @@ zerosOf (suc x ∷ xs) = 0
 -- ("The writer closes a list's last zeros, while k > 0, with full runs until they are covered."), else the remaining zeros and a value
 unfoldable pub itemOf : Bool → ℕ → List ℕ → Item
 unfolding _⇒_∣_
-itemOf two kp l =
-    ltb kp 8 ⇒ (two ⇒ Twin (getD l 0 0) (getD l 1 0) ∣ Single (getD l 0 0)) ∣
+itemOf rlgr3 kp l =
+    ltb kp 8 ⇒ (rlgr3 ⇒ Twin (getD l 0 0) (getD l 1 0) ∣ Single (getD l 0 0)) ∣
     leb (min (2 ^ (kp / 8)) (length l)) (zerosOf l) ⇒ Full ∣
     Run (zerosOf l) (getD l (zerosOf l) 0)
 
@@ -97,7 +97,7 @@ itemUsed kp (Twin a b) = 2
 
 -- kp after it: "2^k zeros, then kp + 4"; after a run's value "kp - 6"
 unfoldable pub itemKp : ℕ → Item → ℕ
-itemKp kp Full = up 4 kp
+itemKp kp Full = raised 4 kp
 itemKp kp (Run z v) = kp - 6
 itemKp kp (Single v) = kpOne kp v
 itemKp kp (Twin a b) = kpTwo kp a b
@@ -113,16 +113,16 @@ itemKrp krp (Twin a b) = krAfter krp (a + b)
 
 -- the code of a list from the state kp, krp on: the next item's bits, then the code of what is left; f bounds the list's length
 unfoldable pub codeF : ℕ → Bool → ℕ → ℕ → List ℕ → List Bool
-codeF zero two kp krp xs = []
-codeF (suc f) two kp krp [] = []
-codeF (suc f) two kp krp (x ∷ xs) =
-    itemBits kp krp (itemOf two kp (x ∷ xs)) ++
-    codeF f two (itemKp kp (itemOf two kp (x ∷ xs))) (itemKrp krp (itemOf two kp (x ∷ xs))) (drop (itemUsed kp (itemOf two kp (x ∷ xs))) (x ∷ xs))
+codeF zero rlgr3 kp krp xs = []
+codeF (suc f) rlgr3 kp krp [] = []
+codeF (suc f) rlgr3 kp krp (x ∷ xs) =
+    itemBits kp krp (itemOf rlgr3 kp (x ∷ xs)) ++
+    codeF f rlgr3 (itemKp kp (itemOf rlgr3 kp (x ∷ xs))) (itemKrp krp (itemOf rlgr3 kp (x ∷ xs))) (drop (itemUsed kp (itemOf rlgr3 kp (x ∷ xs))) (x ∷ xs))
 
 -- "Start: kp = 8, krp = 8"
 unfoldable pub codeOf : Bool → List ℕ → List Bool
 unfolding codeF
-codeOf two xs = codeF (length xs) two 8 8 xs
+codeOf rlgr3 xs = codeF (length xs) rlgr3 8 8 xs
 
 -- every value is in range: from -32,767 to 32,767 is folded from 0 to 65,534
 abbrev pub InRange : List ℕ → Type 0

@@ -9,8 +9,8 @@ use lib.Dec.{ltb}
 use Rattle.whole.specs.Row.{_⇒_∣_}
 use Rattle.bits.specs.Bits.{bitsOf, numBits, numOf}
 use Rattle.bits.specs.Word.{frontZeros}
-use Rattle.code.specs.Code.{up}
-use Rattle.code.specs.ReadList.{st, runElem, Walked, whole, bad, walk, readList}
+use Rattle.code.specs.Code.{raised}
+use Rattle.code.specs.ReadList.{stateAt, runElem, Walked, whole, bad, walk, readList}
 use Rattle.code.specs.declared.element.State.{State}
 use Rattle.code.specs.declared.element.Element.{Element}
 use Rattle.code.specs.declared.element.Element.the-variants.{Zeros, One, Two, Refused}
@@ -54,17 +54,17 @@ pub record Clear (n : ℕ) (out : List ℤ) (i : ℕ) : Type 0 where
   pub zeros : drop i out ≡ replicate (n - i) (pos 0)
 
 -- the first i places of n are filled, and the rest of the list is what is read of B from the state c on; f bounds the elements still to come
-pub record Filling (two : Bool) (n : ℕ) (B : List Bool) (out : List ℤ) (c : State) (i : ℕ) : Type 0 where
+pub record Filling (rlgr3 : Bool) (n : ℕ) (B : List Bool) (out : List ℤ) (c : State) (i : ℕ) : Type 0 where
   pub f : ℕ
   pub clear : Clear n out i
   pub fuel : n - i ≤ f
   pub kps : c .kp ≤ 80
   pub krs : c .krp ≤ 80
-  pub same : walk f two (c .kp) (c .krp) (c .at) (n - i) (map foldZ (take i out)) B ≡ readList two n B
+  pub same : walk f rlgr3 (c .kp) (c .krp) (c .at) (n - i) (map foldZ (take i out)) B ≡ readList rlgr3 n B
 
 -- a list with a place left, which is being filled from the bytes s
 abbrev pub Open : Bool → List ℕ → List ℤ → State → ℕ → Type 0
-Open two s out c i = (length s ≤ 65535) × (length out ≤ 4096) × (i < length out) × Filling two (length out) (bitsOf s) out c i
+Open rlgr3 s out c i = (length s ≤ 65535) × (length out ≤ 4096) × (i < length out) × Filling rlgr3 (length out) (bitsOf s) out c i
 
 -- ---- a turn by a word
 
@@ -72,12 +72,12 @@ Open two s out c i = (length s ≤ 65535) × (length out ≤ 4096) × (i < lengt
 unfoldable pub leapOf : ℕ → ℕ → ℕ → State → Quick
 unfolding _⇒_∣_
 leapOf zero n i c = Jump i c
-leapOf (suc m) n i c = ltb i n ⇒ leapOf m n (min n (i + 2 ^ (c .kp / 8))) (st (c .at + 1) (up 4 (c .kp)) (c .krp)) ∣ Jump i c
+leapOf (suc m) n i c = ltb i n ⇒ leapOf m n (min n (i + 2 ^ (c .kp / 8))) (stateAt (c .at + 1) (raised 4 (c .kp)) (c .krp)) ∣ Jump i c
 
 -- what storing found, its state's place counted from `at` on
 abbrev pub onwardOf : ℕ → Placed → Quick
 onwardOf at (No r) = Not
-onwardOf at (At j t) = Jump j (st (at + t .at) (t .kp) (t .krp))
+onwardOf at (At j t) = Jump j (stateAt (at + t .at) (t .kp) (t .krp))
 
 -- its state's place lies in the word, or behind it
 abbrev pub Inside : Placed → Type 0
@@ -86,12 +86,12 @@ Inside (At j t) = t .at ≤ 57
 
 -- the list was filled on, or it stays
 abbrev pub Quickly : Bool → List Bool → ℕ → List ℤ → List ℤ → Quick → Type 0
-Quickly two B i out new Not = new ≡ out
-Quickly two B i out new (Jump j t) = Filling two (length out) B new t j × (i < j)
+Quickly rlgr3 B i out new Not = new ≡ out
+Quickly rlgr3 B i out new (Jump j t) = Filling rlgr3 (length out) B new t j × (i < j)
 
 -- the same in whichever mode it is being filled
 abbrev pub Turned : List Bool → State → ℕ → List ℤ → List ℤ → Quick → Type 0
-Turned B c i out new r = (two : Bool) → Filling two (length out) B out c i → Quickly two B i out new r
+Turned B c i out new r = (rlgr3 : Bool) → Filling rlgr3 (length out) B out c i → Quickly rlgr3 B i out new r
 
 -- a list with a place left, and a state in run mode with a word behind it
 pub record Running (s : List ℕ) (out : List ℤ) (c : State) (i : ℕ) : Type 0 where

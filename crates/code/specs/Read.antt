@@ -50,10 +50,10 @@ endList B (bad r) = replicate 4096 (pos 0)
 endList B (whole xs at) = clean (drop at B) ! replicate 4096 (pos 0) ⨾ map unfoldZ xs
 
 unfoldable pub codeReading : Bool → List ℕ → Reading
-codeReading two s = endReading (bitsOf s) (readList two 4096 (bitsOf s))
+codeReading rlgr3 s = endReading (bitsOf s) (readList rlgr3 4096 (bitsOf s))
 
 unfoldable pub codeList : Bool → List ℕ → List ℤ
-codeList two s = endList (bitsOf s) (readList two 4096 (bitsOf s))
+codeList rlgr3 s = endList (bitsOf s) (readList rlgr3 4096 (bitsOf s))
 
 -- ---- the call
 
@@ -91,9 +91,9 @@ readInto mode s before = eqb (shellFault mode (length before) (length s)) 0 ! be
 -- ---- what the functions promise
 
 -- the code alone: on a refusal nothing is said of the list, which the call clears
-pub record CodeRead (two : Bool) (s : List ℕ) (after : List ℤ) (r : Reading) : Type 0 where
-  pub answer : r ≡ codeReading two s
-  pub list : readingNumber r ≡ 0 → after ≡ codeList two s
+pub record CodeRead (rlgr3 : Bool) (s : List ℕ) (after : List ℤ) (r : Reading) : Type 0 where
+  pub answer : r ≡ codeReading rlgr3 s
+  pub list : readingNumber r ≡ 0 → after ≡ codeList rlgr3 s
 
 pub record ComponentRead (mode : ℕ) (s : List ℕ) (before after : List ℤ) (r : Reading) : Type 0 where
   pub answer : r ≡ reading mode (length before) s

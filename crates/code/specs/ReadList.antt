@@ -9,7 +9,7 @@ use Rattle.whole.specs.Row.{_⇒_∣_}
 use Rattle.bits.specs.Bits.{numOf, grOf}
 use Rattle.bits.specs.declared.Num.{Num}
 use Rattle.bits.specs.declared.Num.the-variants.{Got, Cut}
-use Rattle.code.specs.Code.{up, krAfter, kpOne, kpTwo, size}
+use Rattle.code.specs.Code.{raised, krAfter, kpOne, kpTwo, size}
 use Rattle.code.specs.declared.element.State.{State}
 use Rattle.code.specs.declared.element.Refusal.{Refusal}
 use Rattle.code.specs.declared.element.Refusal.the-variants.{Cut as Short, Range, Overrun}
@@ -23,11 +23,11 @@ refusalNumber Range = 9
 refusalNumber Overrun = 10
 
 -- the largest folded value in range
-abbrev pub most : ℕ
-most = 65534
+abbrev pub foldedMost : ℕ
+foldedMost = 65534
 
-abbrev pub st : ℕ → ℕ → ℕ → State
-st a p r = record { at = a; kp = p; krp = r }
+abbrev pub stateAt : ℕ → ℕ → ℕ → State
+stateAt a p r = record { at = a; kp = p; krp = r }
 
 -- ---- one element: its numbers are read one after the other, and too few bits for one of them is `cut`; then it is judged
 
@@ -37,7 +37,7 @@ abbrev pub judgeRun : ℕ → ℕ → ℕ → ℕ → ℕ → ℕ → ℕ → El
 judgeRun kp krp left z s g at =
     ltb 32766 g ⇒ Refused Range ∣
     leb left z ⇒ Refused Overrun ∣
-    One z (2 * (g + 1) - s) (st at (kp - 6) (krAfter krp g))
+    One z (2 * (g + 1) - s) (stateAt at (kp - 6) (krAfter krp g))
 
 abbrev pub runThird : ℕ → ℕ → ℕ → ℕ → ℕ → Num → Element
 runThird kp krp left z s Cut = Refused Short
@@ -54,27 +54,27 @@ runFirst kp krp left B (Got z at) = runSecond kp krp left B z (numOf 1 0 at (dro
 -- "k > 0: each bit 0 is 2^k zeros, then kp + 4." "Bit 1: k bits give the remaining zeros, then a sign bit, then GR + 1 is the magnitude"
 abbrev pub runElem : ℕ → ℕ → ℕ → List Bool → Num → Element
 runElem kp krp left B Cut = Refused Short
-runElem kp krp left B (Got zero at) = Zeros (2 ^ (kp / 8)) (st at (up 4 kp) krp)
+runElem kp krp left B (Got zero at) = Zeros (2 ^ (kp / 8)) (stateAt at (raised 4 kp) krp)
 runElem kp krp left B (Got (suc b) at) = runFirst kp krp left B (numOf (kp / 8) 0 at (drop at B))
 
 -- "k = 0, RLGR1: GR g."
 abbrev pub oneElem : ℕ → ℕ → Num → Element
 oneElem kp krp Cut = Refused Short
-oneElem kp krp (Got g at) = ltb most g ⇒ Refused Range ∣ One 0 g (st at (kpOne kp g) (krAfter krp g))
+oneElem kp krp (Got g at) = ltb foldedMost g ⇒ Refused Range ∣ One 0 g (stateAt at (kpOne kp g) (krAfter krp g))
 
 -- a pair out of range: "a first half above g is range", or either half too large
 abbrev pub wide : ℕ → ℕ → Bool
-wide g a = ltb g a ⇒ true ∣ ltb most a ⇒ true ∣ ltb most (g - a)
+wide g a = ltb g a ⇒ true ∣ ltb foldedMost a ⇒ true ∣ ltb foldedMost (g - a)
 
 -- 10 "a second value not zero with no place"
-abbrev pub lone : ℕ → ℕ → Bool
-lone left b = ltb left 2 ⇒ ltb 0 b ∣ false
+abbrev pub noSecondPlace : ℕ → ℕ → Bool
+noSecondPlace left b = ltb left 2 ⇒ ltb 0 b ∣ false
 
 abbrev pub judgeTwo : ℕ → ℕ → ℕ → ℕ → ℕ → ℕ → Element
 judgeTwo kp krp left g a at =
     wide g a ⇒ Refused Range ∣
-    lone left (g - a) ⇒ Refused Overrun ∣
-    Two a (g - a) (st at (kpTwo kp a (g - a)) (krAfter krp g))
+    noSecondPlace left (g - a) ⇒ Refused Overrun ∣
+    Two a (g - a) (stateAt at (kpTwo kp a (g - a)) (krAfter krp g))
 
 abbrev pub twoSecond : ℕ → ℕ → ℕ → ℕ → Num → Element
 twoSecond kp krp left g Cut = Refused Short
@@ -88,8 +88,8 @@ twoElem kp krp left B (Got g at) = twoSecond kp krp left g (numOf (size g) 0 at 
 -- the element at the place `at` of B, with `left` places left in the list
 unfoldable pub elemOf : Bool → ℕ → ℕ → ℕ → ℕ → List Bool → Element
 unfolding kpOne kpTwo krAfter size _⇒_∣_
-elemOf two kp krp left at B =
-    ltb kp 8 ⇒ (two ⇒ twoElem kp krp left B (grOf (krp / 8) at B) ∣ oneElem kp krp (grOf (krp / 8) at B)) ∣
+elemOf rlgr3 kp krp left at B =
+    ltb kp 8 ⇒ (rlgr3 ⇒ twoElem kp krp left B (grOf (krp / 8) at B) ∣ oneElem kp krp (grOf (krp / 8) at B)) ∣
     runElem kp krp left B (numOf 1 0 at (drop at B))
 
 -- ---- a whole list
@@ -109,12 +109,12 @@ step (Two a b s) left done go = go s (left - 2) (done ++ take left (a ∷ b ∷ 
 -- the `left` values from a state on, behind those already done; f bounds the number of elements
 unfoldable pub walk : ℕ → Bool → ℕ → ℕ → ℕ → ℕ → List ℕ → List Bool → Walked
 unfolding elemOf
-walk zero two kp krp at left done B = whole done at
-walk (suc f) two kp krp at zero done B = whole done at
-walk (suc f) two kp krp at (suc left) done B =
-    step (elemOf two kp krp (suc left) at B) (suc left) done (λ s l d. walk f two (s .kp) (s .krp) (s .at) l d B)
+walk zero rlgr3 kp krp at left done B = whole done at
+walk (suc f) rlgr3 kp krp at zero done B = whole done at
+walk (suc f) rlgr3 kp krp at (suc left) done B =
+    step (elemOf rlgr3 kp krp (suc left) at B) (suc left) done (λ s l d. walk f rlgr3 (s .kp) (s .krp) (s .at) l d B)
 
 -- the n values of the code that B begins with
 unfoldable pub readList : Bool → ℕ → List Bool → Walked
 unfolding walk
-readList two n B = walk n two 8 8 0 n [] B
+readList rlgr3 n B = walk n rlgr3 8 8 0 n [] B

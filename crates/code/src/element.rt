@@ -7,7 +7,7 @@ ghost use lib.Signed.{mag};
 ghost use Rattle.bits.specs.Bits.{bitsOf, grOf, numOf};
 ghost use Rattle.bits.specs.declared.Num.the-variants.{Got};
 ghost use Rattle.code.specs.Fold.{foldZ, unfoldZ};
-ghost use Rattle.code.specs.Code.{krAfter, kpOne, kpTwo, up, size};
+ghost use Rattle.code.specs.Code.{krAfter, kpOne, kpTwo, raised, size};
 ghost use Rattle.code.specs.ReadList.{refusalNumber, oneElem, twoElem, judgeTwo, judgeRun, runFirst, runElem, elemOf};
 use bits::Num;
 
@@ -96,7 +96,7 @@ pub fn kr_after(krp: usize, g: usize) -> usize
 // kp and d more, at most 80.
 pub fn more(kp: usize, d: usize) -> usize
     requires { ⌜ (kp ≤ 80) × (d ≤ 80) ⌝ }
-    ensures { λ r. ⌜ r ≡ up d kp ⌝ }
+    ensures { λ r. ⌜ r ≡ raised d kp ⌝ }
 {
     if 80 < kp + d { 80 } else { kp + d }
 }
@@ -296,13 +296,17 @@ fn run(s: &[u8], c: State, left: usize) -> Element
 }
 
 // One code element.
-pub fn read_element(s: &[u8], two: bool, c: State, left: usize) -> Element
+pub fn read_element(s: &[u8], rlgr3: bool, c: State, left: usize) -> Element
     requires { ⌜ (length (now s) ≤ 65535) × (c .kp ≤ 80) × (c .krp ≤ 80) ⌝ }
-    ensures { λ r. ⌜ r ≡ elemOf two (c .kp) (c .krp) left (c .at) (bitsOf (now (s .entry))) ⌝ }
+    ensures { λ r. ⌜ r ≡ elemOf rlgr3 (c .kp) (c .krp) left (c .at) (bitsOf (now (s .entry))) ⌝ }
 {
     let kp = c.kp;
     if kp < 8 {
-        if two { pair(s, c, left) } else { single(s, c) }
+        if rlgr3 {
+            pair(s, c, left)
+        } else {
+            single(s, c)
+        }
     } else {
         run(s, c, left)
     }

@@ -232,9 +232,9 @@ fn quick_run(s: &[u8], c: State, list: &mut [i32], i: usize) -> Quick
 }
 
 // A turn by the word at c: full runs together and the value behind them, or a single value, or a pair.
-fn quick_turn(s: &[u8], two: bool, c: State, list: &mut [i32], i: usize) -> Quick
-    requires { ⌜ Open two (now s) (now list) c i ⌝ }
-    ensures { λ r. ⌜ Quickly two (bitsOf (now (s .entry))) i (now (list .entry)) (now (list .exit)) r ⌝ }
+fn quick_turn(s: &[u8], rlgr3: bool, c: State, list: &mut [i32], i: usize) -> Quick
+    requires { ⌜ Open rlgr3 (now s) (now list) c i ⌝ }
+    ensures { λ r. ⌜ Quickly rlgr3 (bitsOf (now (s .entry))) i (now (list .entry)) (now (list .exit)) r ⌝ }
 {
     let at = c.at;
     let kp = c.kp;
@@ -247,7 +247,7 @@ fn quick_turn(s: &[u8], two: bool, c: State, list: &mut [i32], i: usize) -> Quic
     if 8 <= kp {
         return quick_run(s, c, list, i);
     }
-    if two {
+    if rlgr3 {
         return quick_pair(s, c, list, i);
     }
     quick_single(s, c, list, i)
@@ -260,9 +260,9 @@ enum Filled {
 }
 
 // Reads the values of a code into a list that holds zeros.
-fn fill(s: &[u8], two: bool, list: &mut [i32]) -> Filled
+fn fill(s: &[u8], rlgr3: bool, list: &mut [i32]) -> Filled
     requires { ⌜ (length (now s) ≤ 65535) × (length (now list) ≤ 4096) × (now list ≡ replicate (length (now list)) (pos 0)) ⌝ }
-    ensures { λ r. ⌜ Fills (readList two (length (now (list .entry))) (bitsOf (now (s .entry)))) (now (list .exit)) r ⌝ }
+    ensures { λ r. ⌜ Fills (readList rlgr3 (length (now (list .entry))) (bitsOf (now (s .entry)))) (now (list .exit)) r ⌝ }
 {
     let n = list.len();
     let mut c = State {
@@ -272,13 +272,13 @@ fn fill(s: &[u8], two: bool, list: &mut [i32]) -> Filled
     };
     let mut i: usize = 0;
     while i < n {
-        match quick_turn(s, two, c, list, i) {
+        match quick_turn(s, rlgr3, c, list, i) {
             Quick::At(j, t) => {
                 i = j;
                 c = t;
             }
             Quick::Not => {
-                let e = crate::element::read_element(s, two, c, n - i);
+                let e = crate::element::read_element(s, rlgr3, c, n - i);
                 match place(list, i, e) {
                     Placed::No(r) => {
                         return Filled::Bad(r);
@@ -296,12 +296,12 @@ fn fill(s: &[u8], two: bool, list: &mut [i32]) -> Filled
 }
 
 // A list cleared and filled from a code: for the component call and for drawing. (One caller of the loop, so that it is compiled with its slices at hand.)
-fn decode(s: &[u8], two: bool, list: &mut [i32]) -> Filled
+fn decode(s: &[u8], rlgr3: bool, list: &mut [i32]) -> Filled
     requires { ⌜ (length (now s) ≤ 65535) × (length (now list) ≡ 4096) ⌝ }
-    ensures { λ r. ⌜ Fills (readList two 4096 (bitsOf (now (s .entry)))) (now (list .exit)) r ⌝ }
+    ensures { λ r. ⌜ Fills (readList rlgr3 4096 (bitsOf (now (s .entry)))) (now (list .exit)) r ⌝ }
 {
     whole::clear(list);
-    fill(s, two, list)
+    fill(s, rlgr3, list)
 }
 
 // Whether fewer than 8 bits stand from a place on, and none of them is 1.
@@ -336,11 +336,11 @@ fn shell_judge(mode: u8, n: usize, len: usize) -> u8
 }
 
 // A code and its tail, into a list of 4,096.
-fn read_code(two: bool, s: &[u8], list: &mut [i32]) -> Reading
+fn read_code(rlgr3: bool, s: &[u8], list: &mut [i32]) -> Reading
     requires { ⌜ (length (now s) ≤ 65535) × (length (now list) ≡ 4096) ⌝ }
-    ensures { λ r. ⌜ CodeRead two (now (s .entry)) (now (list .exit)) r ⌝ }
+    ensures { λ r. ⌜ CodeRead rlgr3 (now (s .entry)) (now (list .exit)) r ⌝ }
 {
-    match decode(s, two, list) {
+    match decode(s, rlgr3, list) {
         Filled::Bad(r) => Reading::Refused(crate::element::refusal_number(r)),
         Filled::Whole(at) => {
             if clean_tail(s, at) {

@@ -9,14 +9,14 @@ use Rattle.code.specs.Cases.{Both, first}
 use Rattle.code_write.specs.Write.{bytesOf, writeFault}
 
 -- the list's bytes are s; they are written where they have room, and 13 is the answer with one byte less
-pub record Sent (mode : ℕ) (s : List ℕ) (zs : List ℤ) : Type 0 where
+pub record CodeSent (mode : ℕ) (s : List ℕ) (zs : List ℤ) : Type 0 where
   pub bytes : bytesOf mode zs ≡ s
   pub done : writeFault mode zs (length s) ≡ 0
   pub short : (room : ℕ) → room < length s → writeFault mode zs room ≡ 13
 
 pub record WriteCases : Type 0 where
   -- "All zeros: 00 00 00 in both modes"
-  pub zeros : Both (λ mode. Sent mode (0x00 ∷ 0x00 ∷ 0x00 ∷ []) (first (pos 0)))
+  pub zeros : Both (λ mode. CodeSent mode (0x00 ∷ 0x00 ∷ 0x00 ∷ []) (first (pos 0)))
   -- "+1 then zeros: 80 00 00 00 in both modes; -1 then zeros: A0 00 00 00."
-  pub plus : Both (λ mode. Sent mode (0x80 ∷ 0x00 ∷ 0x00 ∷ 0x00 ∷ []) (first (pos 1)))
-  pub minus : Both (λ mode. Sent mode (0xA0 ∷ 0x00 ∷ 0x00 ∷ 0x00 ∷ []) (first (negsuc 0)))
+  pub plus : Both (λ mode. CodeSent mode (0x80 ∷ 0x00 ∷ 0x00 ∷ 0x00 ∷ []) (first (pos 1)))
+  pub minus : Both (λ mode. CodeSent mode (0xA0 ∷ 0x00 ∷ 0x00 ∷ 0x00 ∷ []) (first (negsuc 0)))

@@ -24,20 +24,20 @@ bytesOf mode zs = packed (code mode zs)
 -- ---- the faults
 
 -- not 9: no number is "outside -32,767 to 32,767"
-unfoldable pub inRange : List ℤ → Bool
-inRange [] = true
-inRange (z ∷ zs) = leb (natAbs z) 32767 ! false ⨾ inRange zs
+unfoldable pub allInRange : List ℤ → Bool
+allInRange [] = true
+allInRange (z ∷ zs) = leb (natAbs z) 32767 ! false ⨾ allInRange zs
 
 -- of a component by itself: "9 (as the reader would judge) then 6", which is given over "65,535 bytes in a component"
-unfoldable pub componentFault : ℕ → List ℤ → ℕ
-componentFault mode zs =
-    inRange zs ! 9 ⨾
+unfoldable pub codeFault : ℕ → List ℤ → ℕ
+codeFault mode zs =
+    allInRange zs ! 9 ⨾
     leb (length (bytesOf mode zs)) 65535 ! 6 ⨾
     0
 
 -- "Component calls first refuse a mode that is neither of the two (5)." Then 2: the "component list is not 4,096 numbers"
-unfoldable pub callFault : ℕ → ℕ → ℕ
-callFault mode n =
+unfoldable pub askFault : ℕ → ℕ → ℕ
+askFault mode n =
     isMode mode ! 5 ⨾
     eqb n 4096 ! 2 ⨾
     0
@@ -45,8 +45,8 @@ callFault mode n =
 -- 13: "the lent output is shorter than what is to be written"
 unfoldable pub writeFault : ℕ → List ℤ → ℕ → ℕ
 writeFault mode zs room =
-    callFault mode (length zs) ⨟
-    (componentFault mode zs ⨟
+    askFault mode (length zs) ⨟
+    (codeFault mode zs ⨟
     (leb (length (bytesOf mode zs)) room ! 13 ⨾ 0))
 
 -- ---- what the functions promise

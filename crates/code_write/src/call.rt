@@ -7,7 +7,7 @@ ghost use lib.Dec.{leb};
 ghost use lib.IntN.{natAbs};
 ghost use lib.ListN.{length};
 ghost use Rattle.wire.specs.Le.{patch};
-ghost use Rattle.code_write.specs.Write.{bytesOf, inRange, callFault, componentFault, sizedOf, ComponentWritten};
+ghost use Rattle.code_write.specs.Write.{bytesOf, allInRange, askFault, codeFault, sizedOf, ComponentWritten};
 use bits::Pen;
 use wire::Writing;
 
@@ -29,7 +29,7 @@ fn near(x: i32) -> bool
 
 // Whether all numbers of a list are.
 pub fn in_range(list: &[i32]) -> bool
-    ensures { λ r. ⌜ r ≡ inRange (now (list .entry)) ⌝ }
+    ensures { λ r. ⌜ r ≡ allInRange (now (list .entry)) ⌝ }
 {
     let mut i: usize = 0;
     while i < list.len() {
@@ -43,7 +43,7 @@ pub fn in_range(list: &[i32]) -> bool
 
 // The code's size in bytes.
 fn byte_size(mode: u8, list: &[i32]) -> usize
-    requires { ⌜ (length (now list) ≤ 4096) × (inRange (now list) ≡ true) ⌝ }
+    requires { ⌜ (length (now list) ≤ 4096) × (allInRange (now list) ≡ true) ⌝ }
     ensures { λ r. ⌜ r ≡ length (bytesOf mode (now (list .entry))) ⌝ }
 {
     (crate::put::list_size(list, mode == 4) + 7) / 8
@@ -52,7 +52,7 @@ fn byte_size(mode: u8, list: &[i32]) -> usize
 // A component by itself: 9, 6, or its size in bytes.
 pub fn measure_component(mode: u8, list: &[i32]) -> Sized
     requires { ⌜ length (now list) ≤ 4096 ⌝ }
-    ensures { λ r. ⌜ r ≡ sizedOf (componentFault mode (now (list .entry))) (length (bytesOf mode (now (list .entry)))) ⌝ }
+    ensures { λ r. ⌜ r ≡ sizedOf (codeFault mode (now (list .entry))) (length (bytesOf mode (now (list .entry)))) ⌝ }
 {
     if !in_range(list) {
         return Sized { number: 9, size: 0 };
@@ -69,7 +69,7 @@ pub fn measure_component(mode: u8, list: &[i32]) -> Sized
 
 // Writes a component at a place of the output. The answer is the place past it.
 pub fn put_component(mode: u8, list: &[i32], out: &mut [u8], at: usize) -> usize
-    requires { ⌜ (length (now list) ≤ 4096) × (inRange (now list) ≡ true) × (at + length (bytesOf mode (now list)) ≤ length (now out)) ⌝ }
+    requires { ⌜ (length (now list) ≤ 4096) × (allInRange (now list) ≡ true) × (at + length (bytesOf mode (now list)) ≤ length (now out)) ⌝ }
     ensures { λ r. ⌜ (now (out .exit) ≡ patch (now (out .entry)) at (bytesOf mode (now (list .entry)))) × (r ≡ at + length (bytesOf mode (now (list .entry)))) ⌝ }
 {
     let p = Pen {
@@ -85,7 +85,7 @@ pub fn put_component(mode: u8, list: &[i32], out: &mut [u8], at: usize) -> usize
 
 // What is judged first: mode (5), list (2).
 fn call_judge(mode: u8, n: usize) -> u8
-    ensures { λ r. ⌜ r ≡ callFault mode n ⌝ }
+    ensures { λ r. ⌜ r ≡ askFault mode n ⌝ }
 {
     if !wire::is_mode(mode as usize) {
         return 5;

@@ -42,9 +42,9 @@ fn zeros_from(xs: &[i32], i: usize, most: usize) -> usize
 }
 
 // The item at place i in run mode: a full run, which may pass the end, or some zeros and the value after them.
-fn choose_run(xs: &[i32], i: usize, two: bool, kp: usize) -> Item
+fn choose_run(xs: &[i32], i: usize, rlgr3: bool, kp: usize) -> Item
     requires { ⌜ (length (now xs) ≤ 4096) × InRange (map foldZ (now xs)) × (i < length (now xs)) × (8 ≤ kp) × (kp ≤ 80) ⌝ }
-    ensures { λ r. ⌜ r ≡ itemOf two kp (drop i (map foldZ (now (xs .entry)))) ⌝ }
+    ensures { λ r. ⌜ r ≡ itemOf rlgr3 kp (drop i (map foldZ (now (xs .entry)))) ⌝ }
 {
     let full = 1usize << (kp / 8);
     let z = zeros_from(xs, i, full);
@@ -60,15 +60,15 @@ fn choose_run(xs: &[i32], i: usize, two: bool, kp: usize) -> Item
 }
 
 // The item at place i.
-fn choose(xs: &[i32], i: usize, two: bool, kp: usize) -> Item
+fn choose(xs: &[i32], i: usize, rlgr3: bool, kp: usize) -> Item
     requires { ⌜ (length (now xs) ≤ 4096) × InRange (map foldZ (now xs)) × (i < length (now xs)) × (kp ≤ 80) ⌝ }
-    ensures { λ r. ⌜ r ≡ itemOf two kp (drop i (map foldZ (now (xs .entry)))) ⌝ }
+    ensures { λ r. ⌜ r ≡ itemOf rlgr3 kp (drop i (map foldZ (now (xs .entry)))) ⌝ }
 {
     if 8 <= kp {
-        return choose_run(xs, i, two, kp);
+        return choose_run(xs, i, rlgr3, kp);
     }
     let a = folded_at(xs, i);
-    if two {
+    if rlgr3 {
         if i + 1 < xs.len() {
             let b = folded_at(xs, i + 1);
             return Item::Twin(a, b);
@@ -174,16 +174,16 @@ fn item_krp(krp: usize, it: Item) -> usize
 }
 
 // The code of a list, from the pen on.
-pub fn put_list(out: &mut [u8], p: Pen, xs: &[i32], two: bool) -> Pen
-    requires { ⌜ Ready (length (now out)) p (length (codeOf two (map foldZ (now xs)))) × (length (now xs) ≤ 4096) × InRange (map foldZ (now xs)) ⌝ }
-    ensures { λ r. ⌜ Put (now (out .entry)) p (now (out .exit)) r (codeOf two (map foldZ (now (xs .entry)))) ⌝ }
+pub fn put_list(out: &mut [u8], p: Pen, xs: &[i32], rlgr3: bool) -> Pen
+    requires { ⌜ Ready (length (now out)) p (length (codeOf rlgr3 (map foldZ (now xs)))) × (length (now xs) ≤ 4096) × InRange (map foldZ (now xs)) ⌝ }
+    ensures { λ r. ⌜ Put (now (out .entry)) p (now (out .exit)) r (codeOf rlgr3 (map foldZ (now (xs .entry)))) ⌝ }
 {
     let mut q = p;
     let mut i: usize = 0;
     let mut kp: usize = 8;
     let mut krp: usize = 8;
     while i < xs.len() {
-        let it = choose(xs, i, two, kp);
+        let it = choose(xs, i, rlgr3, kp);
         q = put_item(out, q, kp, krp, it);
         i += item_used(kp, it);
         kp = item_kp(kp, it);
@@ -193,16 +193,16 @@ pub fn put_list(out: &mut [u8], p: Pen, xs: &[i32], two: bool) -> Pen
 }
 
 // How many bits the code of a list has.
-pub fn list_size(xs: &[i32], two: bool) -> usize
+pub fn list_size(xs: &[i32], rlgr3: bool) -> usize
     requires { ⌜ (length (now xs) ≤ 4096) × InRange (map foldZ (now xs)) ⌝ }
-    ensures { λ r. ⌜ (r ≡ length (codeOf two (map foldZ (now (xs .entry))))) × (r ≤ 4096 * 131200) ⌝ }
+    ensures { λ r. ⌜ (r ≡ length (codeOf rlgr3 (map foldZ (now (xs .entry))))) × (r ≤ 4096 * 131200) ⌝ }
 {
     let mut n: usize = 0;
     let mut i: usize = 0;
     let mut kp: usize = 8;
     let mut krp: usize = 8;
     while i < xs.len() {
-        let it = choose(xs, i, two, kp);
+        let it = choose(xs, i, rlgr3, kp);
         n += item_size(kp, krp, it);
         i += item_used(kp, it);
         kp = item_kp(kp, it);

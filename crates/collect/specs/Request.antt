@@ -62,17 +62,17 @@ pub record Block : Type 0 where
   pub kind : ℕ
   pub body : List ℕ
 
-unfoldable pub blockOf : Block → List ℕ
-blockOf b = (bytes16 (b .kind) ++ bytes32 (6 + length (b .body))) ++ b .body
+unfoldable pub blockBytes : Block → List ℕ
+blockBytes b = (bytes16 (b .kind) ++ bytes32 (6 + length (b .body))) ++ b .body
 
 unfoldable pub blocksOf : List Block → List ℕ
 blocksOf [] = []
-blocksOf (b ∷ bs) = blockOf b ++ blocksOf bs
+blocksOf (b ∷ bs) = blockBytes b ++ blocksOf bs
 
 -- "from its begin block through its end block"
-unfoldable pub frameOf : List ℕ → List Block → List ℕ → List ℕ
-frameOf first bs last =
-    blockOf (record { kind = 0xCCC4; body = first }) ++ (blocksOf bs ++ blockOf (record { kind = 0xCCC5; body = last }))
+unfoldable pub frameBytes : List ℕ → List Block → List ℕ → List ℕ
+frameBytes first bs last =
+    blockBytes (record { kind = 0xCCC4; body = first }) ++ (blocksOf bs ++ blockBytes (record { kind = 0xCCC5; body = last }))
 
 -- a type CCC0 to CCC7, and a length that blockLen can say
 pub record Known (b : Block) : Type 0 where
@@ -113,18 +113,18 @@ pub record RequestOne : Type 0 where
       (store more : List ℕ) (b : Block)
       → Known b
       → (b .kind ≡ 0xCCC4 → ⊥)
-      → length (blockOf b) ≤ length store
-      → collectOf (state fresh store) (blockOf b ++ more)
-      ≡ took (length (blockOf b)) (step fresh (patch store 0 (blockOf b)) (leb (b .kind) 0xCCC3 ⇒ Header (length (blockOf b)) ∣ Frame (length (blockOf b))))
+      → length (blockBytes b) ≤ length store
+      → collectOf (state fresh store) (blockBytes b ++ more)
+      ≡ took (length (blockBytes b)) (step fresh (patch store 0 (blockBytes b)) (leb (b .kind) 0xCCC3 ⇒ Header (length (blockBytes b)) ∣ Frame (length (blockBytes b))))
   -- "or one frame from its begin block through its end block", whatever blocks are between them
   pub frame :
       (store more first last : List ℕ) (bs : List Block)
       → 6 + length first < 4294967296
       → Inner bs
       → 6 + length last < 4294967296
-      → length (frameOf first bs last) ≤ length store
-      → collectOf (state fresh store) (frameOf first bs last ++ more)
-      ≡ took (length (frameOf first bs last)) (step fresh (patch store 0 (frameOf first bs last)) (Frame (length (frameOf first bs last))))
+      → length (frameBytes first bs last) ≤ length store
+      → collectOf (state fresh store) (frameBytes first bs last ++ more)
+      ≡ took (length (frameBytes first bs last)) (step fresh (patch store 0 (frameBytes first bs last)) (Frame (length (frameBytes first bs last))))
   -- nothing is lost and nothing is taken twice: what a call hands on, and what it then holds, is what it held before and the bytes that it says it took
   pub nothing-lost :
       (s : State) (bs : List ℕ) → Bytes bs → flat (partsOf (collectOf s bs .step)) ++ unhanded (after s bs) ≡ unhanded s ++ take (collectOf s bs .taken) bs

@@ -16,7 +16,7 @@ use Rattle.wire.specs.Wrote.{lengthSaid, outLeft, Wrote}
 use Rattle.session.specs.declared.Session.{Session}
 use Rattle.session.specs.declared.HeaderReading.{HeaderReading}
 use Rattle.session.specs.declared.HeaderReading.the-variants.{Taken}
-use Rattle.session.specs.Header.{at, headerFault, recordAfter, headerNumber, headerRecord, headerReading}
+use Rattle.session.specs.Header.{recordOf, headerFault, recordAfter, headerNumber, headerRecord, headerReading}
 use Rattle.session.specs.laws.Header as HeaderLaws
 use Rattle.session.specs.laws.Numbers.{header-among}
 use Rattle.session.specs.laws.Cases as HeaderOnesLaws
@@ -140,10 +140,10 @@ module _ (h : WriteHeaders) (one two three four : ReadHeader) (s : WriteFrame) (
   our-frame : OurFrame one two three four s f
   our-frame =
       let t = our-headers (one .session) (s .width) (s .height) (s .mode) (h .out) (h .out′) (h .answer) wrote (o .headers-done) in
-      let a = taken-by one (one .session) (at 1 0 0 0) _ refl (o .sync) (t .one) in
-      let b = taken-by two (at 1 0 0 0) (at 2 0 0 0) _ (o .then-two ∙ a .1) (o .versions) (t .two) in
-      let c = taken-by three (at 2 0 0 0) (at 3 (s .width) (s .height) 0) _ (o .then-three ∙ b .1) (o .channels) (t .three) in
-      let d = taken-by four (at 3 (s .width) (s .height) 0) (at 4 (s .width) (s .height) (s .mode)) _ (o .then-four ∙ c .1) (o .context) (t .four) in
+      let a = taken-by one (one .session) (recordOf 1 0 0 0) _ refl (o .sync) (t .one) in
+      let b = taken-by two (recordOf 1 0 0 0) (recordOf 2 0 0 0) _ (o .then-two ∙ a .1) (o .versions) (t .two) in
+      let c = taken-by three (recordOf 2 0 0 0) (recordOf 3 (s .width) (s .height) 0) _ (o .then-three ∙ b .1) (o .channels) (t .three) in
+      let d = taken-by four (recordOf 3 (s .width) (s .height) 0) (recordOf 4 (s .width) (s .height) (s .mode)) _ (o .then-four ∙ c .1) (o .context) (t .four) in
       let r = our-own-frames (one .session) (s .width) (s .height) (s .mode) (h .out) (h .out′) (h .answer) wrote (o .headers-done)
       (s .quant) (s .index) (s .pixels) (s .list) (s .list′) (s .scratch) (s .scratch′) (s .out) (s .out′) (s .answer) (o .ten) (s .promise) (o .frame-done)
       (f .picture) (f .y) (f .cb) (f .cr) (f .scratch) (f .picture′) (f .y′) (f .cb′) (f .cr′) (f .scratch′) (f .answer)

@@ -12,7 +12,7 @@ use Rattle.whole.specs.Row.{_!_⨾_}
 use Rattle.whole.specs.laws.Row.{passes, goes-on}
 use Rattle.bands.specs.Bands.{goodTo}
 use Rattle.session.specs.declared.Session.{Session}
-use Rattle.session.specs.Header.{at, sizeGood, headerReading}
+use Rattle.session.specs.Header.{recordOf, sizeGood, headerReading}
 use Rattle.wire.specs.Le.{written}
 use Rattle.wire.specs.Mode.{isMode}
 use Rattle.wire.specs.laws.Mode.{is-1, is-4}
@@ -21,7 +21,7 @@ use Rattle.wire.specs.laws.Wrote.{done}
 use Rattle.wire.specs.declared.Writing.the-variants.{Done}
 use Rattle.headers.specs.Headers.{headersOf, headersFault}
 use Rattle.frame.specs.Frame.{callFault, frameNumber, framePicture, frameList, frameReading}
-use Rattle.frame_write.specs.Encode.{frameP}
+use Rattle.frame_write.specs.Encode.{pictureFrame}
 use Rattle.frame_write.specs.FrameWrite.{pixelsGood, argFault, sendFault}
 use Rattle.frame_write.specs.laws.FrameWrite.{cleared}
 use Rattle.frame_readback.specs.laws.OurTiles.{Sendable}
@@ -67,7 +67,7 @@ module _ (mode : ℕ) (good : isMode mode ≡ true) (sendable : Sendable grey 1 
   arguments-0 = rw good
 
   abbrev bytes : List ℕ
-  bytes = frameP 0 1 1 mode sixes grey
+  bytes = pictureFrame 0 1 1 mode sixes grey
 
   sending-0 : 0 ≡ sendFault 0 1 1 mode sixes grey (length bytes)
   unfolding sendFault
@@ -98,7 +98,7 @@ module _ (mode : ℕ) (good : isMode mode ≡ true) (sendable : Sendable grey 1 
   sent = sentBy (wrote-headers .answer) (wrote-headers .out′)
 
   abbrev one : ReadHeader
-  one = asked (at 0 0 0 0) (take 12 sent)
+  one = asked (recordOf 0 0 0 0) (take 12 sent)
 
   abbrev two : ReadHeader
   two = asked (sessionAfter one) (take 10 (drop 12 sent))

@@ -15,7 +15,7 @@ use Rattle.wire.specs.Le.{written, le16}
 use Rattle.wire.specs.declared.Writing.{Writing}
 use Rattle.wire.specs.Wrote.{writingNumber, writingLength}
 use Rattle.bits.specs.Bits.{bitsOf}
-use Rattle.frame_layout.specs.Reader.{frameFault, frameTiles, setPlace, tileCount, rectCount, quantAt}
+use Rattle.frame_layout.specs.Reader.{frameFault, frameTiles, setPlace, tileCount, rectCount, setAt}
 use Rattle.frame_blocks.specs.Blocks.{rectsOf}
 use Rattle.frame_blocks.specs.Cases.{PropsCases}
 use Rattle.frame_draw.specs.Draw.{inRegion}
@@ -23,7 +23,7 @@ use Rattle.frame_draw.specs.Shown.{lastTile, wordIn}
 use Rattle.frame_draw.specs.Show.{tileWord}
 use Rattle.frame_blocks.specs.Judged.{judged}
 use Rattle.session.specs.declared.Session.{Session}
-use Rattle.session.specs.Header.{at, Right, headerFault, recordAfter, headerNumber}
+use Rattle.session.specs.Header.{recordOf, Right, headerFault, recordAfter, headerNumber}
 use Rattle.session.specs.Cases as HeaderOnes
 use Rattle.frame.specs.Frame.{early, framed, Cleared, frameReadingNumber, frameReadingTiles}
 use Rattle.headers.specs.Headers.{headersOf, headersFault}
@@ -36,7 +36,7 @@ use Rattle.code_write.specs.Cases.{WriteCases}
 use Rattle.tile_back.specs.Cases as TileOnes
 use Rattle.frame_pieces.specs.Parts.{tilesNo}
 use Rattle.frame_pieces.specs.Cases as SendOnes
-use Rattle.frame_write.specs.Encode.{frameP}
+use Rattle.frame_write.specs.Encode.{pictureFrame}
 use Rattle.frame_write.specs.FrameWrite.{argFault, sendFault}
 use Rattle.frame_readback.specs.Own.{wordBack, tileNo}
 use Rattle.panel.specs.Edge.{ReadHeaderCall, ReadFrameCall, ReadComponentCall, WriteComponentCall, WriteHeadersCall, WriteFrameCall}
@@ -96,7 +96,7 @@ abbrev pub shownWord : ReadFrame → ℕ → ℕ → ℕ
 shownWord c px py =
     let old : ℕ = getD (c .picture) (py * c .session .width + px) 0 in
     inRegion (rectsOf (c .message) 14) (rectCount (c .message) 14) px py
-    ⇒ wordIn (tileWord (c .session .mode) (quantAt (c .message) (setPlace (c .message)))) px py (lastTile (frameTiles (c .message)) px py) old
+    ⇒ wordIn (tileWord (c .session .mode) (setAt (c .message) (setPlace (c .message)))) px py (lastTile (frameTiles (c .message)) px py) old
     ∣ old
 
 -- "A frame from our writer, read after our writer's headers for the same size and mode": the calls in their order
@@ -148,7 +148,7 @@ pub record Demand2 : Type 0 where
   -- "The writer refuses only on 01's conditions."
   pub frame-writer : (c : WriteFrame) → writingNumber (c .answer) ≡ argFault (c .width) (c .height) (c .mode) (c .quant) (length (c .pixels)) (length (c .list)) (length (c .scratch)) ⨟ sendFault (c .index) (c .width) (c .height) (c .mode) (c .quant) (c .pixels) (length (c .out))
   pub header-writer : (c : WriteHeaders) → writingNumber (c .answer) ≡ headersFault (c .width) (c .height) (c .mode) (length (c .out))
-  pub frame-sent : (c : WriteFrame) → Sent (frameP (c .index) (c .width) (c .height) (c .mode) (c .quant) (c .pixels)) (c .out) (c .out′) (c .answer)
+  pub frame-sent : (c : WriteFrame) → Sent (pictureFrame (c .index) (c .width) (c .height) (c .mode) (c .quant) (c .pixels)) (c .out) (c .out′) (c .answer)
   pub headers-sent : (c : WriteHeaders) → Sent (headersOf (c .width) (c .height) (c .mode)) (c .out) (c .out′) (c .answer)
   -- The frame writer never refuses a picture: 9 and 6 do not happen, whatever its bytes; and given good arguments and this much room it is written
   pub writer-refuses : (c : WriteFrame) → ((i : ℕ) → getD (c .pixels) i 0 < 256) → Among (0 ∷ 5 ∷ 7 ∷ 2 ∷ 13 ∷ []) (writingNumber (c .answer))
@@ -259,7 +259,7 @@ pub record EdgeDemand2 : Type 0 where
   pub our-frames : (h : CWriteHeaders) (one two three four : CReadHeader) (s : CWriteFrame) (f : CReadFrame) → OurCallsC h one two three four s f → OurFrameC one two three four s f
   pub frame-writer : (c : CWriteFrame) → c .number ≡ argFault (c .width) (c .height) (c .mode) (c .quant) (length (c .pixels)) (length (c .list)) (length (c .scratch)) ⨟ sendFault (c .index) (c .width) (c .height) (c .mode) (c .quant) (c .pixels) (length (c .out))
   pub header-writer : (c : CWriteHeaders) → c .number ≡ headersFault (c .width) (c .height) (c .mode) (length (c .out))
-  pub frame-sent : (c : CWriteFrame) → SentC (frameP (c .index) (c .width) (c .height) (c .mode) (c .quant) (c .pixels)) (c .out) (c .out′) (c .size) (c .number)
+  pub frame-sent : (c : CWriteFrame) → SentC (pictureFrame (c .index) (c .width) (c .height) (c .mode) (c .quant) (c .pixels)) (c .out) (c .out′) (c .size) (c .number)
   pub headers-sent : (c : CWriteHeaders) → SentC (headersOf (c .width) (c .height) (c .mode)) (c .out) (c .out′) (c .size) (c .number)
   pub work-untouched : (c : CWriteFrame) → Among (5 ∷ 7 ∷ 2 ∷ []) (c .number) → (c .list′ ≡ c .list) × (c .scratch′ ≡ c .scratch)
   pub work-zeros : (c : CWriteFrame) → Other (5 ∷ 7 ∷ 2 ∷ []) (c .number) → (c .list′ ≡ replicate 4096 (pos 0)) × (c .scratch′ ≡ replicate 4096 (pos 0))
@@ -270,7 +270,7 @@ pub record EdgeDemands : Type 0 where
 
 -- ---- document 02, request Six: tile columns, tile rows and the picture's words in the record "must be right after every call, refused ones included"
 pub record RecordRight : Type 0 where
-  pub fresh : Right (at 0 0 0 0)
+  pub fresh : Right (recordOf 0 0 0 0)
   pub right-after : (c : ReadHeader) → Right (c .session) → Right (sessionAfter c)
   -- over any list of calls on one record
   pub right-always : (s t : Session) → OnOneRecord s t → Right s → Right t

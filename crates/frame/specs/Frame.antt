@@ -9,7 +9,7 @@ use lib.IntN.{ℤ, pos}
 use lib.ListN.{length, replicate}
 use lib.Dec.{eqb, leb}
 use Rattle.whole.specs.Row.{_!_⨾_, _⇒_∣_, _⨟_}
-use Rattle.frame_layout.specs.Reader.{beginFault, regionFault, frameFault, frameTiles, setPlace, tileCount, rectCount, quantAt}
+use Rattle.frame_layout.specs.Reader.{beginFault, regionFault, frameFault, frameTiles, setPlace, tileCount, rectCount, setAt}
 use Rattle.frame_blocks.specs.Blocks.{rectsOf, setFront}
 use Rattle.frame_blocks.specs.Judged.{judged}
 use Rattle.frame_draw.specs.Shown.{tilesDrawn}
@@ -41,7 +41,7 @@ frontFault et m = beginFault m 0 ⨟ regionFault m 14 ⨟ setFront et m (setPlac
 
 -- the picture with a frame drawn: its listed tiles, in message order
 unfoldable pub framed : ℕ → ℕ → ℕ → List ℕ → List ℕ → List ℕ
-framed et w h m pic = tilesDrawn (rectsOf m 14) (rectCount m 14) (tileWord et (quantAt m (setPlace m))) w h (frameTiles m) pic
+framed et w h m pic = tilesDrawn (rectsOf m 14) (rectCount m 14) (tileWord et (setAt m (setPlace m))) w h (frameTiles m) pic
 
 -- "12, then 2, then the blocks in wire order"; f is the number before the message
 unfoldable pub frameNumber : ℕ → Session → List ℕ → ℕ

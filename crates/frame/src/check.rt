@@ -6,13 +6,13 @@ ghost use Prim.Native.Nat.{_+_, _*_, _≤_, _<_};
 ghost use lib.ListN.{length};
 ghost use Rattle.session.specs.Header.{Right};
 ghost use Rattle.frame_layout.specs.Reader.{tileAt, codesFault, tileFault, tilesFault, quantCount, tileCount, dataOf};
-ghost use Rattle.frame_blocks.specs.Tiles.{indexOf, codeOf, TileGood};
+ghost use Rattle.frame_blocks.specs.Tiles.{indexOf, codePart, TileGood};
 ghost use Rattle.frame_blocks.specs.Judged.{inSet, SetSound};
 
 // Component k (0, 1, 2: Y, Cb, Cr) of a tile that has no other fault.
 fn part_fault(mode: u8, m: &[u8], sp: usize, d: &[u8], at: usize, k: usize, work: &mut [i32]) -> u8
     requires { ⌜ (length (now work) ≡ 4096) × SetSound (now m) sp × TileGood (quantCount (now m) sp) (now d) at × (k < 3) ⌝ }
-    ensures { λ r. ⌜ r ≡ inSet mode (now (m .entry)) sp (indexOf (tileAt (now (d .entry)) at) k) (codeOf (tileAt (now (d .entry)) at) k) ⌝ }
+    ensures { λ r. ⌜ r ≡ inSet mode (now (m .entry)) sp (indexOf (tileAt (now (d .entry)) at) k) (codePart (tileAt (now (d .entry)) at) k) ⌝ }
 {
     let j = frame_blocks::tile::quant_index(d, at, k);
     let set = bands::quant_at(m, sp + (22 + 5 * j));

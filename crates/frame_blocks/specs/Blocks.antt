@@ -7,13 +7,13 @@ use lib.Dec.{eqb, leb}
 use lib.ListN.{length, getD, take, drop}
 use Rattle.wire.specs.Le.{le16}
 use Rattle.whole.specs.Row.{_!_⨾_, _⇒_∣_, _⨟_}
-use Rattle.frame_layout.specs.Reader.{headJudge, leastHead, codecFault, setJudge, quantsFault, sizeAt, rectCount, quantCount, tileCount, dataSize}
+use Rattle.frame_layout.specs.Reader.{blockJudge, leastHead, codecFault, setJudge, quantsFault, sizeAt, rectCount, quantCount, tileCount, dataSize}
 
 -- layout's two heads as one: a block of a fixed size, or of a least size
 unfoldable pub headBy : Bool → ℕ → ℕ → List ℕ → ℕ → ℕ
 headBy fixed kind size m at =
     leb 6 (length m - at) ! 1 ⨾
-    headJudge kind (le16 m at) (fixed ⇒ eqb (sizeAt m at) size ∣ leb size (sizeAt m at)) (sizeAt m at) (length m - at)
+    blockJudge kind (le16 m at) (fixed ⇒ eqb (sizeAt m at) size ∣ leb size (sizeAt m at)) (sizeAt m at) (length m - at)
 
 -- the bytes of a region's rectangles: "n rectangles x, y, w, h of 2"
 unfoldable pub rectsOf : List ℕ → ℕ → List ℕ

@@ -2,7 +2,7 @@
 use Prim.Native.Nat.{ℕ, _+_, _*_}
 use mathlib.Core.Path.{_≡_}
 use mathlib.Core.List.{List}
-use Rattle.frame_layout.specs.Reader.{quantAt, quantCount, quantsFault}
+use Rattle.frame_layout.specs.Reader.{setAt, quantCount, quantsFault}
 use Rattle.frame_blocks.specs.Blocks.{SetGood}
 use Rattle.bands.specs.Bands.{quantOf}
 use Rattle.tile_back.specs.Component.{componentFault}
@@ -13,7 +13,7 @@ judged et five code = componentFault et (quantOf five) code
 
 -- the same within a tileset at a place: the set by its index
 unfoldable pub inSet : ℕ → List ℕ → ℕ → ℕ → List ℕ → ℕ
-inSet et m at = λ (j : ℕ) (code : List ℕ). judged et (quantAt m at j) code
+inSet et m at = λ (j : ℕ) (code : List ℕ). judged et (setAt m at j) code
 
 -- what a tileset has whose front was checked
 pub record SetSound (m : List ℕ) (at : ℕ) : Type 0 where

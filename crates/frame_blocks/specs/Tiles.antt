@@ -27,10 +27,10 @@ unfoldable pub tileFront : ℕ → ℕ → ℕ → List ℕ → ℕ → ℕ
 tileFront w h q d at = leastHead 0xCAC3 19 d at ⨟ tileFields w h q d at
 
 -- "then Y, Cb, Cr": a tile's codes and quantiser indices by number
-unfoldable pub codeOf : Tile → ℕ → List ℕ
-codeOf t zero = t .ys
-codeOf t (suc zero) = t .cbs
-codeOf t (suc (suc k)) = t .crs
+unfoldable pub codePart : Tile → ℕ → List ℕ
+codePart t zero = t .ys
+codePart t (suc zero) = t .cbs
+codePart t (suc (suc k)) = t .crs
 
 unfoldable pub indexOf : Tile → ℕ → ℕ
 indexOf t zero = t .qy

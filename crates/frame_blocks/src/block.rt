@@ -5,12 +5,12 @@ ghost use Prim.Native.Nat.{_+_, _*_, _≤_, _<_};
 ghost use lib.Dec.{eqb, leb};
 ghost use lib.ListN.{length};
 ghost use Rattle.whole.specs.Row.{_⇒_∣_};
-ghost use Rattle.frame_layout.specs.Reader.{headJudge, fixedHead, leastHead, codecJudge, codecFault, beginJudge, beginFault, regionJudge, lastJudge, regionFault, propsGood, setJudge, halvesFault, quantsFault, endFault, dataOf};
+ghost use Rattle.frame_layout.specs.Reader.{blockJudge, fixedHead, leastHead, codecJudge, codecFault, beginJudge, beginFault, regionJudge, lastJudge, regionFault, propsGood, setJudge, halvesFault, quantsFault, endFault, dataOf};
 ghost use Rattle.frame_blocks.specs.Blocks.{headBy, setFields, setFront, rectsOf, RegionGood, SetGood};
 
 // kind, then the size against the layout, then the room
 fn head_judge(kind: usize, is: usize, fits: bool, size: usize, room: usize) -> u8
-    ensures { λ r. ⌜ r ≡ headJudge kind is fits size room ⌝ }
+    ensures { λ r. ⌜ r ≡ blockJudge kind is fits size room ⌝ }
 {
     if is != kind {
         return 3;

@@ -7,7 +7,7 @@ ghost use Prim.Native.Nat.{_+_, _*_, _≤_, _<_};
 ghost use lib.ListN.{length};
 ghost use Rattle.session.specs.Header.{Right};
 ghost use Rattle.frame_layout.specs.Reader.{bodyJudge, tileAt};
-ghost use Rattle.frame_blocks.specs.Tiles.{placeJudge, tileFields, tileFront, partStart, codeOf, indexOf, TileWhole};
+ghost use Rattle.frame_blocks.specs.Tiles.{placeJudge, tileFields, tileFront, partStart, codePart, indexOf, TileWhole};
 
 // The place: a tile starts in the channel exactly if its column is below the record's columns, and its row below the rows.
 fn place_judge(s: Session, x: usize, y: usize) -> u8
@@ -102,7 +102,7 @@ fn part_start(d: &[u8], at: usize, k: usize) -> usize
 // The Y, Cb or Cr code (k = 0, 1, 2) of a checked tile, as that part of the message itself.
 pub fn code_part(d: &[u8], at: usize, k: usize) -> &[u8]
     requires { ⌜ TileWhole (now d) at × (k < 3) ⌝ }
-    ensures { λ r. ⌜ now r ≡ codeOf (tileAt (now (d .entry)) at) k ⌝ }
+    ensures { λ r. ⌜ now r ≡ codePart (tileAt (now (d .entry)) at) k ⌝ }
 {
     let n = wire::le16_at(d, at + (13 + 2 * k));
     let a = part_start(d, at, k);

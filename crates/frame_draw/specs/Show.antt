@@ -8,11 +8,11 @@ use Rattle.frame_layout.specs.Bytes.{Tile}
 use Rattle.bands.specs.Bands.{quantOf}
 use Rattle.tile_back.specs.Component.{samplesOf}
 use Rattle.tile_back.specs.Word.{wordAt}
-use Rattle.frame_blocks.specs.Tiles.{indexOf, codeOf}
+use Rattle.frame_blocks.specs.Tiles.{indexOf, codePart}
 
 -- the samples of component k (0, 1, 2: Y, Cb, Cr) of a tile
 unfoldable pub planeOf : ℕ → (ℕ → List ℕ) → Tile → ℕ → List ℤ
-planeOf mode sets t k = samplesOf mode (quantOf (sets (indexOf t k))) (codeOf t k)
+planeOf mode sets t k = samplesOf mode (quantOf (sets (indexOf t k))) (codePart t k)
 
 -- the word of each of its 4,096 places
 unfoldable pub tileWord : ℕ → (ℕ → List ℕ) → Tile → ℕ → ℕ

@@ -3,7 +3,7 @@
 ghost use mathlib.Core.Path.{_≡_};
 ghost use Prim.Native.Nat.{_+_, _*_, _≤_, _<_};
 ghost use lib.ListN.{length};
-ghost use Rattle.frame_layout.specs.Reader.{quantCount, tileCount, rectCount, quantAt, dataOf, tileAt, tilesIn, tilesFault};
+ghost use Rattle.frame_layout.specs.Reader.{quantCount, tileCount, rectCount, setAt, dataOf, tileAt, tilesIn, tilesFault};
 ghost use Rattle.frame_blocks.specs.Blocks.{rectsOf, RegionGood};
 ghost use Rattle.frame_blocks.specs.Tiles.{TileSound};
 ghost use Rattle.frame_blocks.specs.Judged.{inSet, SetSound};
@@ -22,7 +22,7 @@ pub struct Pass {
 // The samples of component k (0, 1, 2: Y, Cb, Cr) of the sound tile at a place of the tileset's data.
 fn part_samples(p: Pass, m: &[u8], at: usize, k: usize, list: &mut [i32], tmp: &mut [i32])
     requires { ⌜ (length (now list) ≡ 4096) × (length (now tmp) ≡ 4096) × SetSound (now m) (p .sp) × TileSound (inSet (p .mode) (now m) (p .sp)) (quantCount (now m) (p .sp)) (dataOf (now m) (p .sp)) at × (k < 3) ⌝ }
-    ensures { λ _. ⌜ now (list .exit) ≡ planeOf (p .mode) (quantAt (now (m .entry)) (p .sp)) (tileAt (dataOf (now (m .entry)) (p .sp)) at) k ⌝ }
+    ensures { λ _. ⌜ now (list .exit) ≡ planeOf (p .mode) (setAt (now (m .entry)) (p .sp)) (tileAt (dataOf (now (m .entry)) (p .sp)) at) k ⌝ }
 {
     let sp = p.sp;
     let d = frame_blocks::block::tile_data(m, sp);
@@ -43,7 +43,7 @@ fn tile_samples(
     tmp: &mut [i32],
 )
     requires { ⌜ Lists (now ys) (now cbs) (now crs) (now tmp) × SetSound (now m) (p .sp) × TileSound (inSet (p .mode) (now m) (p .sp)) (quantCount (now m) (p .sp)) (dataOf (now m) (p .sp)) at ⌝ }
-    ensures { λ _. ⌜ Sampled (p .mode) (quantAt (now (m .entry)) (p .sp)) (tileAt (dataOf (now (m .entry)) (p .sp)) at) (now (ys .exit)) (now (cbs .exit)) (now (crs .exit)) ⌝ }
+    ensures { λ _. ⌜ Sampled (p .mode) (setAt (now (m .entry)) (p .sp)) (tileAt (dataOf (now (m .entry)) (p .sp)) at) (now (ys .exit)) (now (cbs .exit)) (now (crs .exit)) ⌝ }
 {
     part_samples(p, m, at, 0, ys, tmp);
     part_samples(p, m, at, 1, cbs, tmp);
@@ -62,7 +62,7 @@ fn show_tile(
     tmp: &mut [i32],
 )
     requires { ⌜ Lists (now ys) (now cbs) (now crs) (now tmp) × RegionGood (now m) 14 × SetSound (now m) (p .sp) × TileSound (inSet (p .mode) (now m) (p .sp)) (quantCount (now m) (p .sp)) (dataOf (now m) (p .sp)) at × (p .h * p .w ≤ length (now picture)) ⌝ }
-    ensures { λ _. ⌜ now (picture .exit) ≡ tileDrawn (rectsOf (now (m .entry)) 14) (rectCount (now (m .entry)) 14) (tileWord (p .mode) (quantAt (now (m .entry)) (p .sp)) (tileAt (dataOf (now (m .entry)) (p .sp)) at)) (p .w) (p .h) (tileAt (dataOf (now (m .entry)) (p .sp)) at .x) (tileAt (dataOf (now (m .entry)) (p .sp)) at .y) (now (picture .entry)) ⌝ }
+    ensures { λ _. ⌜ now (picture .exit) ≡ tileDrawn (rectsOf (now (m .entry)) 14) (rectCount (now (m .entry)) 14) (tileWord (p .mode) (setAt (now (m .entry)) (p .sp)) (tileAt (dataOf (now (m .entry)) (p .sp)) at)) (p .w) (p .h) (tileAt (dataOf (now (m .entry)) (p .sp)) at .x) (tileAt (dataOf (now (m .entry)) (p .sp)) at .y) (now (picture .entry)) ⌝ }
 {
     tile_samples(p, m, at, ys, cbs, crs, tmp);
     let n = wire::le16_at(m, 23);
@@ -91,7 +91,7 @@ pub fn show(
     tmp: &mut [i32],
 )
     requires { ⌜ Lists (now ys) (now cbs) (now crs) (now tmp) × RegionGood (now m) 14 × SetSound (now m) (p .sp) × (0 ≡ tilesFault (inSet (p .mode) (now m) (p .sp)) (p .w) (p .h) (quantCount (now m) (p .sp)) (dataOf (now m) (p .sp)) (tileCount (now m) (p .sp)) 0) × (p .h * p .w ≤ length (now picture)) ⌝ }
-    ensures { λ _. ⌜ now (picture .exit) ≡ tilesDrawn (rectsOf (now (m .entry)) 14) (rectCount (now (m .entry)) 14) (tileWord (p .mode) (quantAt (now (m .entry)) (p .sp))) (p .w) (p .h) (tilesIn (dataOf (now (m .entry)) (p .sp)) (tileCount (now (m .entry)) (p .sp)) 0) (now (picture .entry)) ⌝ }
+    ensures { λ _. ⌜ now (picture .exit) ≡ tilesDrawn (rectsOf (now (m .entry)) 14) (rectCount (now (m .entry)) 14) (tileWord (p .mode) (setAt (now (m .entry)) (p .sp))) (p .w) (p .h) (tilesIn (dataOf (now (m .entry)) (p .sp)) (tileCount (now (m .entry)) (p .sp)) 0) (now (picture .entry)) ⌝ }
 {
     let n = wire::le16_at(m, p.sp + 16);
     let d = frame_blocks::block::tile_data(m, p.sp);

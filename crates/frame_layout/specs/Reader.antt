@@ -12,8 +12,8 @@ use Rattle.whole.specs.Row.{_!_⨾_, _⨟_}
 use Rattle.frame_layout.specs.Bytes.{Tile}
 
 -- the kind due, the kind there, whether blockLen fits the fixed or least size, blockLen, the bytes there: kind (3), size (4), whole block present (1)
-unfoldable pub headJudge : ℕ → ℕ → Bool → ℕ → ℕ → ℕ
-headJudge kind is sizeGood size room =
+unfoldable pub blockJudge : ℕ → ℕ → Bool → ℕ → ℕ → ℕ
+blockJudge kind is sizeGood size room =
     eqb is kind ! 3 ⨾
     sizeGood ! 4 ⨾
     leb size room ! 1 ⨾
@@ -27,13 +27,13 @@ sizeAt m at = le32 m (at + 2)
 unfoldable pub fixedHead : ℕ → ℕ → List ℕ → ℕ → ℕ
 fixedHead kind size m at =
     leb 6 (length m - at) ! 1 ⨾
-    headJudge kind (le16 m at) (eqb (sizeAt m at) size) (sizeAt m at) (length m - at)
+    blockJudge kind (le16 m at) (eqb (sizeAt m at) size) (sizeAt m at) (length m - at)
 
 -- the same of a block of a least size (region, tileset, tile)
 unfoldable pub leastHead : ℕ → ℕ → List ℕ → ℕ → ℕ
 leastHead kind least m at =
     leb 6 (length m - at) ! 1 ⨾
-    headJudge kind (le16 m at) (leb least (sizeAt m at)) (sizeAt m at) (length m - at)
+    blockJudge kind (le16 m at) (leb least (sizeAt m at)) (sizeAt m at) (length m - at)
 
 -- "Blocks marked * go on with codecId 1 and channelId: .. 0"
 unfoldable pub codecJudge : ℕ → ℕ → ℕ
@@ -122,8 +122,8 @@ unfoldable pub dataSize : List ℕ → ℕ → ℕ
 dataSize m at = le32 m (at + 18)
 
 -- the j-th quantiser set of a tileset, five bytes
-unfoldable pub quantAt : List ℕ → ℕ → ℕ → List ℕ
-quantAt m at j = take 5 (drop (at + (22 + 5 * j)) m)
+unfoldable pub setAt : List ℕ → ℕ → ℕ → List ℕ
+setAt m at j = take 5 (drop (at + (22 + 5 * j)) m)
 
 -- the tileset's own data
 unfoldable pub dataOf : List ℕ → ℕ → List ℕ
@@ -186,7 +186,7 @@ setFault comp w h et m at =
     codecFault m at ⨟
     setJudge et (sizeAt m at) (le16 m (at + 8)) (le16 m (at + 10)) (le16 m (at + 12)) (quantCount m at) (getD m (at + 15) 0) (tileCount m at) (dataSize m at) ⨟
     quantsFault m (5 * quantCount m at) (at + 22) ⨟
-    tilesFault (λ j code. comp et (quantAt m at j) code) w h (quantCount m at) (dataOf m at) (tileCount m at) 0
+    tilesFault (λ j code. comp et (setAt m at j) code) w h (quantCount m at) (dataOf m at) (tileCount m at) 0
 
 -- frame end, "and nothing after" (4)
 unfoldable pub endFault : List ℕ → ℕ → ℕ

@@ -5,7 +5,7 @@ ghost use Prim.Native.Nat.{_+_, _*_, _≤_, _<_};
 ghost use lib.ListN.{length, getD};
 ghost use Rattle.wire.specs.Le.{patch};
 ghost use Rattle.frame_layout.specs.Bytes.{beginOf, regionOf, propsOf, quantBytes, endOf};
-ghost use Rattle.frame_layout.specs.laws.ReadBack.{QuantGood};
+ghost use Rattle.frame_layout.specs.laws.ReadBack.{SetGood};
 ghost use Rattle.frame_pieces.specs.Parts.{headOf, filled, setHeadOf, frontWith, closed, colsOf, tilesNo};
 
 // The first 19 bytes of a tile, its lengths still 0; quantiser indices 0.
@@ -81,14 +81,14 @@ fn put_set(out: &mut [u8], et: usize, n: usize)
 
 // Two values of a quantiser set in a byte, low half first.
 fn pack(q: &[u8], k: usize) -> u8
-    requires { ⌜ (length (now q) ≡ 10) × (k + 1 < 10) × QuantGood (now q) ⌝ }
+    requires { ⌜ (length (now q) ≡ 10) × (k + 1 < 10) × SetGood (now q) ⌝ }
     ensures { λ r. ⌜ r ≡ getD (now (q .entry)) k 0 + 16 * getD (now (q .entry)) (k + 1) 0 ⌝ }
 {
     q[k] + 16 * q[k + 1]
 }
 
 fn put_quants(out: &mut [u8], q: &[u8])
-    requires { ⌜ (64 ≤ length (now out)) × (length (now q) ≡ 10) × QuantGood (now q) ⌝ }
+    requires { ⌜ (64 ≤ length (now out)) × (length (now q) ≡ 10) × SetGood (now q) ⌝ }
     ensures { λ _. ⌜ now (out .exit) ≡ patch (now (out .entry)) 59 (quantBytes (now (q .entry))) ⌝ }
 {
     wire::put_two8(out, 59, pack(q, 0), pack(q, 2));
@@ -98,7 +98,7 @@ fn put_quants(out: &mut [u8], q: &[u8])
 
 // All that stands before the tiles: 64 bytes, the tileset's two lengths still 0.
 pub fn put_front(out: &mut [u8], q: &[u8], idx: usize, w: usize, h: usize, et: usize, n: usize)
-    requires { ⌜ (64 ≤ length (now out)) × (length (now q) ≡ 10) × (QuantGood (now q)) × (et < 16) ⌝ }
+    requires { ⌜ (64 ≤ length (now out)) × (length (now q) ≡ 10) × (SetGood (now q)) × (et < 16) ⌝ }
     ensures { λ _. ⌜ now (out .exit) ≡ patch (now (out .entry)) 0 (frontWith idx w h et (now (q .entry)) n 0 0) ⌝ }
 {
     put_begin(out, idx);

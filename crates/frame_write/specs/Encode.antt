@@ -18,16 +18,16 @@ unfoldable pub listOf : List ℕ → ℕ → ℕ → List ℕ → ℕ → ℕ �
 listOf p w h q k c = roundedOf p w h q (k % colsOf w) (k / colsOf w) c
 
 -- its bytes
-unfoldable pub partOf : List ℕ → ℕ → ℕ → ℕ → List ℕ → ℕ → ℕ → List ℕ
-partOf p w h mode q k c = bytesOf mode (listOf p w h q k c)
+unfoldable pub tilePart : List ℕ → ℕ → ℕ → ℕ → List ℕ → ℕ → ℕ → List ℕ
+tilePart p w h mode q k c = bytesOf mode (listOf p w h q k c)
 
 -- "one quantiser set": every index is 0
-unfoldable pub tileP : List ℕ → ℕ → ℕ → ℕ → List ℕ → ℕ → Tile
-tileP p w h mode q k = tileWith (k % colsOf w) (k / colsOf w) (partOf p w h mode q k 0) (partOf p w h mode q k 1) (partOf p w h mode q k 2)
+unfoldable pub pictureTile : List ℕ → ℕ → ℕ → ℕ → List ℕ → ℕ → Tile
+pictureTile p w h mode q k = tileWith (k % colsOf w) (k / colsOf w) (tilePart p w h mode q k 0) (tilePart p w h mode q k 1) (tilePart p w h mode q k 2)
 
 -- "one rectangle over the whole, frameIdx as given, flags 0 (region flags 1)": the frame's bytes
-unfoldable pub frameP : ℕ → ℕ → ℕ → ℕ → List ℕ → List ℕ → List ℕ
-frameP idx w h mode q p = frameOf idx w h mode q (tilesNo w h) (tileP p w h mode q)
+unfoldable pub pictureFrame : ℕ → ℕ → ℕ → ℕ → List ℕ → List ℕ → List ℕ
+pictureFrame idx w h mode q p = frameOf idx w h mode q (tilesNo w h) (pictureTile p w h mode q)
 
 -- "per component in order 9 (as the reader would judge) then 6", which is given over "65,535 bytes in a component"
 unfoldable pub partRefusal : ℕ → List ℕ → List ℤ → ℕ

@@ -14,7 +14,7 @@ use Rattle.wire.specs.declared.Writing.{Writing}
 use Rattle.session.specs.Header.{sizeGood}
 use Rattle.bands.specs.Bands.{isGood}
 use Rattle.frame_pieces.specs.Parts.{tilesNo}
-use Rattle.frame_write.specs.Encode.{refusals, frameP}
+use Rattle.frame_write.specs.Encode.{refusals, pictureFrame}
 
 -- not 2: "a writer's pixels are not 3 x width x height bytes"
 unfoldable pub pixelsGood : ℕ → ℕ → ℕ → Bool
@@ -35,7 +35,7 @@ argFault w h mode q pixels list scratch =
 unfoldable pub sendFault : ℕ → ℕ → ℕ → ℕ → List ℕ → List ℕ → ℕ → ℕ
 sendFault index w h mode q p room =
     refusals p w h mode q (tilesNo w h) 0 ⨟
-    (leb (length (frameP index w h mode q p)) room ! 13 ⨾ 0)
+    (leb (length (pictureFrame index w h mode q p)) room ! 13 ⨾ 0)
 
 -- "The frame writer's work lists are untouched on 5, 7 and 2 and hold only zeros after every other answer": by the fault of the arguments
 unfoldable pub workLeft : ℕ → List ℤ → List ℤ
@@ -44,6 +44,6 @@ workLeft (suc f) xs = xs
 
 -- what the call says and leaves; xs′ is a list at exit
 pub record FrameWritten (w h mode : ℕ) (q : List ℕ) (index : ℕ) (p : List ℕ) (list list′ scratch scratch′ : List ℤ) (out out′ : List ℕ) (r : Writing) : Type 0 where
-  pub wrote : Wrote (argFault w h mode q (length p) (length list) (length scratch) ⨟ sendFault index w h mode q p (length out)) (frameP index w h mode q p) out out′ r
+  pub wrote : Wrote (argFault w h mode q (length p) (length list) (length scratch) ⨟ sendFault index w h mode q p (length out)) (pictureFrame index w h mode q p) out out′ r
   pub first : list′ ≡ workLeft (argFault w h mode q (length p) (length list) (length scratch)) list
   pub second : scratch′ ≡ workLeft (argFault w h mode q (length p) (length list) (length scratch)) scratch

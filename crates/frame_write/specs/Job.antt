@@ -10,21 +10,21 @@ use Rattle.whole.specs.Row.{_⇒_∣_}
 use Rattle.frame_layout.specs.Bytes.{Tile, frameOf}
 use Rattle.code_write.specs.declared.call.Sized.{Sized}
 use Rattle.frame_pieces.specs.Parts.{tilesNo}
-use Rattle.frame_write.specs.Encode.{listOf, partOf, tileP, partRefusal, tileRefusal, refusals, Picture}
+use Rattle.frame_write.specs.Encode.{listOf, tilePart, pictureTile, partRefusal, tileRefusal, refusals, Picture}
 use Rattle.frame_write.specs.declared.size.Job.{Job}
 
 -- how many tiles; list and bytes of component c of tile k; the tile; the frame of n tiles
-abbrev pub tilesIn : Job → ℕ
-tilesIn j = tilesNo (j .width) (j .height)
+abbrev pub jobTiles : Job → ℕ
+jobTiles j = tilesNo (j .width) (j .height)
 
 abbrev pub listIn : Job → List ℕ → ℕ → ℕ → List ℤ
 listIn j p k c = listOf p (j .width) (j .height) (j .quant .v) k c
 
 abbrev pub partIn : Job → List ℕ → ℕ → ℕ → List ℕ
-partIn j p k c = partOf p (j .width) (j .height) (j .mode) (j .quant .v) k c
+partIn j p k c = tilePart p (j .width) (j .height) (j .mode) (j .quant .v) k c
 
 abbrev pub tileIn : Job → List ℕ → ℕ → Tile
-tileIn j p = tileP p (j .width) (j .height) (j .mode) (j .quant .v)
+tileIn j p = pictureTile p (j .width) (j .height) (j .mode) (j .quant .v)
 
 abbrev pub frameIn : Job → List ℕ → ℕ → List ℕ
 frameIn j p n = frameOf (j .index) (j .width) (j .height) (j .mode) (j .quant .v) n (tileIn j p)
@@ -46,8 +46,8 @@ pub record ArgsGood (w h mode : ℕ) (q p : List ℕ) (list scratch : ℕ) : Typ
   pub first : list ≡ 4096
   pub second : scratch ≡ 4096
 
-abbrev pub Ready : Job → List ℕ → List ℤ → List ℤ → Type 0
-Ready j p list scratch = ArgsGood (j .width) (j .height) (j .mode) (j .quant .v) p (length list) (length scratch)
+abbrev pub JobReady : Job → List ℕ → List ℤ → List ℤ → Type 0
+JobReady j p list scratch = ArgsGood (j .width) (j .height) (j .mode) (j .quant .v) p (length list) (length scratch)
 
 -- what the sizing pass says: the first refusal; the bytes, and 0 where it refuses
 pub record Sizes (refusal bytes : ℕ) (r : Sized) : Type 0 where

@@ -7,9 +7,9 @@ ghost use mathlib.Core.Path.{_≡_};
 ghost use Prim.Native.Nat.{_+_, _*_, _≤_};
 ghost use lib.ListN.{length};
 ghost use Rattle.wire.specs.Wrote.{Wrote};
-ghost use Rattle.frame_write.specs.Encode.{frameP};
+ghost use Rattle.frame_write.specs.Encode.{pictureFrame};
 ghost use Rattle.frame_write.specs.FrameWrite.{pixelsGood, argFault, sendFault, FrameWritten};
-ghost use Rattle.frame_write.specs.Job.{Ready};
+ghost use Rattle.frame_write.specs.Job.{JobReady};
 
 // Is the picture's length three bytes a pixel?
 fn is_pixels(w: usize, h: usize, pixels: usize) -> bool
@@ -54,8 +54,8 @@ fn arg_judge(
 
 // What is left to refuse once the arguments are good: 9, 6, 13; then the frame is written.
 fn send(out: &mut [u8], list: &mut [i32], scratch: &mut [i32], pixels: &[u8], job: Job) -> Writing
-    requires { ⌜ Ready job (now pixels) (now list) (now scratch) ⌝ }
-    ensures { λ r. ⌜ Wrote (sendFault (job .index) (job .width) (job .height) (job .mode) (job .quant .v) (now (pixels .entry)) (length (now (out .entry)))) (frameP (job .index) (job .width) (job .height) (job .mode) (job .quant .v) (now (pixels .entry))) (now (out .entry)) (now (out .exit)) r ⌝ }
+    requires { ⌜ JobReady job (now pixels) (now list) (now scratch) ⌝ }
+    ensures { λ r. ⌜ Wrote (sendFault (job .index) (job .width) (job .height) (job .mode) (job .quant .v) (now (pixels .entry)) (length (now (out .entry)))) (pictureFrame (job .index) (job .width) (job .height) (job .mode) (job .quant .v) (now (pixels .entry))) (now (out .entry)) (now (out .exit)) r ⌝ }
 {
     let n = frame_pieces::tiles_no(job.width, job.height);
     let s = crate::size::tiles_size(job, pixels, n, list, scratch);

@@ -6,7 +6,7 @@ ghost use Prim.Native.Nat.{_+_, _≤_, _<_};
 ghost use lib.ListN.{length};
 ghost use Rattle.wire.specs.Le.{patch, written};
 ghost use Rattle.frame_layout.specs.Bytes.{tileLen, tileOf, tilesOf};
-ghost use Rattle.frame_write.specs.Job.{partIn, tileIn, frameIn, tilesIn, partStop, tileStop, tilesStop, Ready};
+ghost use Rattle.frame_write.specs.Job.{partIn, tileIn, frameIn, jobTiles, partStop, tileStop, tilesStop, JobReady};
 
 // Component c of tile k, written at a place. The answer is the place past it.
 fn put_part(
@@ -19,7 +19,7 @@ fn put_part(
     k: usize,
     c: usize,
 ) -> usize
-    requires { ⌜ Ready job (now pixels) (now list) (now scratch) × (k < tilesIn job) × (0 ≡ partStop job (now pixels) k c) × (at + length (partIn job (now pixels) k c) ≤ length (now out)) ⌝ }
+    requires { ⌜ JobReady job (now pixels) (now list) (now scratch) × (k < jobTiles job) × (0 ≡ partStop job (now pixels) k c) × (at + length (partIn job (now pixels) k c) ≤ length (now out)) ⌝ }
     ensures { λ r. ⌜ (now (out .exit) ≡ patch (now (out .entry)) at (partIn job (now (pixels .entry)) k c)) × (r ≡ at + length (partIn job (now (pixels .entry)) k c)) ⌝ }
 {
     crate::size::load_part(job, pixels, k, c, list, scratch);
@@ -36,7 +36,7 @@ fn put_tile(
     job: Job,
     k: usize,
 ) -> usize
-    requires { ⌜ Ready job (now pixels) (now list) (now scratch) × (k < tilesIn job) × (0 ≡ tileStop job (now pixels) k) × (at + tileLen (tileIn job (now pixels) k) ≤ length (now out)) ⌝ }
+    requires { ⌜ JobReady job (now pixels) (now list) (now scratch) × (k < jobTiles job) × (0 ≡ tileStop job (now pixels) k) × (at + tileLen (tileIn job (now pixels) k) ≤ length (now out)) ⌝ }
     ensures { λ r. ⌜ (now (out .exit) ≡ patch (now (out .entry)) at (tileOf (tileIn job (now (pixels .entry)) k))) × (r ≡ at + tileLen (tileIn job (now (pixels .entry)) k)) ⌝ }
 {
     let cols = frame_pieces::cols_of(job.width);
@@ -59,7 +59,7 @@ fn put_tiles(
     job: Job,
     n: usize,
 ) -> usize
-    requires { ⌜ Ready job (now pixels) (now list) (now scratch) × (n ≡ tilesIn job) × (0 ≡ tilesStop job (now pixels) n) × (from + length (tilesOf (tileIn job (now pixels)) n 0) ≤ length (now out)) ⌝ }
+    requires { ⌜ JobReady job (now pixels) (now list) (now scratch) × (n ≡ jobTiles job) × (0 ≡ tilesStop job (now pixels) n) × (from + length (tilesOf (tileIn job (now pixels)) n 0) ≤ length (now out)) ⌝ }
     ensures { λ r. ⌜ (now (out .exit) ≡ patch (now (out .entry)) from (tilesOf (tileIn job (now (pixels .entry))) n 0)) × (r ≡ from + length (tilesOf (tileIn job (now (pixels .entry))) n 0)) ⌝ }
 {
     let mut at = from;
@@ -80,7 +80,7 @@ pub fn put_frame(
     job: Job,
     n: usize,
 ) -> usize
-    requires { ⌜ Ready job (now pixels) (now list) (now scratch) × (n ≡ tilesIn job) × (0 ≡ tilesStop job (now pixels) n) × (72 + length (tilesOf (tileIn job (now pixels)) n 0) ≤ length (now out)) ⌝ }
+    requires { ⌜ JobReady job (now pixels) (now list) (now scratch) × (n ≡ jobTiles job) × (0 ≡ tilesStop job (now pixels) n) × (72 + length (tilesOf (tileIn job (now pixels)) n 0) ≤ length (now out)) ⌝ }
     ensures { λ r. ⌜ (now (out .exit) ≡ written (frameIn job (now (pixels .entry)) n) (now (out .entry))) × (r ≡ length (frameIn job (now (pixels .entry)) n)) ⌝ }
 {
     let q = job.quant;

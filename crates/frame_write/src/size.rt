@@ -6,7 +6,7 @@ ghost use mathlib.Core.Path.{_≡_};
 ghost use Prim.Native.Nat.{_<_};
 ghost use lib.ListN.{length};
 ghost use Rattle.frame_layout.specs.Bytes.{tileLen, tilesOf};
-ghost use Rattle.frame_write.specs.Job.{listIn, partIn, tileIn, tilesIn, partStop, tileStop, tilesStop, Ready, Sizes};
+ghost use Rattle.frame_write.specs.Job.{listIn, partIn, tileIn, jobTiles, partStop, tileStop, tilesStop, JobReady, Sizes};
 
 // What the writer is asked, beside the pixels: size, mode, the frame's index, and the quantisers.
 pub struct Job {
@@ -19,7 +19,7 @@ pub struct Job {
 
 // The list of component c of tile k.
 pub fn load_part(job: Job, pixels: &[u8], k: usize, c: usize, list: &mut [i32], scratch: &mut [i32])
-    requires { ⌜ Ready job (now pixels) (now list) (now scratch) × (k < tilesIn job) ⌝ }
+    requires { ⌜ JobReady job (now pixels) (now list) (now scratch) × (k < jobTiles job) ⌝ }
     ensures { λ _. ⌜ now (list .exit) ≡ listIn job (now (pixels .entry)) k c ⌝ }
 {
     let w = job.width;
@@ -47,7 +47,7 @@ fn part_size(
     list: &mut [i32],
     scratch: &mut [i32],
 ) -> Sized
-    requires { ⌜ Ready job (now pixels) (now list) (now scratch) × (k < tilesIn job) ⌝ }
+    requires { ⌜ JobReady job (now pixels) (now list) (now scratch) × (k < jobTiles job) ⌝ }
     ensures { λ r. ⌜ Sizes (partStop job (now (pixels .entry)) k c) (length (partIn job (now (pixels .entry)) k c)) r ⌝ }
 {
     load_part(job, pixels, k, c, list, scratch);
@@ -68,7 +68,7 @@ fn part_size(
 
 // Tile k: the first refusal of Y, Cb, Cr, or its bytes.
 fn tile_size(job: Job, pixels: &[u8], k: usize, list: &mut [i32], scratch: &mut [i32]) -> Sized
-    requires { ⌜ Ready job (now pixels) (now list) (now scratch) × (k < tilesIn job) ⌝ }
+    requires { ⌜ JobReady job (now pixels) (now list) (now scratch) × (k < jobTiles job) ⌝ }
     ensures { λ r. ⌜ Sizes (tileStop job (now (pixels .entry)) k) (tileLen (tileIn job (now (pixels .entry)) k)) r ⌝ }
 {
     let a = part_size(job, pixels, k, 0, list, scratch);
@@ -91,7 +91,7 @@ fn tile_size(job: Job, pixels: &[u8], k: usize, list: &mut [i32], scratch: &mut 
 
 // All n tiles: the first refusal, or the bytes of all.
 pub fn tiles_size(job: Job, pixels: &[u8], n: usize, list: &mut [i32], scratch: &mut [i32]) -> Sized
-    requires { ⌜ Ready job (now pixels) (now list) (now scratch) × (n ≡ tilesIn job) ⌝ }
+    requires { ⌜ JobReady job (now pixels) (now list) (now scratch) × (n ≡ jobTiles job) ⌝ }
     ensures { λ r. ⌜ Sizes (tilesStop job (now (pixels .entry)) n) (length (tilesOf (tileIn job (now (pixels .entry))) n 0)) r ⌝ }
 {
     let mut total = 0;

@@ -13,7 +13,7 @@ use Rattle.session.specs.Header.{headerNumber, headerRecord, headerReading}
 use Rattle.code.specs.Read.{readingNumber, readingBits, reading, ComponentRead}
 use Rattle.code_write.specs.Write.{bytesOf, writeFault}
 use Rattle.headers.specs.Headers.{headersOf, headersFault}
-use Rattle.frame_write.specs.Encode.{frameP}
+use Rattle.frame_write.specs.Encode.{pictureFrame}
 use Rattle.frame_write.specs.FrameWrite.{argFault, sendFault, workLeft}
 use Rattle.frame.specs.declared.call.FrameReading.{FrameReading}
 use Rattle.frame.specs.Frame.{early, frameNumber, frameReadingNumber, frameReadingTiles, frameReading, FrameRead}
@@ -57,6 +57,6 @@ WriteHeadersCall width height mode out out′ size n = WriterCall (headersFault 
 
 -- and the frame writer's two work lists
 pub record WriteFrameCall (w h mode : ℕ) (q : List ℕ) (index : ℕ) (p : List ℕ) (list list′ scratch scratch′ : List ℤ) (out out′ : List ℕ) (size n : ℕ) : Type 0 where
-  pub wrote : WriterCall (argFault w h mode q (length p) (length list) (length scratch) ⨟ sendFault index w h mode q p (length out)) (frameP index w h mode q p) out out′ size n
+  pub wrote : WriterCall (argFault w h mode q (length p) (length list) (length scratch) ⨟ sendFault index w h mode q p (length out)) (pictureFrame index w h mode q p) out out′ size n
   pub first : list′ ≡ workLeft (argFault w h mode q (length p) (length list) (length scratch)) list
   pub second : scratch′ ≡ workLeft (argFault w h mode q (length p) (length list) (length scratch)) scratch

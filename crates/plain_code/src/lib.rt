@@ -7,8 +7,8 @@ ghost use lib.ListN.{length, getD, drop, replicate};
 ghost use lib.IntN.{pos};
 ghost use Rattle.bits.specs.Bits.{val, bitsOf, onesOf, numOf, grOf};
 ghost use Rattle.code.specs.Fold.{unfoldZ};
-ghost use Rattle.code.specs.Code.{krAfter, kpOne, kpTwo, up, size};
-ghost use Rattle.code.specs.ReadList.{st, refusalNumber, oneElem, twoElem, judgeTwo, judgeRun, runFirst, runElem, elemOf};
+ghost use Rattle.code.specs.Code.{krAfter, kpOne, kpTwo, raised, size};
+ghost use Rattle.code.specs.ReadList.{stateAt, refusalNumber, oneElem, twoElem, judgeTwo, judgeRun, runFirst, runElem, elemOf};
 ghost use Rattle.code.specs.Fill.{Fine, storedOf};
 ghost use Rattle.code.specs.Read.{clean, shellFault, readingNumber, CodeRead, ComponentRead};
 ghost use Rattle.plain_code.specs.Gone.{goneOf};
@@ -81,7 +81,7 @@ fn golomb(s: &[u8], from: usize, k: usize) -> Num
 // ---- kp and krp: "stay in 0 to 80 by clamping"
 
 fn state(at: usize, kp: usize, krp: usize) -> State
-    ensures { λ r. ⌜ r ≡ st at kp krp ⌝ }
+    ensures { λ r. ⌜ r ≡ stateAt at kp krp ⌝ }
 {
     State {
         at: at,
@@ -92,7 +92,7 @@ fn state(at: usize, kp: usize, krp: usize) -> State
 
 fn more(kp: usize, d: usize) -> usize
     requires { ⌜ kp ≤ 80 ⌝ }
-    ensures { λ r. ⌜ r ≡ up d kp ⌝ }
+    ensures { λ r. ⌜ r ≡ raised d kp ⌝ }
 {
     if 80 - kp < d { 80 } else { kp + d }
 }
@@ -256,14 +256,18 @@ fn run(s: &[u8], c: State, left: usize) -> Element
 }
 
 // "always k = floor(kp/8)"
-fn element(s: &[u8], two: bool, c: State, left: usize) -> Element
+fn element(s: &[u8], rlgr3: bool, c: State, left: usize) -> Element
     requires { ⌜ (length (now s) ≤ 65535) × (c .kp ≤ 80) × (c .krp ≤ 80) ⌝ }
-    ensures { λ r. ⌜ r ≡ elemOf two (c .kp) (c .krp) left (c .at) (bitsOf (now (s .entry))) ⌝ }
+    ensures { λ r. ⌜ r ≡ elemOf rlgr3 (c .kp) (c .krp) left (c .at) (bitsOf (now (s .entry))) ⌝ }
 {
     if 8 <= c.kp {
         return run(s, c, left);
     }
-    if two { pair(s, c, left) } else { single(s, c) }
+    if rlgr3 {
+        pair(s, c, left)
+    } else {
+        single(s, c)
+    }
 }
 
 // ---- the list
@@ -341,14 +345,14 @@ fn refusal_number(r: Refusal) -> u8
 }
 
 // "Start: kp = 8, krp = 8". A code and its tail, into a list of zeros.
-fn read_code(two: bool, s: &[u8], list: &mut [i32]) -> Reading
+fn read_code(rlgr3: bool, s: &[u8], list: &mut [i32]) -> Reading
     requires { ⌜ (length (now s) ≤ 65535) × (length (now list) ≡ 4096) × (now list ≡ replicate (length (now list)) (pos 0)) ⌝ }
-    ensures { λ r. ⌜ CodeRead two (now (s .entry)) (now (list .exit)) r ⌝ }
+    ensures { λ r. ⌜ CodeRead rlgr3 (now (s .entry)) (now (list .exit)) r ⌝ }
 {
     let mut c = state(0, 8, 8);
     let mut i: usize = 0;
     while i < 4096 {
-        match place(list, i, element(s, two, c, 4096 - i)) {
+        match place(list, i, element(s, rlgr3, c, 4096 - i)) {
             Gone::No(r) => {
                 return Reading::Refused(refusal_number(r));
             }

@@ -7,9 +7,9 @@ use lib.IntN.{ℤ}
 use lib.Dec.{lit≤}
 use lib.ListN.{length}
 use Rattle.whole.specs.laws.More.{all-wide}
-use Rattle.code_write.specs.Write.{inRange}
+use Rattle.code_write.specs.Write.{allInRange}
 use Rattle.tile_back.specs.Word.{Plane}
 use Rattle.sample.specs.laws.Range.{near-of}
 
-pub plane-of : (zs : List ℤ) (r : Bool) → length zs ≡ 4096 → r ≡ inRange zs → r ≡ true → Plane zs
+pub plane-of : (zs : List ℤ) (r : Bool) → length zs ≡ 4096 → r ≡ allInRange zs → r ≡ true → Plane zs
 plane-of zs r l e t = record { len = l; near = all-wide (lit≤ tt) (near-of zs r e t) }

@@ -7,7 +7,7 @@ use lib.Dec.{leb, eqb}
 use lib.IntN.{ℤ}
 use lib.ListN.{length}
 use Rattle.whole.specs.Row.{_!_⨾_, _⇒_∣_}
-use Rattle.code_write.specs.Write.{inRange}
+use Rattle.code_write.specs.Write.{allInRange}
 use Rattle.wave_back.specs.laws.Level.{levelFrom}
 
 -- can the level whose bands are n by n be made? Of 4,096 numbers in range, m being the length of the list lent as scratch
@@ -17,7 +17,7 @@ isReady l m n =
     leb n 32 ! false ⨾
     eqb (length l) 4096 ! false ⨾
     eqb m 4096 ! false ⨾
-    inRange l
+    allInRange l
 
 -- the list after that level, whose bands stand at its end
 unfoldable pub levelled : ℕ → ℕ → List ℤ → List ℤ

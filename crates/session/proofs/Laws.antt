@@ -8,7 +8,7 @@ use Rattle.wire.specs.Le.{le16, le32}
 use native.Mathlib.Omega.{arith}
 use Rattle.whole.specs.laws.Row.{passes, fails, stops, goes-on, case-yes, case-no, ne-is, eq-is}
 use Rattle.session.specs.declared.Session.{Session}
-use Rattle.session.specs.Header.{at, ofNumbers, stepped, etOf, headJudge, fieldFault, headerFault, recordAfter}
+use Rattle.session.specs.Header.{recordOf, ofNumbers, stepped, etOf, headJudge, fieldFault, headerFault, recordAfter}
 use Rattle.session.specs.laws.Header.{Good, due-made, stepped-at, numbers-at, channels-size, sized}
 
 -- what has been read and judged of a message whose head is there
@@ -50,7 +50,7 @@ fault-none s m t size n f j z g y h =
 
 -- ---- the record after a block without a fault; r is what the code gives, t the type that was read
 
-pub after-sync : (s : Session) (m : List ℕ) (t : ℕ) → t ≡ le16 m 0 → t ≡ 0xCCC0 → at 1 0 0 0 ≡ recordAfter s m
+pub after-sync : (s : Session) (m : List ℕ) (t : ℕ) → t ≡ le16 m 0 → t ≡ 0xCCC0 → recordOf 1 0 0 0 ≡ recordAfter s m
 unfolding recordAfter
 after-sync s m t e z = case-yes _ _ _ _ (eq-is e refl z) refl
 
@@ -76,4 +76,4 @@ unfolding recordAfter
 after-context s m t r e g x y z et ee k =
     let made = due-made s (le16 m 0) (λ q. x (e ∙ q)) (g .head .is-due) in
     case-no _ _ _ _ (ne-is e refl x) (case-no _ _ _ _ (ne-is e refl y) (case-no _ _ _ _ (ne-is e refl z)
-    (k ∙ stepped-at s 4 et made ∙ ap (at 4 (s .width) (s .height)) ee)))
+    (k ∙ stepped-at s 4 et made ∙ ap (recordOf 4 (s .width) (s .height)) ee)))

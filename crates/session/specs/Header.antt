@@ -21,8 +21,8 @@ unfoldable pub tilesOver : ℕ → ℕ
 tilesOver n = (n + 63) / 64
 
 -- a record in 01's words: headers, width, height, mode; what request Six keeps beside them follows from the size
-abbrev pub at : ℕ → ℕ → ℕ → ℕ → Session
-at headers w h mode = record { headers = headers; mode = mode; width = w; height = h; columns = tilesOver w; rows = tilesOver h; words = w * h; glass = 0 }
+abbrev pub recordOf : ℕ → ℕ → ℕ → ℕ → Session
+recordOf headers w h mode = record { headers = headers; mode = mode; width = w; height = h; columns = tilesOver w; rows = tilesOver h; words = w * h; glass = 0 }
 
 -- the same as a program is given four numbers, whatever they are: columns and rows have a byte each, which holds those of every size that 01 allows
 unfoldable pub ofNumbers : ℕ → ℕ → ℕ → ℕ → Session
@@ -178,10 +178,10 @@ headerFault s m =
 -- the record after a good block; a sync "starts the session over (record 1, 0, 0, 0)"
 unfoldable pub recordAfter : Session → List ℕ → Session
 recordAfter s m =
-    eqb (le16 m 0) 0xCCC0 ⇒ at 1 0 0 0 ∣
-    eqb (le16 m 0) 0xCCC1 ⇒ at 2 (s .width) (s .height) (s .mode) ∣
-    eqb (le16 m 0) 0xCCC2 ⇒ at 3 (le16 m 8) (le16 m 10) 0 ∣
-    at 4 (s .width) (s .height) (etOf (le16 m 11))
+    eqb (le16 m 0) 0xCCC0 ⇒ recordOf 1 0 0 0 ∣
+    eqb (le16 m 0) 0xCCC1 ⇒ recordOf 2 (s .width) (s .height) (s .mode) ∣
+    eqb (le16 m 0) 0xCCC2 ⇒ recordOf 3 (le16 m 8) (le16 m 10) 0 ∣
+    recordOf 4 (s .width) (s .height) (etOf (le16 m 11))
 
 -- ---- the answer: 01's number, and the record after the call: "A refused header or frame changes neither record nor picture."
 

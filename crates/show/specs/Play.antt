@@ -7,7 +7,7 @@ use lib.ListN.{length}
 use Rattle.whole.specs.Row.{_!_⨾_, _⇒_∣_}
 use Rattle.session.specs.declared.Session.{Session}
 use Rattle.frame.specs.Frame.{callFault, frameNumber, framePicture}
-use Rattle.session.specs.Header.{at, headerReading, headerRecord}
+use Rattle.session.specs.Header.{recordOf, headerReading, headerRecord}
 use Rattle.app_stream.specs.declared.Call.{Call}
 use Rattle.app_stream.specs.declared.Call.the-variants.{Header, Frame, End}
 use Rattle.app_stream.specs.Split.{callAt, partOf}
@@ -19,7 +19,7 @@ up n = (n + 1) % 2 ^ 64
 
 -- nothing called yet: a fresh record, no size
 unfoldable pub freshDesk : Desk
-freshDesk = record { s = at 0 0 0 0; at = 0; width = 0; height = 0; headers = 0; frames = 0 }
+freshDesk = record { s = recordOf 0 0 0 0; at = 0; width = 0; height = 0; headers = 0; frames = 0 }
 
 -- after a header call that left the record s: the size is the record's, once it has one
 unfoldable pub headerDesk : Desk → Session → ℕ → Desk

@@ -7,7 +7,7 @@ use lib.Dec.{eqb}
 use lib.IntN.{ℤ}
 use lib.ListN.{getD}
 use Rattle.whole.specs.Row.{_⇒_∣_}
-use Rattle.whole.specs.Tab.{tab}
+use Rattle.whole.specs.Tab.{table}
 use Rattle.colour.specs.Colour.{lumaOf, cbOf, crOf}
 use Rattle.wave_forth.specs.Forth.{tileForth}
 use Rattle.bands.specs.Rounding.{roundedBy}
@@ -37,4 +37,4 @@ sampleAt pixels w h tx ty c i = bytesAt pixels c (pixelPlace w (edge w (64 * tx 
 
 -- the list of component c of that tile: its samples, the wavelet's way forth, rounding and LL3's differences
 unfoldable pub roundedOf : List ℕ → ℕ → ℕ → List ℕ → ℕ → ℕ → ℕ → List ℤ
-roundedOf pixels w h q tx ty c = roundedBy q (tileForth (tab 4096 (sampleAt pixels w h tx ty c)))
+roundedOf pixels w h q tx ty c = roundedBy q (tileForth (table 4096 (sampleAt pixels w h tx ty c)))

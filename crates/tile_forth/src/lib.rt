@@ -5,7 +5,7 @@ ghost use mathlib.Core.Path.{_≡_};
 ghost use Prim.Native.Nat.{_+_, _-_, _*_, _<_, _≤_};
 ghost use lib.ListN.{length};
 ghost use Rattle.whole.specs.laws.Near.{Near};
-ghost use Rattle.whole.specs.Tab.{tab};
+ghost use Rattle.whole.specs.Tab.{table};
 ghost use Rattle.whole.specs.laws.Tab.{AllNear};
 ghost use Rattle.bands.specs.Bands.{QuantGood};
 ghost use Rattle.tile_forth.specs.TileForth.{componentOf, edge, bytesAt, sampleAt, roundedOf};
@@ -55,7 +55,7 @@ fn sample(pixels: &[u8], w: usize, h: usize, tx: usize, ty: usize, c: usize, i: 
 // The samples of component c of the tile (tx, ty).
 fn load(pixels: &[u8], w: usize, h: usize, tx: usize, ty: usize, c: usize, work: &mut [i32])
     requires { ⌜ (1 ≤ w) × (w ≤ 4096) × (1 ≤ h) × (h ≤ 2048) × (3 * (w * h) ≡ length (now pixels)) × (tx < 64) × (ty < 64) × (length (now work) ≡ 4096) ⌝ }
-    ensures { λ _. ⌜ (now (work .exit) ≡ tab 4096 (sampleAt (now (pixels .entry)) w h tx ty c)) × AllNear 16384 (now (work .exit)) ⌝ }
+    ensures { λ _. ⌜ (now (work .exit) ≡ table 4096 (sampleAt (now (pixels .entry)) w h tx ty c)) × AllNear 16384 (now (work .exit)) ⌝ }
 {
     let mut i = 0;
     while i < 4096 {

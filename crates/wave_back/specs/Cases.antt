@@ -3,7 +3,7 @@
 use mathlib.Core.Path.{_≡_}
 use mathlib.Core.List.{List, [], _∷_}
 use lib.IntN.{ℤ, pos, negsuc}
-use Rattle.whole.specs.Tab.{at, tab}
+use Rattle.whole.specs.Tab.{at, table}
 use Rattle.wave_back.specs.Line.{rowAvg, colAvg, lineAt}
 
 -- "L = -32 0 -32 -480 -384 -384 -608 -736, H = 0 0 -64 -64 32 0 -32 -64"
@@ -21,5 +21,5 @@ both =
 
 -- along a row, and down a column as well
 pub record Worked : Type 0 where
-  pub along : tab 16 (lineAt rowAvg 8 (at low) (at high)) ≡ both
-  pub down : tab 16 (lineAt colAvg 8 (at low) (at high)) ≡ both
+  pub along : table 16 (lineAt rowAvg 8 (at low) (at high)) ≡ both
+  pub down : table 16 (lineAt colAvg 8 (at low) (at high)) ≡ both

@@ -4,7 +4,7 @@ ghost use mathlib.Core.Path.{_≡_};
 ghost use Prim.Native.Nat.{_+_, _-_, _*_, _<_, _≤_};
 ghost use lib.ListN.{length};
 ghost use Rattle.whole.specs.laws.Near.{Near};
-ghost use Rattle.whole.specs.Tab.{at, tab, grid};
+ghost use Rattle.whole.specs.Tab.{at, table, grid};
 ghost use Rattle.whole.specs.laws.Tab.{AllNear};
 ghost use Rattle.wave_back.specs.Line.{rowAvg, colAvg, evenZ, oddZ, lineAt, rowAt};
 
@@ -36,7 +36,7 @@ pub fn odd_down(h: i32, x: i32, y: i32) -> i32
 fn line(lo: &[i32], hi: &[i32], out: &mut [i32])
     requires { ⌜ (1 ≤ length (now lo)) × (length (now hi) ≡ length (now lo)) × (length (now out) ≡ 2 * length (now lo)) ⌝ }
     requires { ⌜ AllNear 268435456 (now lo) × AllNear 268435456 (now hi) ⌝ }
-    ensures { λ r. ⌜ now (out .exit) ≡ tab (2 * length (now (lo .entry))) (lineAt rowAvg (length (now (lo .entry))) (at (now (lo .entry))) (at (now (hi .entry)))) ⌝ }
+    ensures { λ r. ⌜ now (out .exit) ≡ table (2 * length (now (lo .entry))) (lineAt rowAvg (length (now (lo .entry))) (at (now (lo .entry))) (at (now (hi .entry)))) ⌝ }
 {
     let last = lo.len() - 1;
     let mut x = even(lo[0], hi[0], hi[0]);

@@ -5,22 +5,22 @@ use Prim.Native.Nat.{ℕ, _+_, _*_}
 use lib.IntN.{ℤ}
 use lib.ListN.{take, drop}
 use Rattle.whole.specs.Tab.{at, grid}
-use Rattle.wave_forth.specs.Halves.{highAt, lowAt}
+use Rattle.wave_forth.specs.Halves.{lineHigh, lineLow}
 
 -- "columns first": place x of row r of the low and of the high half, from 2N rows of 2N
 abbrev pub lowRow : ℕ → (ℕ → ℤ) → ℕ → ℕ → ℤ
-lowRow N f r x = lowAt N (λ y. f (y * (2 * N) + x)) r
+lowRow N f r x = lineLow N (λ y. f (y * (2 * N) + x)) r
 
 abbrev pub highRow : ℕ → (ℕ → ℤ) → ℕ → ℕ → ℤ
-highRow N f r x = highAt N (λ y. f (y * (2 * N) + x)) r
+highRow N f r x = lineHigh N (λ y. f (y * (2 * N) + x)) r
 
 -- then rows: the low rows give LL and HL, the high rows LH and HH, as the way back takes them. The bands stand as HL, LH, HH, LL
 unfoldable pub levelForth : ℕ → List ℤ → List ℤ
 levelForth N xs =
-    grid N N (λ r c. highAt N (lowRow N (at xs) r) c)
-    ++ (grid N N (λ r c. lowAt N (highRow N (at xs) r) c)
-    ++ (grid N N (λ r c. highAt N (highRow N (at xs) r) c)
-    ++ grid N N (λ r c. lowAt N (lowRow N (at xs) r) c)))
+    grid N N (λ r c. lineHigh N (lowRow N (at xs) r) c)
+    ++ (grid N N (λ r c. lineLow N (highRow N (at xs) r) c)
+    ++ (grid N N (λ r c. lineHigh N (highRow N (at xs) r) c)
+    ++ grid N N (λ r c. lineLow N (lowRow N (at xs) r) c)))
 
 -- one level on the end of the list, from place a on: the LL before it
 abbrev pub forthFrom : ℕ → ℕ → List ℤ → List ℤ

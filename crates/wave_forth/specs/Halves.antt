@@ -13,9 +13,9 @@ abbrev pub lowZ : ℤ → ℤ → ℤ → ℤ
 lowZ e g h = e +ℤ halfZ (g +ℤ h)
 
 -- H[n] of a line x of 2N numbers. "x past the end is the last even x"
-unfoldable pub highAt : ℕ → (ℕ → ℤ) → ℕ → ℤ
-highAt N x n = highZ (x (2 * n + 1)) (x (2 * n)) (x (2 * min (n + 1) (N - 1)))
+unfoldable pub lineHigh : ℕ → (ℕ → ℤ) → ℕ → ℤ
+lineHigh N x n = highZ (x (2 * n + 1)) (x (2 * n)) (x (2 * min (n + 1) (N - 1)))
 
 -- L[n]. "H[-1] is H[0]": 0 - 1 is 0 here
-unfoldable pub lowAt : ℕ → (ℕ → ℤ) → ℕ → ℤ
-lowAt N x n = lowZ (x (2 * n)) (highAt N x (n - 1)) (highAt N x n)
+unfoldable pub lineLow : ℕ → (ℕ → ℤ) → ℕ → ℤ
+lineLow N x n = lowZ (x (2 * n)) (lineHigh N x (n - 1)) (lineHigh N x n)

@@ -1,19 +1,19 @@
--- Each return is one row of `sizeOf`.
+-- Each return is one row of `partSize`.
 use Rattle.whole.specs.laws.Row.{rows}
-use Rattle.app_stream.specs.Split.{sizeOf}
+use Rattle.app_stream.specs.Split.{partSize}
 use Rattle.app_stream.proofs.size_of.Statement.{statement}
 use Rattle.app_stream.proofs.size_of.Tie as tie
 
 returns : tie.Need-returns
-unfolding sizeOf
+unfolding partSize
 returns c = search rows
 
 returns-2 : tie.Need-returns-2
-unfolding sizeOf
+unfolding partSize
 returns-2 c = search rows
 
 returns-3 : tie.Need-returns-3
-unfolding sizeOf
+unfolding partSize
 returns-3 c = search rows
 
 pub size-of-spec : {M : Type 1} → statement M

@@ -7,7 +7,7 @@ use lib.ListN.{length}
 use borrow.Author.Tests.{leb-true, eq-eqb}
 use Rattle.wire.specs.Le.{le16, le32}
 use Rattle.whole.specs.laws.Row.{held, case-yes, case-no, ne-is}
-use Rattle.app_stream.specs.Split.{sizeOf, blockSize, frameEnd}
+use Rattle.app_stream.specs.Split.{partSize, blockSize, frameEnd}
 
 -- a block that stands whole at a place
 pub record Whole (m : List ℕ) (at n : ℕ) : Type 0 where
@@ -15,7 +15,7 @@ pub record Whole (m : List ℕ) (at n : ℕ) : Type 0 where
   pub fits : at + n ≤ length m
 
 pub whole : (m : List ℕ) (at n : ℕ) → at ≤ length m → n ≡ blockSize m at → (n ≡ 0 → ⊥) → Whole m at n
-unfolding blockSize sizeOf
+unfolding blockSize partSize
 whole m at n l e z =
     let a = held _ _ _ n z e in
     let b = held _ _ _ n z (a .1) in

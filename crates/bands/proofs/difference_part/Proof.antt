@@ -6,7 +6,7 @@ use denote.Ref.{now}
 use mir.Syntax.{w32}
 use mir.Val.{toZ, ofZ}
 use Rattle.whole.specs.laws.Near.{Near, back, back-near, back-ok}
-use Rattle.whole.specs.Tab.{at, tab}
+use Rattle.whole.specs.Tab.{at, table}
 use Rattle.bands.specs.Rounding.{diffAt}
 use Rattle.bands.specs.laws.Rounding.{lastOf, diff-is, last-more, last-near}
 use Rattle.bands.specs.laws.Part.{Done, done-none, done-put, done-all}
@@ -65,7 +65,7 @@ returns c =
     let n : c .before .loop .i ≡ 64 = omega (arith, c .before .loop .inv .2 .same, c .before .before .pre .0) in
     let f : ℕ → ℤ = diffAt (at (now (c .before .before .args .part))) in
     let d = done-all f (c .before .loop .i) (now (c .before .before .args .part)) (c .before .loop .part) (c .before .before .pre .0 ∙ sym n) (c .before .loop .inv .2) in
-    subst (λ (i : ℕ). c .before .loop .part ≡ tab i f) n d
+    subst (λ (i : ℕ). c .before .loop .part ≡ table i f) n d
 
 pub difference-part-spec : {M : Type 1} → statement M
 difference-part-spec =

@@ -8,7 +8,7 @@ use denote.Ref.{now}
 use mir.Syntax.{w32}
 use mir.Val.{toZ, ofZ}
 use Rattle.whole.specs.laws.Near.{Near, back, back-near, back-ok}
-use Rattle.whole.specs.Tab.{at, tab}
+use Rattle.whole.specs.Tab.{at, table}
 use Rattle.bands.specs.laws.Part.{Done, done-none, done-put, done-all}
 use Rattle.bands.proofs.round_band.Statement.{statement}
 use Rattle.bands.proofs.round_band.Tie as tie
@@ -65,8 +65,8 @@ returns c =
     let m : toZ w32 (ofZ w32 (c .before .before .args .half)) ≡ c .before .before .args .half = back w32 (c .before .before .pre .1) tt in
     let f : ℕ → ℤ = λ j. shrZ (at (now (c .before .before .args .part)) j +ℤ toZ w32 (ofZ w32 (c .before .before .args .half))) (2 ^ c .before .before .args .k) in
     let d = done-all f (c .before .loop .i) (now (c .before .before .args .part)) (c .before .loop .part) (sym n) (c .before .loop .inv .1) in
-    let e = subst (λ (i : ℕ). c .before .loop .part ≡ tab i f) n d in
-    subst (λ (z : ℤ). c .before .loop .part ≡ tab (length (now (c .before .before .args .part))) (λ (j : ℕ). shrZ (at (now (c .before .before .args .part)) j +ℤ z) (2 ^ c .before .before .args .k))) m e
+    let e = subst (λ (i : ℕ). c .before .loop .part ≡ table i f) n d in
+    subst (λ (z : ℤ). c .before .loop .part ≡ table (length (now (c .before .before .args .part))) (λ (j : ℕ). shrZ (at (now (c .before .before .args .part)) j +ℤ z) (2 ^ c .before .before .args .k))) m e
 
 pub round-band-spec : {M : Type 1} → statement M
 round-band-spec =

@@ -8,7 +8,7 @@ use denote.Ref.{now}
 use mir.Syntax.{w32}
 use mir.Val.{toZ, ofZ}
 use Rattle.whole.specs.laws.Near.{Near, back, back-near, back-ok}
-use Rattle.whole.specs.Tab.{at, tab}
+use Rattle.whole.specs.Tab.{at, table}
 use Rattle.bands.specs.laws.Part.{Done, done-none, done-put, done-all}
 use Rattle.bands.proofs.scale_band.Statement.{statement}
 use Rattle.bands.proofs.scale_band.Tie as tie
@@ -48,8 +48,8 @@ returns c =
     let part = now (s .before .args .part) in
     let n : s .loop .i ≡ length part = omega (arith, s .loop .inv .1 .same) in
     let d = done-all (λ (k : ℕ). at part k *ℤ toZ w32 (ofZ w32 (s .before .args .m))) (s .loop .i) part (s .loop .part) (sym n) (s .loop .inv .1) in
-    subst (λ (z : ℤ). s .loop .part ≡ tab (length part) (λ (k : ℕ). at part k *ℤ z)) (back w32 (s .before .pre .1) tt)
-    (subst (λ (i : ℕ). s .loop .part ≡ tab i (λ (k : ℕ). at part k *ℤ toZ w32 (ofZ w32 (s .before .args .m)))) n d)
+    subst (λ (z : ℤ). s .loop .part ≡ table (length part) (λ (k : ℕ). at part k *ℤ z)) (back w32 (s .before .pre .1) tt)
+    (subst (λ (i : ℕ). s .loop .part ≡ table i (λ (k : ℕ). at part k *ℤ toZ w32 (ofZ w32 (s .before .args .m)))) n d)
 
 pub scale-band-spec : {M : Type 1} → statement M
 scale-band-spec =

@@ -8,7 +8,7 @@ use denote.Ref.{now}
 use mir.Syntax.{w32}
 use mir.Val.{toZ, ofZ}
 use Rattle.whole.specs.laws.Near.{Near, back, back-near, back-ok}
-use Rattle.whole.specs.Tab.{at, tab}
+use Rattle.whole.specs.Tab.{at, table}
 use Rattle.bands.specs.Bands.{sumTo}
 use Rattle.bands.specs.laws.Range.{sum-more, sum-so-far}
 use Rattle.bands.specs.laws.Part.{Done, done-none, done-put, done-all}
@@ -56,7 +56,7 @@ returns c =
     let f : ℕ → ℤ = λ k. sumTo (at (now (s .before .args .part))) (k + 1) in
     let n : s .loop .i ≡ 64 = omega (arith, s .loop .inv .2 .same, s .before .pre .0) in
     let d = done-all f (s .loop .i) (now (s .before .args .part)) (s .loop .part) (s .before .pre .0 ∙ sym n) (s .loop .inv .2) in
-    subst (λ (i : ℕ). s .loop .part ≡ tab i f) n d
+    subst (λ (i : ℕ). s .loop .part ≡ table i f) n d
 
 pub sum-part-spec : {M : Type 1} → statement M
 sum-part-spec =

@@ -11,7 +11,7 @@ use lib.ListN.{length, getD, take, drop, List·getD-eq-default}
 use Rattle.whole.specs.Row.{_!_⨾_, _⇒_∣_, _⨟_}
 use Rattle.whole.specs.laws.Row.{held, both, passes, goes-on}
 use Rattle.whole.specs.laws.Near.{Near}
-use Rattle.whole.specs.Tab.{at, tab}
+use Rattle.whole.specs.Tab.{at, table}
 use Rattle.whole.specs.laws.Tab.{AllNear, at-tab}
 use Rattle.whole.specs.laws.Part.{part-length, part-at}
 use Rattle.bands.specs.declared.Band.{Band}
@@ -56,11 +56,11 @@ module _ (q : List ℕ) (xs : List ℤ) (len : length xs ≡ 4096) where
   -- what is scaled at a place: a coefficient, or a sum of LL3
   front-is : (k : ℕ) → k < 4032 → at (summed xs) k ≡ at xs k
   unfolding summed
-  front-is k h = front-at xs (tab 64 (sumsOf xs)) k len h
+  front-is k h = front-at xs (table 64 (sumsOf xs)) k len h
 
   back-is : (i : ℕ) → i < 64 → at (summed xs) (4032 + i) ≡ sumsOf xs i
   unfolding summed
-  back-is i h = back-at xs (tab 64 (sumsOf xs)) i len ∙ at-tab 64 (sumsOf xs) i h
+  back-is i h = back-at xs (table 64 (sumsOf xs)) i len ∙ at-tab 64 (sumsOf xs) i h
 
   pub judged-none : Judged q xs → 0 ≡ coefficientsFault q xs
   unfolding coefficientsFault rangeFault sumsFault scaleFault

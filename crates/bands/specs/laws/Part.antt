@@ -11,7 +11,7 @@ use lib.Seq.{getD-set-other, getD-take, getD-append-add, length-take-le}
 use borrow.Rule.Slice.PartMut.{putMid}
 use Rattle.whole.specs.laws.Row.{held}
 use Rattle.whole.specs.laws.Near.{Near}
-use Rattle.whole.specs.Tab.{at, tab}
+use Rattle.whole.specs.Tab.{at, table}
 use Rattle.whole.specs.laws.Tab.{AllNear, at-tab, length-tab, is-tab}
 use Rattle.whole.specs.laws.Put.{put-new}
 use Rattle.whole.specs.laws.Part.{part-length, part-at, put-length, put-below, put-in, put-above}
@@ -56,7 +56,7 @@ pub part-sums : (xs : List ℤ) (i : ℕ) → i < 64 → sumTo (at (take 64 (dro
 unfolding sumsOf
 part-sums xs i h = sum-cong (at (take 64 (drop 4032 xs))) (ll3 xs) (i + 1) (λ k l. part-at xs 4032 64 k (omega arith))
 
-pub sums-listed : (xs ys : List ℤ) → length xs ≡ 4096 → ys ≡ tab 64 (λ (i : ℕ). sumTo (at (take 64 (drop 4032 xs))) (i + 1)) → putMid 4032 64 xs ys ≡ summed xs
+pub sums-listed : (xs ys : List ℤ) → length xs ≡ 4096 → ys ≡ table 64 (λ (i : ℕ). sumTo (at (take 64 (drop 4032 xs))) (i + 1)) → putMid 4032 64 xs ys ≡ summed xs
 unfolding summed
 sums-listed xs ys l w =
     put-last xs ys l
@@ -68,8 +68,8 @@ unfolding summed sumsFault
 summed-near xs l n e =
     let t = length-tab 64 (sumsOf xs) in
     let a = held (allIn (sumsOf xs) 64) 9 0 0 (λ z. omega arith) e .0 in (
-      seam-length xs (tab 64 (sumsOf xs)) l t,
-      seam-near xs (tab 64 (sumsOf xs)) l t n
+      seam-length xs (table 64 (sumsOf xs)) l t,
+      seam-near xs (table 64 (sumsOf xs)) l t n
           (λ i h. subst (Near 32767) (sym (at-tab 64 (sumsOf xs) i h)) (all-each (sumsOf xs) 64 a i h)),
     )
 
@@ -83,7 +83,7 @@ pub record Done (F : ℕ → ℤ) (a : ℕ) (before after : List ℤ) : Type 0 w
 pub done-none : (F : ℕ → ℤ) (before : List ℤ) → Done F 0 before before
 done-none F before = record { same = refl; done = λ k h. absurd (omega arith); rest = λ k h. refl }
 
-pub done-all : (F : ℕ → ℤ) (n : ℕ) (before after : List ℤ) → length before ≡ n → Done F n before after → after ≡ tab n F
+pub done-all : (F : ℕ → ℤ) (n : ℕ) (before after : List ℤ) → length before ≡ n → Done F n before after → after ≡ table n F
 done-all F n before after l d = is-tab n F after (d .same ∙ l) (d .done)
 
 -- one place more
@@ -100,12 +100,12 @@ module _ (F : ℕ → ℤ) (G : ℤ → ℤ) (before xs : List ℤ) (a e : ℕ) 
   part-is : (i : ℕ) → i < e - a → G (at (take (e - a) (drop a xs)) i) ≡ F (a + i)
   part-is i h = ap G (part-at xs a (e - a) i h ∙ d .rest (a + i) (omega arith)) ∙ here (a + i) (omega arith) (omega arith)
 
-  pub band-done : (ys : List ℤ) → ys ≡ tab (length (take (e - a) (drop a xs))) (λ (i : ℕ). G (at (take (e - a) (drop a xs)) i)) →
+  pub band-done : (ys : List ℤ) → ys ≡ table (length (take (e - a) (drop a xs))) (λ (i : ℕ). G (at (take (e - a) (drop a xs)) i)) →
       Done F e before (putMid a (e - a) xs ys)
   band-done ys w =
       let l = part-length xs a e from to in
       let g : ℕ → ℤ = λ i. G (at (take (e - a) (drop a xs)) i) in
-      let w2 : ys ≡ tab (e - a) g = w ∙ ap (λ (m : ℕ). tab m g) l in
+      let w2 : ys ≡ table (e - a) g = w ∙ ap (λ (m : ℕ). table m g) l in
       let yl : length ys ≡ e - a = ap length w2 ∙ length-tab (e - a) g in
       let fit : a + (e - a) ≤ length xs = omega arith in
       record {
@@ -117,7 +117,7 @@ module _ (F : ℕ → ℤ) (G : ℤ → ℤ) (before xs : List ℤ) (a e : ℕ) 
             ∙ d .rest (a + ((e - a) + (k - e))) (omega arith));
       }
     where
-      place : (ys : List ℤ) → ys ≡ tab (e - a) (λ (i : ℕ). G (at (take (e - a) (drop a xs)) i)) → length ys ≡ e - a → a + (e - a) ≤ length xs → (k : ℕ) →
+      place : (ys : List ℤ) → ys ≡ table (e - a) (λ (i : ℕ). G (at (take (e - a) (drop a xs)) i)) → length ys ≡ e - a → a + (e - a) ≤ length xs → (k : ℕ) →
           k < e → Dec (k < a) → at (putMid a (e - a) xs ys) k ≡ F k
       place ys w yl fit k h (yes p) = put-below xs ys a (e - a) fit yl k p ∙ d .done k p
       place ys w yl fit k h (no p) =
@@ -145,7 +145,7 @@ module _ (q : List ℕ) (before xs : List ℤ) (a e : ℕ) (m : ℤ) (below : a 
   here k l h = ap (λ (z : ℤ). at before k *ℤ z) (factor
       ∙ ap (λ (b : Band). pos (2 ^ (getD q (b .set) 0 - 1))) (sym (same-band a k l (subst (λ (n : ℕ). k < n) end h))))
 
-  pub scale-turn : (ys : List ℤ) → ys ≡ tab (length (take (e - a) (drop a xs))) (λ (i : ℕ). at (take (e - a) (drop a xs)) i *ℤ m) →
+  pub scale-turn : (ys : List ℤ) → ys ≡ table (length (take (e - a) (drop a xs))) (λ (i : ℕ). at (take (e - a) (drop a xs)) i *ℤ m) →
       Done (scaleAt q (at before)) e before (putMid a (e - a) xs ys)
   scale-turn ys w =
       let t = band-good a in
@@ -158,10 +158,10 @@ scaled-near q xs e =
     let f = scaleAt q (at xs) in
     (length-tab 4096 f, tab-below 4096 f (all-each f 4096 (held (allIn f 4096) 9 0 0 (λ z. omega arith) e .0)))
   where
-    tab-below : {B : ℕ} (n : ℕ) (f : ℕ → ℤ) → ((k : ℕ) → k < n → Near B (f k)) → AllNear B (tab n f)
+    tab-below : {B : ℕ} (n : ℕ) (f : ℕ → ℤ) → ((k : ℕ) → k < n → Near B (f k)) → AllNear B (table n f)
     tab-below {B} n f p = record { all = λ i. place i (decLt i n) }
       where
-        place : (i : ℕ) → Dec (i < n) → Near B (at (tab n f) i)
+        place : (i : ℕ) → Dec (i < n) → Near B (at (table n f) i)
         place i (yes h) = subst (Near B) (sym (at-tab n f i h)) (p i h)
-        place i (no h) = subst (Near B) (sym (List·getD-eq-default (tab n f) (pos 0) (subst (λ (m : ℕ). m ≤ i) (sym (length-tab n f)) (omega arith))))
+        place i (no h) = subst (Near B) (sym (List·getD-eq-default (table n f) (pos 0) (subst (λ (m : ℕ). m ≤ i) (sym (length-tab n f)) (omega arith))))
             (record { near = zero-le })

@@ -11,7 +11,7 @@ use lib.ListN.{length, getD, take, drop}
 use lib.Pow.{pow-mono}
 use borrow.Rule.Slice.PartMut.{putMid}
 use Rattle.whole.specs.laws.Near.{Near, add-near, near-shr}
-use Rattle.whole.specs.Tab.{at, tab}
+use Rattle.whole.specs.Tab.{at, table}
 use Rattle.whole.specs.laws.Tab.{AllNear, at-tab, length-tab, is-tab, tab-near}
 use Rattle.whole.specs.laws.Part.{part-at}
 use Rattle.bands.specs.declared.Band.{Band}
@@ -31,8 +31,8 @@ shr-near {z = z} m p = record { near = omega (arith, near-shr z m, p .near) }
 pub round-near : (q : List ℕ) (f : ℕ → ℤ) (k : ℕ) → QuantGood q → Near 268435456 (f k) → Near 268443648 (roundAt q f k)
 round-near q f k g n = shr-near (2 ^ (quantAt q k - 1)) (add-near n (half-near (quantAt q k) (quant-high q k g)))
 
-pub rounded-near : (q : List ℕ) (xs : List ℤ) → QuantGood q → AllNear 268435456 xs → (length (tab 4096 (roundAt q (at xs))) ≡ 4096)
-    × AllNear 268443648 (tab 4096 (roundAt q (at xs)))
+pub rounded-near : (q : List ℕ) (xs : List ℤ) → QuantGood q → AllNear 268435456 xs → (length (table 4096 (roundAt q (at xs))) ≡ 4096)
+    × AllNear 268443648 (table 4096 (roundAt q (at xs)))
 rounded-near q xs g n = (length-tab 4096 _, tab-near 4096 (roundAt q (at xs)) (λ k. round-near q (at xs) k g (n .all k)))
 
 -- one band more: a is its first place, e where it ends
@@ -43,7 +43,7 @@ module _ (q : List ℕ) (before xs : List ℤ) (a e : ℕ) (half : ℤ) (n : ℕ
       let b : quantAt q a ≡ quantAt q k = ap (λ (b : Band). getD q (b .set) 0) (sym (same-band a k l (subst (λ (m : ℕ). k < m) end p))) in
       ap (λ (z : ℤ). shrZ (at before k +ℤ z) (2 ^ (n - 1))) h ∙ ap (λ (m : ℕ). roundZ m (at before k)) (w ∙ b)
 
-  pub round-turn : (ys : List ℤ) → ys ≡ tab (length (take (e - a) (drop a xs))) (λ (i : ℕ). shrZ (at (take (e - a) (drop a xs)) i +ℤ half) (2 ^ (n - 1))) →
+  pub round-turn : (ys : List ℤ) → ys ≡ table (length (take (e - a) (drop a xs))) (λ (i : ℕ). shrZ (at (take (e - a) (drop a xs)) i +ℤ half) (2 ^ (n - 1))) →
       Done (roundAt q (at before)) e before (putMid a (e - a) xs ys)
   round-turn ys v =
       let t = band-good a in
@@ -76,7 +76,7 @@ unfolding diffAt
 diff-cong f g zero h = h zero (omega arith)
 diff-cong f g (suc n) h = let a = h (suc n) (omega arith) in let b = h n (omega arith) in cc
 
-pub differed : (xs ys : List ℤ) → length xs ≡ 4096 → ys ≡ tab 64 (diffAt (at (take 64 (drop 4032 xs)))) → putMid 4032 64 xs ys ≡ differences xs
+pub differed : (xs ys : List ℤ) → length xs ≡ 4096 → ys ≡ table 64 (diffAt (at (take 64 (drop 4032 xs)))) → putMid 4032 64 xs ys ≡ differences xs
 unfolding differences
 differed xs ys l h =
     put-last xs ys l
@@ -95,4 +95,4 @@ sum-diff f i = ap (sumTo (diffAt f)) (add-one i) ∙ sum-back f i
 
 pub rounded-length : (q : List ℕ) (xs : List ℤ) → length (roundedBy q xs) ≡ 4096
 unfolding roundedBy differences
-rounded-length q xs = seam-length (tab 4096 (roundAt q (at xs))) (tab 64 (diffAt (ll3 (tab 4096 (roundAt q (at xs)))))) (length-tab 4096 _) (length-tab 64 _)
+rounded-length q xs = seam-length (table 4096 (roundAt q (at xs))) (table 64 (diffAt (ll3 (table 4096 (roundAt q (at xs)))))) (length-tab 4096 _) (length-tab 64 _)

@@ -12,7 +12,7 @@ use Rattle.whole.specs.laws.Near.{Near, wide-near}
 use Rattle.whole.specs.Tab.{at, grid}
 use Rattle.whole.specs.laws.Tab.{AllNear, length-grid, at-grid}
 use Rattle.whole.specs.laws.More.{append-near, all-wide, grid-within}
-use Rattle.wave_forth.specs.Halves.{highAt, lowAt}
+use Rattle.wave_forth.specs.Halves.{lineHigh, lineLow}
 use Rattle.wave_forth.specs.laws.Halves.{low-cong}
 use Rattle.wave_forth.specs.Forth.{lowRow, highRow, levelForth, forthFrom, tileForth}
 use Rattle.bounds.specs.laws.Lines.{low-tight, high-tight}
@@ -23,19 +23,19 @@ use Rattle.bounds.specs.laws.Twice.{both1, both2-near}
 module _ (N : ℕ) (xs : List ℤ) where
   details : List ℤ
   details =
-      grid N N (λ r c. highAt N (lowRow N (at xs) r) c)
-      ++ (grid N N (λ r c. lowAt N (highRow N (at xs) r) c)
-      ++ grid N N (λ r c. highAt N (highRow N (at xs) r) c))
+      grid N N (λ r c. lineHigh N (lowRow N (at xs) r) c)
+      ++ (grid N N (λ r c. lineLow N (highRow N (at xs) r) c)
+      ++ grid N N (λ r c. lineHigh N (highRow N (at xs) r) c))
 
   lows : List ℤ
-  lows = grid N N (λ r c. lowAt N (lowRow N (at xs) r) c)
+  lows = grid N N (λ r c. lineLow N (lowRow N (at xs) r) c)
 
   level-split : levelForth N xs ≡ details ++ lows
   unfolding levelForth details lows
   level-split =
-      let h = grid N N (λ r c. highAt N (lowRow N (at xs) r) c) in
-      let l = grid N N (λ r c. lowAt N (highRow N (at xs) r) c) in
-      let b = grid N N (λ r c. highAt N (highRow N (at xs) r) c) in
+      let h = grid N N (λ r c. lineHigh N (lowRow N (at xs) r) c) in
+      let l = grid N N (λ r c. lineLow N (highRow N (at xs) r) c) in
+      let b = grid N N (λ r c. lineHigh N (highRow N (at xs) r) c) in
       sym (append-assoc h (l ++ b) lows ∙ ap (λ (z : List ℤ). h ++ z) (append-assoc l b lows))
 
   details-length : length details ≡ 3 * (N * N)

@@ -7,7 +7,7 @@ use lib.IntN.{ℤ, pos, negℤ, _+ℤ_, _-ℤ_, _*ℤ_, +ℤ-comm, -ℤ-+ℤ-can
 use Rattle.whole.specs.laws.Near.{Near, near-*, add-near, sub-near, half-near, mul-near, lit-near, wide-near}
 use Rattle.whole.specs.laws.Sums.{sums, mul-assoc, distrib-l, mul-neg}
 use Rattle.wave_back.specs.Line.{halfZ}
-use Rattle.wave_forth.specs.Halves.{highZ, lowZ, highAt, lowAt}
+use Rattle.wave_forth.specs.Halves.{highZ, lowZ, lineHigh, lineLow}
 use Rattle.bounds.specs.laws.Gap.{over, under, near-parts, halved, Gap, atom, plus, minus, times, bounded, equal}
 
 -- five numbers in a row, with the weights -1 2 6 2 -1
@@ -76,8 +76,8 @@ line-first : (c d e : ℤ) → Near 8 (pos 8 *ℤ lowZ c (highZ d c e) (highZ d 
 line-first c d e =
     subst (λ (z : ℤ). Near 8 (pos 8 *ℤ lowZ c (halfZ (d -ℤ halfZ z)) (highZ d c e) -ℤ mix5 e d c d e)) (+ℤ-comm e c) (line e d c d e)
 
-pub low-line : (N : ℕ) (x : ℕ → ℤ) (n : ℕ) → 1 < N → n < N → Near 8 (pos 8 *ℤ lowAt N x n -ℤ low5 N x n)
-unfolding lowAt highAt low5
+pub low-line : (N : ℕ) (x : ℕ → ℤ) (n : ℕ) → 1 < N → n < N → Near 8 (pos 8 *ℤ lineLow N x n -ℤ low5 N x n)
+unfolding lineLow lineHigh low5
 low-line N x zero o l =
     subst (λ (k : ℕ). Near 8 (pos 8 *ℤ lowZ (x 0) (highZ (x 1) (x 0) (x k)) (highZ (x 1) (x 0) (x k)) -ℤ mix5 (x 2) (x 1) (x 0) (x 1) (x k)))
     (omega arith) (line-first (x 0) (x 1) (x 2))
@@ -87,7 +87,7 @@ low-line N x (suc n) o l =
     let c = x (2 * suc n) in
     let d = x (2 * suc n + 1) in
     let e = x (ahead N (suc n)) in
-    let same-low : lowAt N x (suc n) ≡ lowOf a b c d e = low-is (highAt N x (suc n)) (ap x (omega arith)) (ap x (omega arith)) (ap x (omega arith)) in
+    let same-low : lineLow N x (suc n) ≡ lowOf a b c d e = low-is (lineHigh N x (suc n)) (ap x (omega arith)) (ap x (omega arith)) (ap x (omega arith)) in
     subst (λ (z : ℤ). Near 8 (pos 8 *ℤ z -ℤ mix5 a b c d e)) (sym same-low) (line a b c d e)
   where
     low-is : {a b c f a′ b′ : ℤ} (h : ℤ) → a ≡ a′ → b ≡ b′ → f ≡ c → lowZ c (highZ b a f) h ≡ lowZ c (highZ b′ a′ c) h
@@ -145,14 +145,14 @@ pub off-near : {E M : ℕ} {w : ℤ} (z : ℤ) → Near E (z -ℤ w) → Near M 
 off-near {E} {M} {w} z p q = subst (Near (E + M)) (-ℤ-+ℤ-cancel z w) (add-near p q)
 
 -- the low half is at most half as big again, and 1
-pub low-tight : {B : ℕ} (N : ℕ) (x : ℕ → ℤ) (n : ℕ) → 1 < N → n < N → ((k : ℕ) → k < 2 * N → Near B (x k)) → Near (3 * B / 2 + 1) (lowAt N x n)
+pub low-tight : {B : ℕ} (N : ℕ) (x : ℕ → ℤ) (n : ℕ) → 1 < N → n < N → ((k : ℕ) → k < 2 * N → Near B (x k)) → Near (3 * B / 2 + 1) (lineLow N x n)
 low-tight {B} N x n o l p =
-    let h = off-near (pos 8 *ℤ lowAt N x n) (low-line N x n o l) (low5-near N x n o l p) in
-    record { near = omega (arith, h .near, near-* (pos 8) (lowAt N x n)) }
+    let h = off-near (pos 8 *ℤ lineLow N x n) (low-line N x n o l) (low5-near N x n o l p) in
+    record { near = omega (arith, h .near, near-* (pos 8) (lineLow N x n)) }
 
 -- the high half no bigger
-pub high-tight : {B : ℕ} (N : ℕ) (x : ℕ → ℤ) (n : ℕ) → n < N → ((k : ℕ) → k < 2 * N → Near B (x k)) → Near B (highAt N x n)
-unfolding highAt
+pub high-tight : {B : ℕ} (N : ℕ) (x : ℕ → ℤ) (n : ℕ) → n < N → ((k : ℕ) → k < 2 * N → Near B (x k)) → Near B (lineHigh N x n)
+unfolding lineHigh
 high-tight {B} N x n l p =
     let around = half-near (add-near (p (2 * n) (omega arith)) (p (ahead N n) (omega arith))) in
     wide-near (omega arith) (half-near (sub-near (p (2 * n + 1) (omega arith)) around))
@@ -165,9 +165,9 @@ over-again a b c = equal (plus (minus (atom a) (atom b)) (minus (atom b) (atom c
 
 -- a line more: y, S times over, is within E of f
 pub line-more : (N S E : ℕ) (y f : ℕ → ℤ) (n : ℕ) → 1 < N → n < N → ((k : ℕ) → k < 2 * N → Near E (pos S *ℤ y k -ℤ f k)) →
-    Near (S * 8 + 12 * E) (pos (S * 8) *ℤ lowAt N y n -ℤ low5 N f n)
+    Near (S * 8 + 12 * E) (pos (S * 8) *ℤ lineLow N y n -ℤ low5 N f n)
 line-more N S E y f n o l p =
-    let a = lowAt N y n in
+    let a = lineLow N y n in
     let b = low5 N y n in
     let c = low5 N f n in
     let u = mul-near (lit-near (pos S)) (low-line N y n o l) in

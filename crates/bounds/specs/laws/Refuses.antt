@@ -13,7 +13,7 @@ use Rattle.whole.specs.Row.{_!_⨾_, _⨟_}
 use Rattle.whole.specs.laws.Row.{passes, goes-on}
 use Rattle.whole.specs.Among.{among, Among}
 use Rattle.whole.specs.laws.Among.{numbers, each, among-then, among-all}
-use Rattle.whole.specs.Tab.{tab}
+use Rattle.whole.specs.Tab.{table}
 use Rattle.whole.specs.laws.Tab.{AllNear}
 use Rattle.wire.specs.Wrote.{writingNumber}
 use Rattle.wire.specs.declared.Writing.{Writing}
@@ -28,7 +28,7 @@ use Rattle.frame_layout.specs.Bytes.{tileLen, tileOf, tilesOf}
 use Rattle.frame_layout.specs.laws.Here.{tile-length}
 use Rattle.frame_pieces.specs.Parts.{tilesNo, colsOf}
 use Rattle.frame_pieces.specs.laws.Parts.{frame-long}
-use Rattle.frame_write.specs.Encode.{listOf, partOf, tileP, partRefusal, tileRefusal, refusals, frameP}
+use Rattle.frame_write.specs.Encode.{listOf, tilePart, pictureTile, partRefusal, tileRefusal, refusals, pictureFrame}
 use Rattle.frame_write.specs.laws.Encode.{tile-long}
 use Rattle.frame_write.specs.FrameWrite.{argFault, sendFault, FrameWritten}
 use Rattle.frame_write.specs.laws.FrameWrite.{args-good}
@@ -44,7 +44,7 @@ module _ (p : List ℕ) (w h mode : ℕ) (q : List ℕ) (bytes : Bytes p) (good 
   -- any component of any tile
   module _ (tx ty c : ℕ) where
     samples : List ℤ
-    samples = tab 4096 (sampleAt p w h tx ty c)
+    samples = table 4096 (sampleAt p w h tx ty c)
 
     near : AllNear 4096 samples
     unfolding samples
@@ -76,24 +76,24 @@ module _ (p : List ℕ) (w h mode : ℕ) (q : List ℕ) (bytes : Bytes p) (good 
 
   -- ---- and a tile has at most 194,911 bytes
 
-  tile-most : (k : ℕ) → tileLen (tileP p w h mode q k) ≤ 194911
-  unfolding partOf listOf
+  tile-most : (k : ℕ) → tileLen (pictureTile p w h mode q k) ≤ 194911
+  unfolding tilePart listOf
   tile-most k =
       let x = k % colsOf w in
       let y = k / colsOf w in
       omega (arith, tile-long p w h mode q k, part-most x y 0, part-most x y 1, part-most x y 2)
 
-  tiles-most : (n i : ℕ) → length (tilesOf (tileP p w h mode q) n i) ≤ 194911 * n
+  tiles-most : (n i : ℕ) → length (tilesOf (pictureTile p w h mode q) n i) ≤ 194911 * n
   unfolding tilesOf
   tiles-most zero i = omega arith
   tiles-most (suc n) i =
-      let t = tileP p w h mode q in
+      let t = pictureTile p w h mode q in
       omega (arith, length-append (tileOf (t i)) (tilesOf t n (i + 1)), tile-length (t i), tile-most i, tiles-most n (i + 1))
 
-  pub frame-most : (index : ℕ) → length (frameP index w h mode q p) ≤ 72 + 194911 * tilesNo w h
-  unfolding frameP
+  pub frame-most : (index : ℕ) → length (pictureFrame index w h mode q p) ≤ 72 + 194911 * tilesNo w h
+  unfolding pictureFrame
   frame-most index =
-      let t = tileP p w h mode q in
+      let t = pictureTile p w h mode q in
       omega (arith, frame-long index w h mode q (tilesNo w h) t, tiles-most (tilesNo w h) 0)
 
 -- ---- the call
@@ -105,7 +105,7 @@ module _ {w h mode : ℕ} {q : List ℕ} {index : ℕ} {p : List ℕ} {list list
 
   -- what is judged after the arguments: the room alone
   abbrev pub room : ℕ
-  room = leb (length (frameP index w h mode q p)) (length out) ! 13 ⨾ 0
+  room = leb (length (pictureFrame index w h mode q p)) (length out) ! 13 ⨾ 0
 
   quants : 0 ≡ arguments → QuantGood q
   quants e = args-good w h mode q p (length list) (length scratch) e .picture .quants
@@ -126,5 +126,5 @@ module _ {w h mode : ℕ} {q : List ℕ} {index : ℕ} {p : List ℕ} {list list
   -- given good arguments and this much room, every picture is written
   pub writer-done : 0 ≡ arguments → 72 + 194911 * tilesNo w h ≤ length out → writingNumber r ≡ 0
   writer-done e l =
-      let f : length (frameP index w h mode q p) ≤ length out = omega (arith, frame-most p w h mode q bytes (quants e) index) in
-      only-room ∙ sym (goes-on _ _ _ (sym e) (passes _ _ _ _ (le-leb (length (frameP index w h mode q p)) (length out) f) refl))
+      let f : length (pictureFrame index w h mode q p) ≤ length out = omega (arith, frame-most p w h mode q bytes (quants e) index) in
+      only-room ∙ sym (goes-on _ _ _ (sym e) (passes _ _ _ _ (le-leb (length (pictureFrame index w h mode q p)) (length out) f) refl))

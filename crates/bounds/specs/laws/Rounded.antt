@@ -12,7 +12,7 @@ use lib.Pow.{pow-mono}
 use lib.Signed.{shrZ}
 use Rattle.whole.specs.laws.Near.{Near, near-*, sub-near, wide-near}
 use Rattle.whole.specs.Row.{_⇒_∣_}
-use Rattle.whole.specs.Tab.{at, tab}
+use Rattle.whole.specs.Tab.{at, table}
 use Rattle.whole.specs.laws.Tab.{at-tab, length-tab}
 use Rattle.bands.specs.Bands.{bandAt, bands, firstBand, quantAt, ll3, sumsOf, QuantGood, coefficientsFault}
 use Rattle.bands.specs.Rounding.{roundZ, roundAt, diffAt, differences, roundedBy}
@@ -79,15 +79,15 @@ module _ (e : ℕ) (v : ℤ) (low : 6 ≤ e) (high : e ≤ 15) where
 module _ (q : List ℕ) (xs : List ℤ) (good : QuantGood q) (all : (k : ℕ) → Near 24356 (at xs k)) where
   -- what is rounded, by its places
   rounds : List ℤ
-  rounds = tab 4096 (roundAt q (at xs))
+  rounds = table 4096 (roundAt q (at xs))
 
   front-is : (k : ℕ) → k < 4032 → at (roundedBy q xs) k ≡ roundAt q (at xs) k
   unfolding roundedBy differences rounds
-  front-is k h = front-at rounds (tab 64 (diffAt (ll3 rounds))) k (length-tab 4096 _) h ∙ at-tab 4096 (roundAt q (at xs)) k (omega arith)
+  front-is k h = front-at rounds (table 64 (diffAt (ll3 rounds))) k (length-tab 4096 _) h ∙ at-tab 4096 (roundAt q (at xs)) k (omega arith)
 
   last-is : (i : ℕ) → i < 64 → ll3 (roundedBy q xs) i ≡ diffAt (ll3 rounds) i
   unfolding roundedBy differences rounds
-  last-is i h = back-at rounds (tab 64 (diffAt (ll3 rounds))) i (length-tab 4096 _) ∙ at-tab 64 (diffAt (ll3 rounds)) i h
+  last-is i h = back-at rounds (table 64 (diffAt (ll3 rounds))) i (length-tab 4096 _) ∙ at-tab 64 (diffAt (ll3 rounds)) i h
 
   ll3-is : (i : ℕ) → i < 64 → ll3 rounds i ≡ roundAt q (at xs) (4032 + i)
   unfolding rounds

@@ -8,7 +8,7 @@ use lib.Dec.{eqb}
 use lib.IntN.{pos, negℤ, _+ℤ_, _-ℤ_, _*ℤ_}
 use Rattle.whole.specs.Row.{_⇒_∣_}
 use Rattle.whole.specs.laws.Near.{Near}
-use Rattle.whole.specs.Tab.{tab}
+use Rattle.whole.specs.Tab.{table}
 use Rattle.whole.specs.laws.Tab.{AllNear, tab-near}
 use Rattle.bits.specs.laws.Bytes.{Bytes}
 use Rattle.colour.specs.Colour.{lumaZ, cbZ, crZ, lumaOf, cbOf, crOf, cut11}
@@ -47,6 +47,6 @@ module _ (r g b : ℕ) (hr : r < 256) (hg : g < 256) (hb : b < 256) where
       go false false = cr-size
 
 -- the samples of a tile of a picture whose places are bytes
-pub samples-near : (pixels : List ℕ) (w h tx ty c : ℕ) → Bytes pixels → AllNear 4096 (tab 4096 (sampleAt pixels w h tx ty c))
+pub samples-near : (pixels : List ℕ) (w h tx ty c : ℕ) → Bytes pixels → AllNear 4096 (table 4096 (sampleAt pixels w h tx ty c))
 unfolding sampleAt bytesAt
 samples-near pixels w h tx ty c p = tab-near 4096 (sampleAt pixels w h tx ty c) (λ k. component-size _ _ _ (p _) (p _) (p _) c)

@@ -7,7 +7,7 @@ use native.Mathlib.Decide.{ℕ-discrete}
 use native.Mathlib.Omega.{arith}
 use lib.IntN.{ℤ, pos, _-ℤ_, _*ℤ_}
 use Rattle.whole.specs.laws.Near.{Near, near-*}
-use Rattle.wave_forth.specs.Halves.{lowAt}
+use Rattle.wave_forth.specs.Halves.{lineLow}
 use Rattle.bounds.specs.laws.Gap.{over, under, near-parts, Gap, atom, bounded}
 use Rattle.bounds.specs.laws.Lines.{mix5, mix5-gap, mix5-is, back2, back1, ahead, low5, low5-cong, low5-swap, low-line, off-near, line-more}
 
@@ -107,16 +107,16 @@ module _ {B : ℕ} (N : ℕ) (x : ℕ → ℤ) (p : (k : ℕ) → Near B (x k)) 
 module _ (g : ℕ → ℕ → ℤ) (p : (v u : ℕ) → Near 4096 (g v u)) where
   -- down and along at each level, and the same without floors
   abbrev pub down1 : ℕ → ℕ → ℤ
-  down1 y u = lowAt 32 (λ v. g v u) y
+  down1 y u = lineLow 32 (λ v. g v u) y
 
   abbrev pub both1 : ℕ → ℕ → ℤ
-  both1 y x = lowAt 32 (down1 y) x
+  both1 y x = lineLow 32 (down1 y) x
 
   abbrev pub down2 : ℕ → ℕ → ℤ
-  down2 r x = lowAt 16 (λ y. both1 y x) r
+  down2 r x = lineLow 16 (λ y. both1 y x) r
 
   abbrev pub both2 : ℕ → ℕ → ℤ
-  both2 r c = lowAt 16 (down2 r) c
+  both2 r c = lineLow 16 (down2 r) c
 
   abbrev flat1 : ℕ → ℕ → ℤ
   flat1 y u = low5 32 (λ v. g v u) y

@@ -12,7 +12,7 @@ use lib.ListN.{length, take, drop, set, replicate, length-append, length-replica
 use lib.Seq.{getD-at, take-add, drop-drop, take-suc-set, drop-set-lt, take-all}
 use Rattle.whole.specs.Row.{_⇒_∣_}
 use Rattle.code.specs.Code.{InRange}
-use Rattle.code.specs.ReadList.{st, elemOf, whole, bad, step, walk, readList}
+use Rattle.code.specs.ReadList.{stateAt, elemOf, whole, bad, step, walk, readList}
 use Rattle.code.specs.laws.Taken.{Told, Took, elem-told}
 use Rattle.code.specs.declared.element.State.{State}
 use Rattle.code.specs.declared.element.Refusal.{Refusal}
@@ -138,10 +138,10 @@ pair-second (suc zero) a b h r = absurd (omega arith)
 pair-second (suc (suc m)) a b h r = r 1
 
 -- an element fits where it is read
-pub elem-fine : (two : Bool) (kp krp n i at : ℕ) (B : List Bool) → i < n → Fine n i (elemOf two kp krp (n - i) at B)
-elem-fine two kp krp n i at B h = go (elemOf two kp krp (n - i) at B) (elem-told two kp krp (n - i) at B (omega arith))
+pub elem-fine : (rlgr3 : Bool) (kp krp n i at : ℕ) (B : List Bool) → i < n → Fine n i (elemOf rlgr3 kp krp (n - i) at B)
+elem-fine rlgr3 kp krp n i at B h = go (elemOf rlgr3 kp krp (n - i) at B) (elem-told rlgr3 kp krp (n - i) at B (omega arith))
   where
-    go : (e : Element) → Told two kp krp (n - i) at B e → Fine n i e
+    go : (e : Element) → Told rlgr3 kp krp (n - i) at B e → Fine n i e
     go (Refused r) t = tt
     go (Zeros z s) t = tt
     go (One z v s) t = (
@@ -152,8 +152,8 @@ elem-fine two kp krp n i at B h = go (elemOf two kp krp (n - i) at B) (elem-told
 
 -- ---- the loop's invariant
 
-module _ (two : Bool) (n : ℕ) (B : List Bool) where
-  pub filling-start : (out : List ℤ) → length out ≡ n → out ≡ replicate (length out) (pos 0) → Filling two n B out (st 0 8 8) 0
+module _ (rlgr3 : Bool) (n : ℕ) (B : List Bool) where
+  pub filling-start : (out : List ℤ) → length out ≡ n → out ≡ replicate (length out) (pos 0) → Filling rlgr3 n B out (stateAt 0 8 8) 0
   unfolding readList
   filling-start out l z =
       let k : n - 0 ≡ n = omega arith in
@@ -166,31 +166,31 @@ module _ (two : Bool) (n : ℕ) (B : List Bool) where
         same = rw k;
       }
 
-  walk-none : (f kp krp at : ℕ) (done : List ℕ) → walk f two kp krp at 0 done B ≡ whole done at
+  walk-none : (f kp krp at : ℕ) (done : List ℕ) → walk f rlgr3 kp krp at 0 done B ≡ whole done at
   unfolding walk
   walk-none zero kp krp at done = refl
   walk-none (suc f) kp krp at done = refl
 
   -- one turn of the walk, in the loop's form
-  walk-turn : (f : ℕ) (kp krp at left : ℕ) (done : List ℕ) → 0 < left → left ≤ f → (g : ℕ) × (f ≡ suc g) × (walk f two kp krp at left done B ≡ step (elemOf two kp krp left at B) left done (λ s l d. walk g two (s .kp) (s .krp) (s .at) l d B))
+  walk-turn : (f : ℕ) (kp krp at left : ℕ) (done : List ℕ) → 0 < left → left ≤ f → (g : ℕ) × (f ≡ suc g) × (walk f rlgr3 kp krp at left done B ≡ step (elemOf rlgr3 kp krp left at B) left done (λ s l d. walk g rlgr3 (s .kp) (s .krp) (s .at) l d B))
   unfolding walk
   walk-turn zero kp krp at left done p h = absurd (omega arith)
   walk-turn (suc g) kp krp at zero done p h = absurd (omega arith)
   walk-turn (suc g) kp krp at (suc left) done p h = (g, refl, refl)
 
-  module _ (out : List ℤ) (c : State) (i : ℕ) (w : Filling two n B out c i) (h : i < n) where
-    advance : (new : List ℤ) (s : State) (j g : ℕ) (front : List ℕ) → w .f ≡ suc g → Took two (c .kp) (c .krp) (n - i) (c .at) B front s → Grew n out i new j front → walk g two (s .kp) (s .krp) (s .at) (n - j) (map foldZ (take i out) ++ front) B ≡ readList two n B → Filling two n B new s j × (i < j)
+  module _ (out : List ℤ) (c : State) (i : ℕ) (w : Filling rlgr3 n B out c i) (h : i < n) where
+    advance : (new : List ℤ) (s : State) (j g : ℕ) (front : List ℕ) → w .f ≡ suc g → Took rlgr3 (c .kp) (c .krp) (n - i) (c .at) B front s → Grew n out i new j front → walk g rlgr3 (s .kp) (s .krp) (s .at) (n - j) (map foldZ (take i out) ++ front) B ≡ readList rlgr3 n B → Filling rlgr3 n B new s j × (i < j)
     advance new s j g front ef t r e = (
       record { f = g; clear = r .clear; fuel = omega (arith, w .fuel, r .next, t .some, ef); kps = t .kps (w .kps); krs = t .krs (w .krs); same = rw (r .vals) e },
       omega (arith, r .next, t .some),
     )
 
-    pub filling-next : (e : Element) → e ≡ elemOf two (c .kp) (c .krp) (n - i) (c .at) B → (j : ℕ) (s : State) → At j s ≡ placedOf n i e → Filling two n B (storedOf out i e) s j × (i < j)
+    pub filling-next : (e : Element) → e ≡ elemOf rlgr3 (c .kp) (c .krp) (n - i) (c .at) B → (j : ℕ) (s : State) → At j s ≡ placedOf n i e → Filling rlgr3 n B (storedOf out i e) s j × (i < j)
     filling-next e q j s p =
         let t = walk-turn (w .f) (c .kp) (c .krp) (c .at) (n - i) (map foldZ (take i out)) (omega arith) (w .fuel) in
-        go e (rw q (elem-told two (c .kp) (c .krp) (n - i) (c .at) B (omega arith))) p (t .0) (t .1) (ap (λ (x : Element). step x (n - i) (map foldZ (take i out)) (λ s l d. walk (t .0) two (s .kp) (s .krp) (s .at) l d B)) q ∙ sym (t .2) ∙ w .same)
+        go e (rw q (elem-told rlgr3 (c .kp) (c .krp) (n - i) (c .at) B (omega arith))) p (t .0) (t .1) (ap (λ (x : Element). step x (n - i) (map foldZ (take i out)) (λ s l d. walk (t .0) rlgr3 (s .kp) (s .krp) (s .at) l d B)) q ∙ sym (t .2) ∙ w .same)
       where
-        go : (e : Element) → Told two (c .kp) (c .krp) (n - i) (c .at) B e → At j s ≡ placedOf n i e → (g : ℕ) → w .f ≡ suc g → step e (n - i) (map foldZ (take i out)) (λ s l d. walk g two (s .kp) (s .krp) (s .at) l d B) ≡ readList two n B → Filling two n B (storedOf out i e) s j × (i < j)
+        go : (e : Element) → Told rlgr3 (c .kp) (c .krp) (n - i) (c .at) B e → At j s ≡ placedOf n i e → (g : ℕ) → w .f ≡ suc g → step e (n - i) (map foldZ (take i out)) (λ s l d. walk g rlgr3 (s .kp) (s .krp) (s .at) l d B) ≡ readList rlgr3 n B → Filling rlgr3 n B (storedOf out i e) s j × (i < j)
         go (Refused r) t p g ef k = let z : _≡_ {A = ℕ} 0 1 = cc in absurd (omega arith)
         go (Zeros z s′) t p g ef k =
             let l : n - i - z ≡ n - min n (i + z) = omega arith in
@@ -203,31 +203,31 @@ module _ (two : Bool) (n : ℕ) (B : List Bool) where
             let l : n - i - 2 ≡ n - min n (i + 2) = omega arith in
             rw (at-j p, at-s p, w .clear .len) (advance (ltb (i + 1) n ⇒ set (set out i (unfoldZ a)) (i + 1) (unfoldZ b) ∣ set out i (unfoldZ a)) s′ (min n (i + 2)) g (take (n - i) (a ∷ b ∷ [])) ef t (placed-two n out i a b (w .clear) h) (rw l at k))
 
-    pub filling-bad : (e : Element) → e ≡ elemOf two (c .kp) (c .krp) (n - i) (c .at) B → (r : Refusal) → No r ≡ placedOf n i e → readList two n B ≡ bad r
+    pub filling-bad : (e : Element) → e ≡ elemOf rlgr3 (c .kp) (c .krp) (n - i) (c .at) B → (r : Refusal) → No r ≡ placedOf n i e → readList rlgr3 n B ≡ bad r
     filling-bad e q r p =
         let t = walk-turn (w .f) (c .kp) (c .krp) (c .at) (n - i) (map foldZ (take i out)) (omega arith) (w .fuel) in
-        go e p (t .0) (ap (λ (x : Element). step x (n - i) (map foldZ (take i out)) (λ s l d. walk (t .0) two (s .kp) (s .krp) (s .at) l d B)) q ∙ sym (t .2) ∙ w .same)
+        go e p (t .0) (ap (λ (x : Element). step x (n - i) (map foldZ (take i out)) (λ s l d. walk (t .0) rlgr3 (s .kp) (s .krp) (s .at) l d B)) q ∙ sym (t .2) ∙ w .same)
       where
-        go : (e : Element) → No r ≡ placedOf n i e → (g : ℕ) → step e (n - i) (map foldZ (take i out)) (λ s l d. walk g two (s .kp) (s .krp) (s .at) l d B) ≡ readList two n B → readList two n B ≡ bad r
+        go : (e : Element) → No r ≡ placedOf n i e → (g : ℕ) → step e (n - i) (map foldZ (take i out)) (λ s l d. walk g rlgr3 (s .kp) (s .krp) (s .at) l d B) ≡ readList rlgr3 n B → readList rlgr3 n B ≡ bad r
         go (Refused r′) p g k = sym k ∙ ap bad (sym (no-r p))
         go (Zeros z s′) p g k = cc
         go (One z v s′) p g k = cc
         go (Two a b s′) p g k = cc
 
-    pub filling-fine : (e : Element) → e ≡ elemOf two (c .kp) (c .krp) (n - i) (c .at) B → Fine n i e
-    filling-fine e q = rw q (elem-fine two (c .kp) (c .krp) n i (c .at) B h)
+    pub filling-fine : (e : Element) → e ≡ elemOf rlgr3 (c .kp) (c .krp) (n - i) (c .at) B → Fine n i e
+    filling-fine e q = rw q (elem-fine rlgr3 (c .kp) (c .krp) n i (c .at) B h)
 
-  pub filling-end : (out : List ℤ) (c : State) (i : ℕ) → n ≤ i → Filling two n B out c i → Fills (readList two n B) out (Whole (c .at))
+  pub filling-end : (out : List ℤ) (c : State) (i : ℕ) → n ≤ i → Filling rlgr3 n B out c i → Fills (readList rlgr3 n B) out (Whole (c .at))
   filling-end out c i h w =
       let z : n - i ≡ 0 = omega arith in
-      let e : walk (w .f) two (c .kp) (c .krp) (c .at) 0 (map foldZ (take i out)) B ≡ readList two n B = rw z at (w .same) in
+      let e : walk (w .f) rlgr3 (c .kp) (c .krp) (c .at) 0 (map foldZ (take i out)) B ≡ readList rlgr3 n B = rw z at (w .same) in
       let t : take i out ≡ out = take-all i out (omega (arith, w .clear .len)) in
       rw (sym e ∙ walk-none (w .f) (c .kp) (c .krp) (c .at) (map foldZ (take i out))) (sym (ap (λ (l : List ℕ). map unfoldZ l) (ap (λ (l : List ℤ). map foldZ l) t) ∙ map-unfold out), refl)
 
   -- in the code's forms
-  module _ (out new : List ℤ) (c : State) (i : ℕ) (e : Element) (r : Placed) (w : Filling two n B out c i) (h : i < n) (q : e ≡ elemOf two (c .kp) (c .krp) (n - i) (c .at) B) (pr : r ≡ placedOf (length out) i e) where
-    pub turn-next : (j : ℕ) (s : State) → new ≡ storedOf out i e → r ≡ At j s → Filling two n B new s j × (i < j)
+  module _ (out new : List ℤ) (c : State) (i : ℕ) (e : Element) (r : Placed) (w : Filling rlgr3 n B out c i) (h : i < n) (q : e ≡ elemOf rlgr3 (c .kp) (c .krp) (n - i) (c .at) B) (pr : r ≡ placedOf (length out) i e) where
+    pub turn-next : (j : ℕ) (s : State) → new ≡ storedOf out i e → r ≡ At j s → Filling rlgr3 n B new s j × (i < j)
     turn-next j s pn g = rw pn (filling-next out c i w h e q j s (sym g ∙ pr ∙ ap (λ (m : ℕ). placedOf m i e) (w .clear .len)))
 
-    pub turn-bad : (k : Refusal) → r ≡ No k → Fills (readList two n B) new (Bad k)
+    pub turn-bad : (k : Refusal) → r ≡ No k → Fills (readList rlgr3 n B) new (Bad k)
     turn-bad k g = rw (filling-bad out c i w h e q k (sym g ∙ pr ∙ ap (λ (m : ℕ). placedOf m i e) (w .clear .len))) refl

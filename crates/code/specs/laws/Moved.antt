@@ -14,7 +14,7 @@ use Rattle.bits.specs.declared.Num.{Num}
 use Rattle.bits.specs.declared.Num.the-variants.{Got, Cut}
 use Rattle.whole.specs.Row.{_⇒_∣_}
 use Rattle.code.specs.Code.{krAfter, kpOne, kpTwo, size}
-use Rattle.code.specs.ReadList.{st, runThird, runSecond, runFirst, runElem, oneElem, wide, lone, twoSecond, twoElem, elemOf}
+use Rattle.code.specs.ReadList.{stateAt, runThird, runSecond, runFirst, runElem, oneElem, wide, noSecondPlace, twoSecond, twoElem, elemOf}
 use Rattle.code.specs.declared.element.Refusal.the-variants.{Cut as Short, Range, Overrun}
 use Rattle.code.specs.declared.element.Element.{Element}
 use Rattle.code.specs.declared.element.Element.the-variants.{Zeros, One, Two, Refused}
@@ -22,9 +22,9 @@ use Rattle.code.specs.declared.element.Element.the-variants.{Zeros, One,
 -- the same element, its state's place counted from `at` on
 abbrev pub later : ℕ → Element → Element
 later at (Refused r) = Refused r
-later at (Zeros n s) = Zeros n (st (at + s .at) (s .kp) (s .krp))
-later at (One z v s) = One z v (st (at + s .at) (s .kp) (s .krp))
-later at (Two a b s) = Two a b (st (at + s .at) (s .kp) (s .krp))
+later at (Zeros n s) = Zeros n (stateAt (at + s .at) (s .kp) (s .krp))
+later at (One z v s) = One z v (stateAt (at + s .at) (s .kp) (s .krp))
+later at (Two a b s) = Two a b (stateAt (at + s .at) (s .kp) (s .krp))
 
 -- an element that is judged, by one test and by two
 judged : (at : ℕ) (x y : Element) (b : Bool) → (b ⇒ later at x ∣ later at y) ≡ later at (b ⇒ x ∣ y)
@@ -66,7 +66,7 @@ module _ (at : ℕ) (P rest B : List Bool) (h : drop at B ≡ P ++ rest) where
       oneElem kp krp (grOf (krp / 8) (at + i) B) ≡ later at (oneElem kp krp r)
   one-moved kp krp i Cut l e n = absurd (n refl)
   one-moved kp krp i (Got g next) l e n =
-      let v = One 0 g (st next (kpOne kp g) (krAfter krp g)) in
+      let v = One 0 g (stateAt next (kpOne kp g) (krAfter krp g)) in
       rw (gr-moved (krp / 8) i g next l e .0) (judged at (Refused Range) v (ltb 65534 g))
 
   two-moved : (kp krp left i : ℕ) (r : Num) → i ≤ length P → grOf (krp / 8) i P ≡ r → (twoElem kp krp left P r ≡ Refused Short → ⊥) →
@@ -80,8 +80,8 @@ module _ (at : ℕ) (P rest B : List Bool) (h : drop at B ≡ P ++ rest) where
           twoSecond kp krp left g (numOf (size g) 0 (at + mid) (drop (at + mid) B)) ≡ later at (twoSecond kp krp left g r)
       half Cut l f n = absurd (n refl)
       half (Got a next) l f n =
-          let v = Two a (g - a) (st next (kpTwo kp a (g - a)) (krAfter krp g)) in
-          rw (num-moved (size g) mid a next l f .0) (judged-twice at (Refused Range) (Refused Overrun) v (wide g a) (lone left (g - a)))
+          let v = Two a (g - a) (stateAt next (kpTwo kp a (g - a)) (krAfter krp g)) in
+          rw (num-moved (size g) mid a next l f .0) (judged-twice at (Refused Range) (Refused Overrun) v (wide g a) (noSecondPlace left (g - a)))
 
   run-moved : (kp krp left i : ℕ) (r : Num) → i ≤ length P → numOf 1 0 i (drop i P) ≡ r → (runElem kp krp left P r ≡ Refused Short → ⊥) →
       runElem kp krp left B (numOf 1 0 (at + i) (drop (at + i) B)) ≡ later at (runElem kp krp left P r)
@@ -95,7 +95,7 @@ module _ (at : ℕ) (P rest B : List Bool) (h : drop at B ≡ P ++ rest) where
           runThird kp krp left z s (grOf (krp / 8) (at + mid) B) ≡ later at (runThird kp krp left z s r)
       value z s mid Cut l f n = absurd (n refl)
       value z s mid (Got g next) l f n =
-          let v = One z (2 * (g + 1) - s) (st next (kp - 6) (krAfter krp g)) in
+          let v = One z (2 * (g + 1) - s) (stateAt next (kp - 6) (krAfter krp g)) in
           rw (gr-moved (krp / 8) mid g next l f .0) (judged-twice at (Refused Range) (Refused Overrun) v (ltb 32766 g) (leb left z))
 
       sign : (z mid : ℕ) (r : Num) → mid ≤ length P → numOf 1 0 mid (drop mid P) ≡ r → (runSecond kp krp left P z r ≡ Refused Short → ⊥) →
@@ -113,17 +113,17 @@ module _ (at : ℕ) (P rest B : List Bool) (h : drop at B ≡ P ++ rest) where
           rw (m .0) (sign z next (numOf 1 0 next (drop next P)) (m .1) refl n)
 
   -- unless it is cut in P, what is read at place i of P is what is read in B
-  pub elem-moved : (two : Bool) (kp krp left i : ℕ) → i ≤ length P → (elemOf two kp krp left i P ≡ Refused Short → ⊥) →
-      elemOf two kp krp left (at + i) B ≡ later at (elemOf two kp krp left i P)
+  pub elem-moved : (rlgr3 : Bool) (kp krp left i : ℕ) → i ≤ length P → (elemOf rlgr3 kp krp left i P ≡ Refused Short → ⊥) →
+      elemOf rlgr3 kp krp left (at + i) B ≡ later at (elemOf rlgr3 kp krp left i P)
   unfolding elemOf
-  elem-moved two kp krp left i l n = go (ltb kp 8) two n
+  elem-moved rlgr3 kp krp left i l n = go (ltb kp 8) rlgr3 n
     where
       parts : Bool → Bool → ℕ → List Bool → Element
-      parts b two k L =
-          b ⇒ (two ⇒ twoElem kp krp left L (grOf (krp / 8) k L) ∣ oneElem kp krp (grOf (krp / 8) k L)) ∣
+      parts b rlgr3 k L =
+          b ⇒ (rlgr3 ⇒ twoElem kp krp left L (grOf (krp / 8) k L) ∣ oneElem kp krp (grOf (krp / 8) k L)) ∣
           runElem kp krp left L (numOf 1 0 k (drop k L))
 
-      go : (b two : Bool) → (parts b two i P ≡ Refused Short → ⊥) → parts b two (at + i) B ≡ later at (parts b two i P)
+      go : (b rlgr3 : Bool) → (parts b rlgr3 i P ≡ Refused Short → ⊥) → parts b rlgr3 (at + i) B ≡ later at (parts b rlgr3 i P)
       go true true n = two-moved kp krp left i (grOf (krp / 8) i P) l refl n
       go true false n = one-moved kp krp i (grOf (krp / 8) i P) l refl n
-      go false two n = run-moved kp krp left i (numOf 1 0 i (drop i P)) l refl n
+      go false rlgr3 n = run-moved kp krp left i (numOf 1 0 i (drop i P)) l refl n

@@ -15,8 +15,8 @@ use Rattle.bits.specs.laws.Bit.{length-numBits}
 use Rattle.bits.specs.laws.Here.{past, num-there}
 use Rattle.bits.specs.laws.Word.{front-stop, word-zeros}
 use Rattle.bits.specs.declared.Num.the-variants.{Got}
-use Rattle.code.specs.Code.{up}
-use Rattle.code.specs.ReadList.{st, runElem, runFirst, elemOf}
+use Rattle.code.specs.Code.{raised}
+use Rattle.code.specs.ReadList.{stateAt, runElem, runFirst, elemOf}
 use Rattle.code.specs.Fill.{placedOf, storedOf, leapOf, onwardOf, Inside, Filling, Quickly, Turned, valueOf, Stored}
 use Rattle.code.specs.laws.Filling.{filling-next}
 use Rattle.code.specs.laws.Moved.{later, elem-moved}
@@ -43,48 +43,48 @@ no-two : {a b : ℕ} {s : State} {r : Refusal} → Two a b s ≡ Refused r → �
 no-two e = let z : _≡_ {A = ℕ} 0 1 = cc in absurd (omega arith)
 
 -- an element read in some bits ends in them
-took-within : (two : Bool) (kp krp left i : ℕ) (P : List Bool) (front : List ℕ) (s : State) → i ≤ length P → Took two kp krp left i P front s → s .at ≤ length P
-took-within two kp krp left i P front s h t =
+took-within : (rlgr3 : Bool) (kp krp left i : ℕ) (P : List Bool) (front : List ℕ) (s : State) → i ≤ length P → Took rlgr3 kp krp left i P front s → s .at ≤ length P
+took-within rlgr3 kp krp left i P front s h t =
     let l : length (drop i P) ≡ length (t .H) + length (drop (s .at) P) = ap length (t .bits) ∙ length-append (t .H) (drop (s .at) P) in
     omega (arith, l, t .place, length-drop i P, length-drop (s .at) P)
 
 -- what is stored of the element at place m of the word w ends in the word
-pub word-inside : (two : Bool) (kp krp n i m w : ℕ) (e : Element) → m ≤ 57 → i < n → e ≡ elemOf two kp krp (n - i) m (numBits 57 w) → Inside (placedOf n i e)
-word-inside two kp krp n i m w e l h q = go e (rw q (elem-told two kp krp (n - i) m (numBits 57 w) (omega arith)))
+pub word-inside : (rlgr3 : Bool) (kp krp n i m w : ℕ) (e : Element) → m ≤ 57 → i < n → e ≡ elemOf rlgr3 kp krp (n - i) m (numBits 57 w) → Inside (placedOf n i e)
+word-inside rlgr3 kp krp n i m w e l h q = go e (rw q (elem-told rlgr3 kp krp (n - i) m (numBits 57 w) (omega arith)))
   where
     k : m ≤ length (numBits 57 w)
     k = omega (arith, l, length-numBits 57 w)
 
-    end : (front : List ℕ) (s : State) → Took two kp krp (n - i) m (numBits 57 w) front s → s .at ≤ 57
-    end front s t = omega (arith, took-within two kp krp (n - i) m (numBits 57 w) front s k t, length-numBits 57 w)
+    end : (front : List ℕ) (s : State) → Took rlgr3 kp krp (n - i) m (numBits 57 w) front s → s .at ≤ 57
+    end front s t = omega (arith, took-within rlgr3 kp krp (n - i) m (numBits 57 w) front s k t, length-numBits 57 w)
 
-    go : (e : Element) → Told two kp krp (n - i) m (numBits 57 w) e → Inside (placedOf n i e)
+    go : (e : Element) → Told rlgr3 kp krp (n - i) m (numBits 57 w) e → Inside (placedOf n i e)
     go (Refused r) t = tt
     go (Zeros z s) t = end _ s t
     go (One z v s) t = end _ s t
     go (Two a b s) t = end _ s t
 
 -- the element at place m of the word w, which stands at place `at`: storing it fills the list on, or it is refused and the list stays
-pub word-quick : (two : Bool) (B : List Bool) (out : List ℤ) (c : State) (i at m w : ℕ) (e : Element) → Got w (at + 57) ≡ numOf 57 0 at (drop at B) →
-    m ≤ 57 → c .at ≡ at + m → Filling two (length out) B out c i → i < length out → e ≡ elemOf two (c .kp) (c .krp) (length out - i) m (numBits 57 w) →
-    Quickly two B i out (storedOf out i e) (onwardOf at (placedOf (length out) i e))
-word-quick two B out c i at m w e l hm ec f h q = go e q
+pub word-quick : (rlgr3 : Bool) (B : List Bool) (out : List ℤ) (c : State) (i at m w : ℕ) (e : Element) → Got w (at + 57) ≡ numOf 57 0 at (drop at B) →
+    m ≤ 57 → c .at ≡ at + m → Filling rlgr3 (length out) B out c i → i < length out → e ≡ elemOf rlgr3 (c .kp) (c .krp) (length out - i) m (numBits 57 w) →
+    Quickly rlgr3 B i out (storedOf out i e) (onwardOf at (placedOf (length out) i e))
+word-quick rlgr3 B out c i at m w e l hm ec f h q = go e q
   where
-    moved : (e : Element) → e ≡ elemOf two (c .kp) (c .krp) (length out - i) m (numBits 57 w) → (e ≡ Refused Short → ⊥) →
-        later at e ≡ elemOf two (c .kp) (c .krp) (length out - i) (c .at) B
+    moved : (e : Element) → e ≡ elemOf rlgr3 (c .kp) (c .krp) (length out - i) m (numBits 57 w) → (e ≡ Refused Short → ⊥) →
+        later at e ≡ elemOf rlgr3 (c .kp) (c .krp) (length out - i) (c .at) B
     moved e q n =
         let d = num-there 57 at B w (at + 57) (sym l) .2 in
         let k : m ≤ length (numBits 57 w) = omega (arith, hm, length-numBits 57 w) in
         ap (λ (x : Element). later at x) q
-        ∙ sym (elem-moved at (numBits 57 w) (drop (at + 57) B) B d two (c .kp) (c .krp) (length out - i) m k (λ x. n (q ∙ x)))
-        ∙ ap (λ (x : ℕ). elemOf two (c .kp) (c .krp) (length out - i) x B) (sym ec)
+        ∙ sym (elem-moved at (numBits 57 w) (drop (at + 57) B) B d rlgr3 (c .kp) (c .krp) (length out - i) m k (λ x. n (q ∙ x)))
+        ∙ ap (λ (x : ℕ). elemOf rlgr3 (c .kp) (c .krp) (length out - i) x B) (sym ec)
 
-    go : (e : Element) → e ≡ elemOf two (c .kp) (c .krp) (length out - i) m (numBits 57 w) →
-        Quickly two B i out (storedOf out i e) (onwardOf at (placedOf (length out) i e))
+    go : (e : Element) → e ≡ elemOf rlgr3 (c .kp) (c .krp) (length out - i) m (numBits 57 w) →
+        Quickly rlgr3 B i out (storedOf out i e) (onwardOf at (placedOf (length out) i e))
     go (Refused r) q = refl
-    go (Zeros z s) q = filling-next two (length out) B out c i f h (later at (Zeros z s)) (moved (Zeros z s) q (λ x. no-zeros x)) _ _ refl
-    go (One z v s) q = filling-next two (length out) B out c i f h (later at (One z v s)) (moved (One z v s) q (λ x. no-one x)) _ _ refl
-    go (Two a b s) q = filling-next two (length out) B out c i f h (later at (Two a b s)) (moved (Two a b s) q (λ x. no-two x)) _ _ refl
+    go (Zeros z s) q = filling-next rlgr3 (length out) B out c i f h (later at (Zeros z s)) (moved (Zeros z s) q (λ x. no-zeros x)) _ _ refl
+    go (One z v s) q = filling-next rlgr3 (length out) B out c i f h (later at (One z v s)) (moved (One z v s) q (λ x. no-one x)) _ _ refl
+    go (Two a b s) q = filling-next rlgr3 (length out) B out c i f h (later at (Two a b s)) (moved (Two a b s) q (λ x. no-two x)) _ _ refl
 
 -- a run's value behind the zeros that a word begins with
 pub value-is : (w m kp krp left : ℕ) → m ≡ frontZeros (numBits 57 w) → m < 57 →
@@ -108,33 +108,33 @@ jump-s e = cc
 
 -- the state after a full run, and the place
 abbrev after : State → State
-after c = st (c .at + 1) (up 4 (c .kp)) (c .krp)
+after c = stateAt (c .at + 1) (raised 4 (c .kp)) (c .krp)
 
 abbrev behind : ℕ → ℕ → State → ℕ
 behind n i c = min n (i + 2 ^ (c .kp / 8))
 
-module _ (two : Bool) (n : ℕ) (B : List Bool) where
+module _ (rlgr3 : Bool) (n : ℕ) (B : List Bool) where
   -- what m runs from place i on lead to: the list is filled on, at least one place if there is one
   abbrev Leapt : ℕ → List ℤ → ℕ → ℕ → State → Type 0
-  Leapt m out i j t = Filling two n B out t j × (i ≤ j) × (0 < m → i < n → i < j)
+  Leapt m out i j t = Filling rlgr3 n B out t j × (i ≤ j) × (0 < m → i < n → i < j)
 
-  leap-fills : (m : ℕ) (out : List ℤ) (c : State) (i : ℕ) (rest : List Bool) → Filling two n B out c i → 8 ≤ c .kp →
+  leap-fills : (m : ℕ) (out : List ℤ) (c : State) (i : ℕ) (rest : List Bool) → Filling rlgr3 n B out c i → 8 ≤ c .kp →
       drop (c .at) B ≡ replicate m false ++ rest → (j : ℕ) (t : State) → leapOf m n i c ≡ Jump j t → Leapt m out i j t
   unfolding leapOf
   leap-fills zero out c i rest w h8 d j t p = (rw (← jump-j p, ← jump-s p) w, omega (arith, jump-j p), λ z. absurd (omega arith))
   leap-fills (suc m) out c i rest w h8 d j t p =
       go (λ f g. leap-fills m out (after c) (behind n i c) rest f (omega arith) g j t) (ltb i n) refl p
     where
-      go : (Filling two n B out (after c) (behind n i c) → drop (c .at + 1) B ≡ replicate m false ++ rest →
+      go : (Filling rlgr3 n B out (after c) (behind n i c) → drop (c .at + 1) B ≡ replicate m false ++ rest →
           leapOf m n (behind n i c) (after c) ≡ Jump j t → Leapt m out (behind n i c) j t) →
           (b : Bool) → ltb i n ≡ b → (b ⇒ leapOf m n (behind n i c) (after c) ∣ Jump i c) ≡ Jump j t → Leapt (suc m) out i j t
       go ih true e q =
           let h : i < n = ltb-true i n e in
           let x = Zeros (2 ^ (c .kp / 8)) (after c) in
-          let f : elemOf two (c .kp) (c .krp) (n - i) (c .at) B ≡ x =
-          elem-full (c .kp) (c .krp) (n - i) (c .at) B (replicate m false ++ rest) two h8 d in
-          let a : Filling two n B out (after c) (behind n i c) × (i < behind n i c) =
-          filling-next two n B out c i w h x (sym f) (behind n i c) (after c) refl in
+          let f : elemOf rlgr3 (c .kp) (c .krp) (n - i) (c .at) B ≡ x =
+          elem-full (c .kp) (c .krp) (n - i) (c .at) B (replicate m false ++ rest) rlgr3 h8 d in
+          let a : Filling rlgr3 n B out (after c) (behind n i c) × (i < behind n i c) =
+          filling-next rlgr3 n B out c i w h x (sym f) (behind n i c) (after c) refl in
           let r = ih (a .0) (past (c .at) B (false ∷ []) (replicate m false ++ rest) d) q in
           (r .0, omega (arith, a .1, r .1), λ z l. omega (arith, a .1, r .1))
       go ih false e q =
@@ -170,8 +170,8 @@ leap-is (suc m) n i c = go (ltb i n) (leap-is m n (behind n i c) (after c))
     go false r = (i, c, refl)
 
 -- the loop over full runs, in its own forms
-leap-more : (m n i at kp krp j q : ℕ) → 0 < m → i < n → j ≡ min n (i + 2 ^ (kp / 8)) → q ≡ up 4 kp →
-    leapOf m n i (st at kp krp) ≡ leapOf (m - 1) n j (st (at + 1) q krp)
+leap-more : (m n i at kp krp j q : ℕ) → 0 < m → i < n → j ≡ min n (i + 2 ^ (kp / 8)) → q ≡ raised 4 kp →
+    leapOf m n i (stateAt at kp krp) ≡ leapOf (m - 1) n j (stateAt (at + 1) q krp)
 unfolding leapOf
 leap-more zero n i at kp krp j q p h ej eq = absurd (omega arith)
 leap-more (suc m) n i at kp krp j q p h ej eq = let e : suc m - 1 ≡ m = omega arith in rw (lt-ltb i n h, e, ej, eq)
@@ -186,10 +186,10 @@ pub record Leaping (n i m at krp first kp j k : ℕ) : Type 0 where
   pub count : k ≤ m
   pub room : j ≤ n
   pub kps : kp ≤ 80
-  pub same : leapOf (m - k) n j (st (at + k) kp krp) ≡ leapOf m n i (st at first krp)
+  pub same : leapOf (m - k) n j (stateAt (at + k) kp krp) ≡ leapOf m n i (stateAt at first krp)
 
 module _ (n i m at krp first kp j k : ℕ) (w : Leaping n i m at krp first kp j k) where
-  pub leap-again : (z j′ q : ℕ) → k < m → j < n → z ≡ 2 ^ (kp / 8) → j′ ≡ min n (j + z) → q ≡ up 4 kp → Leaping n i m at krp first q j′ (k + 1)
+  pub leap-again : (z j′ q : ℕ) → k < m → j < n → z ≡ 2 ^ (kp / 8) → j′ ≡ min n (j + z) → q ≡ raised 4 kp → Leaping n i m at krp first q j′ (k + 1)
   leap-again z j′ q h l ez ej eq =
       let a : m - k - 1 ≡ m - (k + 1) = omega arith in
       let b : at + k + 1 ≡ at + (k + 1) = omega arith in
@@ -201,8 +201,8 @@ module _ (n i m at krp first kp j k : ℕ) (w : Leaping n i m at krp first kp j 
         same = rw (← a, ← b) (sym s ∙ w .same);
       }
 
-  pub leap-done : (k < m → n ≤ j) → Jump j (st (at + k) kp krp) ≡ leapOf m n i (st at first krp)
-  leap-done h = sym (leap-end (m - k) n j (st (at + k) kp krp) (λ p. h (omega arith))) ∙ w .same
+  pub leap-done : (k < m → n ≤ j) → Jump j (stateAt (at + k) kp krp) ≡ leapOf m n i (stateAt at first krp)
+  leap-done h = sym (leap-end (m - k) n j (stateAt (at + k) kp krp) (λ p. h (omega arith))) ∙ w .same
 
 -- ---- a turn in run mode
 
@@ -220,12 +220,12 @@ module _ (B : List Bool) (c : State) (out : List ℤ) (i w m j : ℕ) (t : State
   pub led-state : (8 ≤ t .kp) × (t .kp ≤ 80) × (t .krp ≤ 80) × (j < length out → t .at ≡ c .at + m)
   led-state = leap-state m (length out) i c j t (l .runs) (l .high) (l .kps) (l .krs)
 
-  led-fills : (two : Bool) → Filling two (length out) B out c i → Leapt two (length out) B m out i j t
-  led-fills two f =
+  led-fills : (rlgr3 : Bool) → Filling rlgr3 (length out) B out c i → Leapt rlgr3 (length out) B m out i j t
+  led-fills rlgr3 f =
       let z = frontZeros (numBits 57 w) in
       let rest = drop z (numBits 57 w) ++ drop (c .at + 57) B in
       let d : drop (c .at) B ≡ replicate m false ++ rest = word-zeros w (c .at) B (l .word) ∙ ap (λ (x : ℕ). replicate x false ++ rest) (sym (l .zeros)) in
-      leap-fills two (length out) B m out c i rest f (l .high) d j t (l .runs)
+      leap-fills rlgr3 (length out) B m out c i rest f (l .high) d j t (l .runs)
 
   led-none : m ≡ 0 → i ≡ j
   unfolding leapOf
@@ -233,7 +233,7 @@ module _ (B : List Bool) (c : State) (out : List ℤ) (i w m j : ℕ) (t : State
 
   -- the runs alone, where there are any
   pub led-some : 0 < m → (new : List ℤ) → new ≡ out → Turned B c i out new (Jump j t)
-  led-some p new e two f = let r = led-fills two f in rw e (r .0, r .2 p (l .room))
+  led-some p new e rlgr3 f = let r = led-fills rlgr3 f in rw e (r .0, r .2 p (l .room))
 
   -- the list is full
   pub led-full : length out ≤ j → Turned B c i out out (Jump j t)
@@ -242,15 +242,15 @@ module _ (B : List Bool) (c : State) (out : List ℤ) (i w m j : ℕ) (t : State
   -- the value behind them
   pub led-value : j < length out → m < 57 → (new : List ℤ) (r : Quick) → Stored w m (c .at) t j out new r → (k : ℕ) (u : State) → r ≡ Jump k u →
       Turned B c i out new (Jump k u)
-  led-value h hm new r v k u g two f =
-      let a = led-fills two f in
+  led-value h hm new r v k u g rlgr3 f =
+      let a = led-fills rlgr3 f in
       let s = led-state in
       let e = valueOf w m t (length out - j) in
-      let q : e ≡ elemOf two (t .kp) (t .krp) (length out - j) m (numBits 57 w) =
-      sym (elem-high two (t .kp) (t .krp) (length out - j) m (numBits 57 w) (s .0)) in
-      let y = word-quick two B out t j (c .at) m w e (l .word) (omega arith) (s .3 h) (a .0) h q in
-      let y′ : Quickly two B j out new (onwardOf (c .at) (placedOf (length out) j e)) = rw (v .1) y in
-      let z : Quickly two B j out new (Jump k u) = subst (λ (x : Quick). Quickly two B j out new x) (sym (v .0) ∙ g) y′ in
+      let q : e ≡ elemOf rlgr3 (t .kp) (t .krp) (length out - j) m (numBits 57 w) =
+      sym (elem-high rlgr3 (t .kp) (t .krp) (length out - j) m (numBits 57 w) (s .0)) in
+      let y = word-quick rlgr3 B out t j (c .at) m w e (l .word) (omega arith) (s .3 h) (a .0) h q in
+      let y′ : Quickly rlgr3 B j out new (onwardOf (c .at) (placedOf (length out) j e)) = rw (v .1) y in
+      let z : Quickly rlgr3 B j out new (Jump k u) = subst (λ (x : Quick). Quickly rlgr3 B j out new x) (sym (v .0) ∙ g) y′ in
       (z .0, omega (arith, z .1, a .1))
 
   pub led-not : m < 57 → (new : List ℤ) (r : Quick) → Stored w m (c .at) t j out new r → r ≡ Not → new ≡ out
@@ -264,17 +264,17 @@ module _ (B : List Bool) (c : State) (out : List ℤ) (i w m j : ℕ) (t : State
 
 -- ---- a turn by a word, for the loop
 
-module _ (two : Bool) (B : List Bool) (out : List ℤ) (c : State) (i : ℕ) (n : ℕ) (new : List ℤ) (r : Quick) (w : Filling two n B out c i)
-    (q : Quickly two B i out new r) where
-  pub quick-next : (j : ℕ) (s : State) → r ≡ Jump j s → Filling two n B new s j × (i < j)
+module _ (rlgr3 : Bool) (B : List Bool) (out : List ℤ) (c : State) (i : ℕ) (n : ℕ) (new : List ℤ) (r : Quick) (w : Filling rlgr3 n B out c i)
+    (q : Quickly rlgr3 B i out new r) where
+  pub quick-next : (j : ℕ) (s : State) → r ≡ Jump j s → Filling rlgr3 n B new s j × (i < j)
   quick-next j s g =
-      let k : Quickly two B i out new (Jump j s) = rw g at q in
+      let k : Quickly rlgr3 B i out new (Jump j s) = rw g at q in
       let e : n ≡ length out = sym (w .clear .len) in
       rw e k
 
-  pub quick-same : r ≡ Not → Filling two n B new c i
-  quick-same g = let k : Quickly two B i out new Not = rw g at q in rw k w
+  pub quick-same : r ≡ Not → Filling rlgr3 n B new c i
+  quick-same g = let k : Quickly rlgr3 B i out new Not = rw g at q in rw k w
 
 -- the list's length stands for n
-pub filling-long : (two : Bool) (n : ℕ) (B : List Bool) (out : List ℤ) (c : State) (i : ℕ) → Filling two n B out c i → Filling two (length out) B out c i
-filling-long two n B out c i w = rw (w .clear .len) w
+pub filling-long : (rlgr3 : Bool) (n : ℕ) (B : List Bool) (out : List ℤ) (c : State) (i : ℕ) → Filling rlgr3 n B out c i → Filling rlgr3 (length out) B out c i
+filling-long rlgr3 n B out c i w = rw (w .clear .len) w

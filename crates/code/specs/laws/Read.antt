@@ -94,27 +94,27 @@ refusal-some Short e = omega arith
 refusal-some Range e = omega arith
 refusal-some Overrun e = omega arith
 
-module _ (two : Bool) (s : List ℕ) (out : List ℤ) (f : Filled) (h : Fills (readList two 4096 (bitsOf s)) out f) where
-  bad-is : (q : Refusal) → f ≡ Bad q → readList two 4096 (bitsOf s) ≡ bad q
-  bad-is q g = filled-bad (readList two 4096 (bitsOf s)) out f q h g
+module _ (rlgr3 : Bool) (s : List ℕ) (out : List ℤ) (f : Filled) (h : Fills (readList rlgr3 4096 (bitsOf s)) out f) where
+  bad-is : (q : Refusal) → f ≡ Bad q → readList rlgr3 4096 (bitsOf s) ≡ bad q
+  bad-is q g = filled-bad (readList rlgr3 4096 (bitsOf s)) out f q h g
 
-  whole-is : (at : ℕ) → f ≡ Whole at → (xs : List ℕ) × (readList two 4096 (bitsOf s) ≡ whole xs at) × (out ≡ map unfoldZ xs)
-  whole-is at g = filled-whole (readList two 4096 (bitsOf s)) out f at h g
+  whole-is : (at : ℕ) → f ≡ Whole at → (xs : List ℕ) × (readList rlgr3 4096 (bitsOf s) ≡ whole xs at) × (out ≡ map unfoldZ xs)
+  whole-is at g = filled-whole (readList rlgr3 4096 (bitsOf s)) out f at h g
 
   pub whole-fits : (at : ℕ) → f ≡ Whole at → at ≤ length s * 8
   whole-fits at g =
       let w = whole-is at g in
-      let t = taken two 4096 (bitsOf s) (w .0) at (w .1) in
-      omega (arith, ap length (t .bits), t .place, length-append (codeOf two (w .0)) (drop at (bitsOf s)), length-bitsOf s)
+      let t = taken rlgr3 4096 (bitsOf s) (w .0) at (w .1) in
+      omega (arith, ap length (t .bits), t .place, length-append (codeOf rlgr3 (w .0)) (drop at (bitsOf s)), length-bitsOf s)
 
-  pub code-bad : (q : Refusal) (m : ℕ) → f ≡ Bad q → m ≡ refusalNumber q → CodeRead two s out (Refused m)
+  pub code-bad : (q : Refusal) (m : ℕ) → f ≡ Bad q → m ≡ refusalNumber q → CodeRead rlgr3 s out (Refused m)
   unfolding codeReading endReading readingNumber
   code-bad q m g p = record {
     answer = ap Refused p ∙ sym (ap (endReading (bitsOf s)) (bad-is q g));
     list = λ z. absurd (refusal-some q (sym z ∙ p));
   }
 
-  pub code-done : (at : ℕ) → f ≡ Whole at → clean (drop at (bitsOf s)) ≡ true → CodeRead two s out (Done at)
+  pub code-done : (at : ℕ) → f ≡ Whole at → clean (drop at (bitsOf s)) ≡ true → CodeRead rlgr3 s out (Done at)
   unfolding codeReading codeList endReading endList
   code-done at g p =
       let w = whole-is at g in
@@ -123,7 +123,7 @@ module _ (two : Bool) (s : List ℕ) (out : List ℤ) (f : Filled) (h : Fills (r
         list = λ z. passes _ _ _ _ p (w .2) ∙ sym (ap (endList (bitsOf s)) (w .1));
       }
 
-  pub code-tail : (at : ℕ) → f ≡ Whole at → clean (drop at (bitsOf s)) ≡ false → CodeRead two s out (Tail at)
+  pub code-tail : (at : ℕ) → f ≡ Whole at → clean (drop at (bitsOf s)) ≡ false → CodeRead rlgr3 s out (Tail at)
   unfolding codeReading endReading readingNumber
   code-tail at g p =
       let w = whole-is at g in
@@ -157,9 +157,9 @@ end-zeros B (whole xs at) h = go (clean (drop at B)) h
     go true h = absurd (h refl)
     go false h = refl
 
-refused-zeros : (two : Bool) (s : List ℕ) → (readingNumber (codeReading two s) ≡ 0 → ⊥) → codeList two s ≡ replicate 4096 (pos 0)
+refused-zeros : (rlgr3 : Bool) (s : List ℕ) → (readingNumber (codeReading rlgr3 s) ≡ 0 → ⊥) → codeList rlgr3 s ≡ replicate 4096 (pos 0)
 unfolding codeReading codeList
-refused-zeros two s h = end-zeros (bitsOf s) (readList two 4096 (bitsOf s)) h
+refused-zeros rlgr3 s h = end-zeros (bitsOf s) (readList rlgr3 4096 (bitsOf s)) h
 
 shell-stops : (f : ℕ) (r : Reading) → (f ≡ 0 → ⊥) → Refused f ≡ afterShell f r
 unfolding afterShell

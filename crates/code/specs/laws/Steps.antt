@@ -12,8 +12,8 @@ use Rattle.bits.specs.Bits.{numOf, grOf}
 use Rattle.bits.specs.declared.Num.{Num}
 use Rattle.bits.specs.declared.Num.the-variants.{Got, Cut}
 use Rattle.whole.specs.Row.{_⇒_∣_}
-use Rattle.code.specs.Code.{krNext, krAfter, kpOne, kpTwo, up, size, sizeF}
-use Rattle.code.specs.ReadList.{st, oneElem, twoElem, judgeTwo, runElem, runFirst, judgeRun, elemOf}
+use Rattle.code.specs.Code.{krNext, krAfter, kpOne, kpTwo, raised, size, sizeF}
+use Rattle.code.specs.ReadList.{stateAt, oneElem, twoElem, judgeTwo, runElem, runFirst, judgeRun, elemOf}
 use Rattle.code.specs.laws.There.{lone-not}
 use Rattle.code.specs.declared.element.Refusal.the-variants.{Cut as Short, Range, Overrun}
 use Rattle.code.specs.declared.element.Element.the-variants.{Zeros, One, Two, Refused}
@@ -53,7 +53,7 @@ kp-two-le kp zero (suc b) h = h
 kp-two-le kp (suc a) zero h = h
 kp-two-le kp (suc a) (suc b) h = omega arith
 
-pub kp-zero : (kp v : ℕ) → v ≡ 0 → kpOne kp v ≡ up 3 kp
+pub kp-zero : (kp v : ℕ) → v ≡ 0 → kpOne kp v ≡ raised 3 kp
 unfolding kpOne
 kp-zero kp v e = rw e
 
@@ -62,7 +62,7 @@ unfolding kpOne
 kp-some kp zero e = absurd (e refl)
 kp-some kp (suc v) e = refl
 
-pub kp-00 : (kp a b : ℕ) → a ≡ 0 → b ≡ 0 → kpTwo kp a b ≡ up 6 kp
+pub kp-00 : (kp a b : ℕ) → a ≡ 0 → b ≡ 0 → kpTwo kp a b ≡ raised 6 kp
 unfolding kpTwo
 kp-00 kp a b e f = rw (e, f)
 
@@ -91,7 +91,7 @@ pub one-wide : (kp krp : ℕ) (n : Num) (g next : ℕ) → n ≡ Got g next → 
 unfolding _⇒_∣_
 one-wide kp krp n g next e h = rw (e, lt-ltb 65534 g h)
 
-pub one-ok : (kp krp : ℕ) (n : Num) (g next q r : ℕ) → n ≡ Got g next → g ≤ 65534 → q ≡ kpOne kp g → r ≡ krAfter krp g → oneElem kp krp n ≡ One 0 g (st next q r)
+pub one-ok : (kp krp : ℕ) (n : Num) (g next q r : ℕ) → n ≡ Got g next → g ≤ 65534 → q ≡ kpOne kp g → r ≡ krAfter krp g → oneElem kp krp n ≡ One 0 g (stateAt next q r)
 unfolding _⇒_∣_
 one-ok kp krp n g next q r e h p s = rw (e, le-ltb 65534 g h, p, s)
 
@@ -120,7 +120,7 @@ pub judge-lone : (kp krp left g a next : ℕ) → a ≤ g → a ≤ 65534 → g 
 unfolding _⇒_∣_
 judge-lone kp krp left g a next h v w l p = rw (le-ltb g a h, le-ltb 65534 a v, le-ltb 65534 (g - a) w, lt-ltb left 2 l, lt-ltb 0 (g - a) p)
 
-pub judge-pair : (kp krp left g a next q r : ℕ) → a ≤ g → a ≤ 65534 → g - a ≤ 65534 → (left < 2 → g - a ≡ 0) → q ≡ kpTwo kp a (g - a) → r ≡ krAfter krp g → judgeTwo kp krp left g a next ≡ Two a (g - a) (st next q r)
+pub judge-pair : (kp krp left g a next q r : ℕ) → a ≤ g → a ≤ 65534 → g - a ≤ 65534 → (left < 2 → g - a ≡ 0) → q ≡ kpTwo kp a (g - a) → r ≡ krAfter krp g → judgeTwo kp krp left g a next ≡ Two a (g - a) (stateAt next q r)
 unfolding _⇒_∣_
 judge-pair kp krp left g a next q r h v w l p s = rw (le-ltb g a h, le-ltb 65534 a v, le-ltb 65534 (g - a) w, lone-not left (g - a) l, p, s)
 
@@ -156,7 +156,7 @@ module _ (kp krp left : ℕ) (B : List Bool) where
   pub run-cut : (n : Num) → n ≡ Cut → runElem kp krp left B n ≡ Refused Short
   run-cut n e = rw e
 
-  pub run-full : (n : Num) (b next w q : ℕ) → n ≡ Got b next → b ≡ 0 → w ≡ 2 ^ (kp / 8) → q ≡ up 4 kp → runElem kp krp left B n ≡ Zeros w (st next q krp)
+  pub run-full : (n : Num) (b next w q : ℕ) → n ≡ Got b next → b ≡ 0 → w ≡ 2 ^ (kp / 8) → q ≡ raised 4 kp → runElem kp krp left B n ≡ Zeros w (stateAt next q krp)
   run-full n b next w q e z f g = rw (e, z, f, g)
 
   pub run-some : (n : Num) (b next : ℕ) → n ≡ Got b next → (b ≡ 0 → ⊥) → runElem kp krp left B n ≡ runFirst kp krp left B (numOf (kp / 8) 0 next (drop next B))
@@ -183,7 +183,7 @@ pub run-over : (kp krp left z s g next : ℕ) → g ≤ 32766 → left ≤ z →
 unfolding _⇒_∣_
 run-over kp krp left z s g next h l = rw (le-ltb 32766 g h, le-leb left z l)
 
-pub run-one : (kp krp left z s g next q r : ℕ) → g ≤ 32766 → z < left → q ≡ kp - 6 → r ≡ krAfter krp g → judgeRun kp krp left z s g next ≡ One z (2 * (g + 1) - s) (st next q r)
+pub run-one : (kp krp left z s g next q r : ℕ) → g ≤ 32766 → z < left → q ≡ kp - 6 → r ≡ krAfter krp g → judgeRun kp krp left z s g next ≡ One z (2 * (g + 1) - s) (stateAt next q r)
 unfolding _⇒_∣_
 run-one kp krp left z s g next q r h l p t = rw (le-ltb 32766 g h, lt-leb left z l, p, t)
 
@@ -196,9 +196,9 @@ pub elem-low-one : (kp krp left at : ℕ) (B : List Bool) → kp < 8 → elemOf 
 unfolding elemOf
 elem-low-one kp krp left at B h = rw (lt-ltb kp 8 h)
 
-pub elem-high : (two : Bool) (kp krp left at : ℕ) (B : List Bool) → 8 ≤ kp → elemOf two kp krp left at B ≡ runElem kp krp left B (numOf 1 0 at (drop at B))
+pub elem-high : (rlgr3 : Bool) (kp krp left at : ℕ) (B : List Bool) → 8 ≤ kp → elemOf rlgr3 kp krp left at B ≡ runElem kp krp left B (numOf 1 0 at (drop at B))
 unfolding elemOf
-elem-high two kp krp left at B h = rw (le-ltb kp 8 h)
+elem-high rlgr3 kp krp left at B h = rw (le-ltb kp 8 h)
 
 pub size-fit : (g k : ℕ) → g < 2 ^ k → size g ≤ k
 unfolding size

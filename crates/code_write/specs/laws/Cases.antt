@@ -17,7 +17,7 @@ use Rattle.code.specs.laws.Cases.{cases}
 use Rattle.code_write.specs.Write.{bytesOf, writeFault}
 use Rattle.code_write.specs.laws.Write.{bytes-only, is-range, is-fine, is-called}
 use Rattle.code_write.specs.laws.Once.{writes-done}
-use Rattle.code_write.specs.Cases.{Sent, WriteCases}
+use Rattle.code_write.specs.Cases.{CodeSent, WriteCases}
 
 full : (x : ℤ) → length (first x) ≡ 4096
 full x = ap suc (length-replicate 4095 (pos 0))
@@ -26,7 +26,7 @@ accepted : (mode : ℕ) (s : List ℕ) (x : ℤ) → Coded mode s (first x) → 
 unfolding readFault readingNumber
 accepted mode s x c = answers-exactly mode s (first x) (first x) (ap (λ (n : ℕ). readFault mode n s) (full x) ∙ ap readingNumber (c .answer)) (c .list (first x) (full x))
 
-sent : (mode : ℕ) (s : List ℕ) (x : ℤ) → Bytes s → Coded mode s (first x) → Sent mode s (first x)
+sent : (mode : ℕ) (s : List ℕ) (x : ℤ) → Bytes s → Coded mode s (first x) → CodeSent mode s (first x)
 unfolding writeFault
 sent mode s x b c =
     let zs = first x in
@@ -39,7 +39,7 @@ sent mode s x b c =
       short = λ room k. sym (goes-on _ _ _ (sym (is-called mode (length zs) (record { allowed = g .call .allowed; long = g .list .len }))) (goes-on _ _ _ (sym (is-fine mode zs (record { range = is-range zs (g .list .range); small = omega (arith, g .call .small) }))) (fails _ _ _ _ (lt-leb (length (bytesOf mode zs)) room (omega arith)) refl)));
     }
 
-both-sent : (s : List ℕ) (x : ℤ) → Bytes s → Both (λ mode. Coded mode s (first x)) → Both (λ mode. Sent mode s (first x))
+both-sent : (s : List ℕ) (x : ℤ) → Bytes s → Both (λ mode. Coded mode s (first x)) → Both (λ mode. CodeSent mode s (first x))
 both-sent s x b c = (sent 1 s x b (c .0), sent 4 s x b (c .1))
 
 no-bytes : Bytes []

@@ -20,18 +20,18 @@ use Rattle.code.specs.declared.element.Item.{Item}
 use Rattle.code.specs.declared.element.Item.the-variants.{Full, Run, Single, Twin}
 
 -- an item of a list in range
-pub item-good : (two : Bool) (kp : ℕ) (l : List ℕ) → length l ≤ 4096 → InRange l → SmallItem (itemOf two kp l) × FewZeros (itemOf two kp l)
+pub item-good : (rlgr3 : Bool) (kp : ℕ) (l : List ℕ) → length l ≤ 4096 → InRange l → SmallItem (itemOf rlgr3 kp l) × FewZeros (itemOf rlgr3 kp l)
 unfolding itemOf
-item-good two kp l h r = go (ltb kp 8) two (leb (min (2 ^ (kp / 8)) (length l)) (zerosOf l)) refl
+item-good rlgr3 kp l h r = go (ltb kp 8) rlgr3 (leb (min (2 ^ (kp / 8)) (length l)) (zerosOf l)) refl
   where
     it : Bool → Bool → Bool → Item
-    it b two c = b ⇒ (two ⇒ Twin (getD l 0 0) (getD l 1 0) ∣ Single (getD l 0 0)) ∣ c ⇒ Full ∣ Run (zerosOf l) (getD l (zerosOf l) 0)
+    it b rlgr3 c = b ⇒ (rlgr3 ⇒ Twin (getD l 0 0) (getD l 1 0) ∣ Single (getD l 0 0)) ∣ c ⇒ Full ∣ Run (zerosOf l) (getD l (zerosOf l) 0)
 
-    go : (b two c : Bool) → leb (min (2 ^ (kp / 8)) (length l)) (zerosOf l) ≡ c → SmallItem (it b two c) × FewZeros (it b two c)
+    go : (b rlgr3 c : Bool) → leb (min (2 ^ (kp / 8)) (length l)) (zerosOf l) ≡ c → SmallItem (it b rlgr3 c) × FewZeros (it b rlgr3 c)
     go true true c e = ((r 0, r 1), tt)
     go true false c e = (r 0, tt)
-    go false two true e = (tt, tt)
-    go false two false e =
+    go false rlgr3 true e = (tt, tt)
+    go false rlgr3 false e =
         let m : zerosOf l < min (2 ^ (kp / 8)) (length l) = leb-false (min (2 ^ (kp / 8)) (length l)) (zerosOf l) e in
         ((zeros-next l (omega arith), r (zerosOf l)), omega arith)
 
@@ -63,73 +63,73 @@ krs-next krp (Run z v) h = kr-le krp ((v - 1) / 2) h
 krs-next krp (Single v) h = kr-le krp v h
 krs-next krp (Twin a b) h = kr-le krp (a + b) h
 
-code-nil : (f : ℕ) (two : Bool) (kp krp : ℕ) → codeF f two kp krp [] ≡ []
+code-nil : (f : ℕ) (rlgr3 : Bool) (kp krp : ℕ) → codeF f rlgr3 kp krp [] ≡ []
 unfolding codeF
-code-nil zero two kp krp = refl
-code-nil (suc f) two kp krp = refl
+code-nil zero rlgr3 kp krp = refl
+code-nil (suc f) rlgr3 kp krp = refl
 
 -- a crude bound on the code's length: each item takes a place or more
-code-few-f : (f : ℕ) (two : Bool) (kp krp : ℕ) (l : List ℕ) → kp ≤ 80 → krp ≤ 80 → length l ≤ 4096 → InRange l → length (codeF f two kp krp l) ≤ length l * 131200
+code-few-f : (f : ℕ) (rlgr3 : Bool) (kp krp : ℕ) (l : List ℕ) → kp ≤ 80 → krp ≤ 80 → length l ≤ 4096 → InRange l → length (codeF f rlgr3 kp krp l) ≤ length l * 131200
 unfolding codeF
-code-few-f zero two kp krp l hp hr hl r = omega arith
-code-few-f (suc f) two kp krp [] hp hr hl r = omega arith
-code-few-f (suc f) two kp krp (x ∷ xs) hp hr hl r =
+code-few-f zero rlgr3 kp krp l hp hr hl r = omega arith
+code-few-f (suc f) rlgr3 kp krp [] hp hr hl r = omega arith
+code-few-f (suc f) rlgr3 kp krp (x ∷ xs) hp hr hl r =
     let l = x ∷ xs in
-    let it = itemOf two kp l in
+    let it = itemOf rlgr3 kp l in
     let rest = drop (itemUsed kp it) l in
     let d = length-drop (itemUsed kp it) l in
     let s = used-some kp it in
-    let more = code-few-f f two (itemKp kp it) (itemKrp krp it) rest (kps-next kp it hp) (krs-next krp it hr) (omega arith) (range-drop (itemUsed kp it) l r) in
-    let one = item-few kp krp it hp hr (item-good two kp l hl r .0) in
-    let a = length-append (itemBits kp krp it) (codeF f two (itemKp kp it) (itemKrp krp it) rest) in
-    let e = ap length (code-item f two kp krp l (omega arith)) in
+    let more = code-few-f f rlgr3 (itemKp kp it) (itemKrp krp it) rest (kps-next kp it hp) (krs-next krp it hr) (omega arith) (range-drop (itemUsed kp it) l r) in
+    let one = item-few kp krp it hp hr (item-good rlgr3 kp l hl r .0) in
+    let a = length-append (itemBits kp krp it) (codeF f rlgr3 (itemKp kp it) (itemKrp krp it) rest) in
+    let e = ap length (code-item f rlgr3 kp krp l (omega arith)) in
     omega (arith, d, s, more, one, a, e)
 
-pub code-few : (two : Bool) (l : List ℕ) → length l ≤ 4096 → InRange l → length (codeOf two l) ≤ length l * 131200
+pub code-few : (rlgr3 : Bool) (l : List ℕ) → length l ≤ 4096 → InRange l → length (codeOf rlgr3 l) ≤ length l * 131200
 unfolding codeOf
-code-few two l h r = code-few-f (length l) two 8 8 l (omega arith) (omega arith) h r
+code-few rlgr3 l h r = code-few-f (length l) rlgr3 8 8 l (omega arith) (omega arith) h r
 
 -- D is the code of what stands before place i, and the code goes on from there with kp and krp
-pub record Going (two : Bool) (l : List ℕ) (D : List Bool) (i kp krp : ℕ) : Type 0 where
+pub record Going (rlgr3 : Bool) (l : List ℕ) (D : List Bool) (i kp krp : ℕ) : Type 0 where
   pub f : ℕ
   pub fuel : length l ≤ i + f
   pub kps : kp ≤ 80
   pub krs : krp ≤ 80
-  pub all : D ++ codeF f two kp krp (drop i l) ≡ codeOf two l
+  pub all : D ++ codeF f rlgr3 kp krp (drop i l) ≡ codeOf rlgr3 l
 
-pub going-start : (two : Bool) (l : List ℕ) → Going two l [] 0 8 8
+pub going-start : (rlgr3 : Bool) (l : List ℕ) → Going rlgr3 l [] 0 8 8
 unfolding codeOf
-going-start two l = record { f = length l; fuel = omega arith; kps = omega arith; krs = omega arith; all = refl }
+going-start rlgr3 l = record { f = length l; fuel = omega arith; kps = omega arith; krs = omega arith; all = refl }
 
-module _ (two : Bool) (l : List ℕ) (D : List Bool) (i kp krp : ℕ) (few : length l ≤ 4096) (range : InRange l) (w : Going two l D i kp krp) (h : i < length l) (it : Item) (e : it ≡ itemOf two kp (drop i l)) where
+module _ (rlgr3 : Bool) (l : List ℕ) (D : List Bool) (i kp krp : ℕ) (few : length l ≤ 4096) (range : InRange l) (w : Going rlgr3 l D i kp krp) (h : i < length l) (it : Item) (e : it ≡ itemOf rlgr3 kp (drop i l)) where
   pub going-good : SmallItem it × FewZeros it
-  going-good = rw e (item-good two kp (drop i l) (omega (arith, length-drop i l)) (range-drop i l range))
+  going-good = rw e (item-good rlgr3 kp (drop i l) (omega (arith, length-drop i l)) (range-drop i l range))
 
   -- the code from here is the item's bits and the rest
-  rest : (g : ℕ) × (w .f ≡ suc g) × (D ++ (itemBits kp krp it ++ codeF g two (itemKp kp it) (itemKrp krp it) (drop (itemUsed kp it) (drop i l))) ≡ codeOf two l)
+  rest : (g : ℕ) × (w .f ≡ suc g) × (D ++ (itemBits kp krp it ++ codeF g rlgr3 (itemKp kp it) (itemKrp krp it) (drop (itemUsed kp it) (drop i l))) ≡ codeOf rlgr3 l)
   rest = go (w .f) (w .fuel) (w .all)
     where
-      go : (f : ℕ) → length l ≤ i + f → D ++ codeF f two kp krp (drop i l) ≡ codeOf two l → (g : ℕ) × (f ≡ suc g) × (D ++ (itemBits kp krp it ++ codeF g two (itemKp kp it) (itemKrp krp it) (drop (itemUsed kp it) (drop i l))) ≡ codeOf two l)
+      go : (f : ℕ) → length l ≤ i + f → D ++ codeF f rlgr3 kp krp (drop i l) ≡ codeOf rlgr3 l → (g : ℕ) × (f ≡ suc g) × (D ++ (itemBits kp krp it ++ codeF g rlgr3 (itemKp kp it) (itemKrp krp it) (drop (itemUsed kp it) (drop i l))) ≡ codeOf rlgr3 l)
       go zero n a = absurd (omega arith)
-      go (suc g) n a = (g, refl, rw e (ap (λ (y : List Bool). D ++ y) (sym (code-item g two kp krp (drop i l) (omega (arith, length-drop i l)))) ∙ a))
+      go (suc g) n a = (g, refl, rw e (ap (λ (y : List Bool). D ++ y) (sym (code-item g rlgr3 kp krp (drop i l) (omega (arith, length-drop i l)))) ∙ a))
 
-  pub going-fits : length D + length (itemBits kp krp it) ≤ length (codeOf two l)
+  pub going-fits : length D + length (itemBits kp krp it) ≤ length (codeOf rlgr3 l)
   going-fits =
       let r = rest in
-      let T = codeF (r .0) two (itemKp kp it) (itemKrp krp it) (drop (itemUsed kp it) (drop i l)) in
+      let T = codeF (r .0) rlgr3 (itemKp kp it) (itemKrp krp it) (drop (itemUsed kp it) (drop i l)) in
       omega (arith, ap length (r .2), length-append D (itemBits kp krp it ++ T), length-append (itemBits kp krp it) T)
 
   pub going-used : (u : ℕ) → u ≡ itemUsed kp it → (0 < u) × (u ≤ 4097)
   going-used u eu = rw eu (used-some kp it, used-few kp it (w .kps) (going-good .1))
 
-  pub going-next : (u kq kr : ℕ) → u ≡ itemUsed kp it → kq ≡ itemKp kp it → kr ≡ itemKrp krp it → Going two l (D ++ itemBits kp krp it) (i + u) kq kr
+  pub going-next : (u kq kr : ℕ) → u ≡ itemUsed kp it → kq ≡ itemKp kp it → kr ≡ itemKrp krp it → Going rlgr3 l (D ++ itemBits kp krp it) (i + u) kq kr
   going-next u kq kr eu ep er =
       let r = rest in
-      let T = codeF (r .0) two kq kr (drop (i + u) l) in
-      let c : D ++ (itemBits kp krp it ++ T) ≡ codeOf two l = rw (ep, er, eu, ← drop-drop (itemUsed kp it) i l) (r .2) in
+      let T = codeF (r .0) rlgr3 kq kr (drop (i + u) l) in
+      let c : D ++ (itemBits kp krp it ++ T) ≡ codeOf rlgr3 l = rw (ep, er, eu, ← drop-drop (itemUsed kp it) i l) (r .2) in
       record { f = r .0; fuel = omega (arith, w .fuel, r .1, going-used u eu .0); kps = rw ep (kps-next kp it (w .kps)); krs = rw er (krs-next krp it (w .krs)); all = append-assoc D (itemBits kp krp it) T ∙ c }
 
-pub going-end : (two : Bool) (l : List ℕ) (D : List Bool) (i kp krp : ℕ) → length l ≤ i → Going two l D i kp krp → D ≡ codeOf two l
-going-end two l D i kp krp h w =
+pub going-end : (rlgr3 : Bool) (l : List ℕ) (D : List Bool) (i kp krp : ℕ) → length l ≤ i → Going rlgr3 l D i kp krp → D ≡ codeOf rlgr3 l
+going-end rlgr3 l D i kp krp h w =
     let n : drop i l ≡ [] = drop-of-length-le l h in
-    sym (append-nil D) ∙ (rw (n, code-nil (w .f) two kp krp) at (w .all))
+    sym (append-nil D) ∙ (rw (n, code-nil (w .f) rlgr3 kp krp) at (w .all))

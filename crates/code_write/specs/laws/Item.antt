@@ -16,7 +16,7 @@ use Rattle.bits.specs.laws.Gr.{grLen}
 use Rattle.bits.specs.laws.Here.{length-grBits}
 use Rattle.bits.specs.Pen.{Ready}
 use Rattle.bits.specs.declared.Pen.{Pen}
-use Rattle.code.specs.Code.{up, krAfter, kpOne, kpTwo, zerosOf, runBits, pairBits, size, itemBits, itemUsed, itemKp, itemKrp}
+use Rattle.code.specs.Code.{raised, krAfter, kpOne, kpTwo, zerosOf, runBits, pairBits, size, itemBits, itemUsed, itemKp, itemKrp}
 use Rattle.code.specs.laws.Steps.{size-fit}
 use Rattle.code.specs.declared.element.Item.{Item}
 use Rattle.code.specs.declared.element.Item.the-variants.{Full, Run, Single, Twin}
@@ -126,7 +126,7 @@ module _ (k : ℕ) (it : Item) where
   unfolding itemUsed
   used-run z v e = rw e
 
-  pub kp-full : it ≡ Full → itemKp k it ≡ up 4 k
+  pub kp-full : it ≡ Full → itemKp k it ≡ raised 4 k
   unfolding itemKp
   kp-full e = rw e
 

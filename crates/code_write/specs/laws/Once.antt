@@ -85,11 +85,11 @@ some-bits kp krp (Run z v) = omega (arith, size-run kp krp (Run z v) z v refl)
 some-bits kp krp (Single v) = omega (arith, size-single kp krp (Single v) v refl)
 some-bits kp krp (Twin a b) = omega (arith, size-twin kp krp (Twin a b) a b refl)
 
-some-code : (f : ℕ) (two : Bool) (kp krp : ℕ) (l : List ℕ) → 0 < f → 0 < length l → 0 < length (codeF f two kp krp l)
-some-code zero two kp krp l h k = absurd (omega arith)
-some-code (suc f) two kp krp l h k =
-    let it = itemOf two kp l in
-    omega (arith, ap length (code-item f two kp krp l k), length-append (itemBits kp krp it) (codeF f two (itemKp kp it) (itemKrp krp it) (drop (itemUsed kp it) l)), some-bits kp krp it)
+some-code : (f : ℕ) (rlgr3 : Bool) (kp krp : ℕ) (l : List ℕ) → 0 < f → 0 < length l → 0 < length (codeF f rlgr3 kp krp l)
+some-code zero rlgr3 kp krp l h k = absurd (omega arith)
+some-code (suc f) rlgr3 kp krp l h k =
+    let it = itemOf rlgr3 kp l in
+    omega (arith, ap length (code-item f rlgr3 kp krp l k), length-append (itemBits kp krp it) (codeF f rlgr3 (itemKp kp it) (itemKrp krp it) (drop (itemUsed kp it) l)), some-bits kp krp it)
 
 -- no list's code is empty, so a done answer says a length that no refusal says
 some-bytes : (mode : ℕ) (zs : List ℤ) → length zs ≡ 4096 → 0 < length (bytesOf mode zs)

@@ -37,7 +37,7 @@ use Rattle.code.specs.Fold.{foldZ}
 use Rattle.code.specs.laws.Fold.{range-fold}
 use Rattle.code.specs.OneCode.{code}
 use Rattle.code_write.specs.laws.Pack.{packed-length, packed-bytes, packed-written, packed-once}
-use Rattle.code_write.specs.Write.{bytesOf, inRange, componentFault, callFault, writeFault, Measures, sizedOf}
+use Rattle.code_write.specs.Write.{bytesOf, allInRange, codeFault, askFault, writeFault, Measures, sizedOf}
 use Rattle.code_write.specs.declared.call.Sized.{Sized}
 
 -- ---- the bytes of a component: the only ones that hold its code, filled up
@@ -82,33 +82,33 @@ near-read z r b f e h =
     let fits : SFits w32 z = record { sfits = f } in
     sym (e ∙ ap (λ (x : ℤ). leb (natAbs x) 32767) (toZ-ofZ fits)) ∙ h
 
-pub range-next : (zs : List ℤ) (i : ℕ) → i < length zs → leb (natAbs (getD zs i (pos 0))) 32767 ≡ true → inRange (drop i zs) ≡ inRange (drop (i + 1) zs)
-unfolding inRange
+pub range-next : (zs : List ℤ) (i : ℕ) → i < length zs → leb (natAbs (getD zs i (pos 0))) 32767 ≡ true → allInRange (drop i zs) ≡ allInRange (drop (i + 1) zs)
+unfolding allInRange
 range-next zs i h e = rw (drop-cons zs i (pos 0) h, add-one i) (sym (passes _ _ _ _ e refl))
 
-pub range-stop : (zs : List ℤ) (i : ℕ) → i < length zs → leb (natAbs (getD zs i (pos 0))) 32767 ≡ false → inRange (drop i zs) ≡ false
-unfolding inRange
+pub range-stop : (zs : List ℤ) (i : ℕ) → i < length zs → leb (natAbs (getD zs i (pos 0))) 32767 ≡ false → allInRange (drop i zs) ≡ false
+unfolding allInRange
 range-stop zs i h e = rw (drop-cons zs i (pos 0) h) (sym (fails _ _ _ _ e refl))
 
-pub range-past : (zs : List ℤ) (i : ℕ) → length zs ≤ i → inRange (drop i zs) ≡ true
-unfolding inRange
+pub range-past : (zs : List ℤ) (i : ℕ) → length zs ≤ i → allInRange (drop i zs) ≡ true
+unfolding allInRange
 range-past zs i h = rw (drop-of-length-le zs h)
 
 true-false : (true ≡ false → ⊥)
 true-false e = let z : _≡_ {A = ℕ} 0 1 = cc in omega arith
 
-pub range-is : (zs : List ℤ) → inRange zs ≡ true → (i : ℕ) → natAbs (getD zs i (pos 0)) ≤ 32767
-unfolding inRange
+pub range-is : (zs : List ℤ) → allInRange zs ≡ true → (i : ℕ) → natAbs (getD zs i (pos 0)) ≤ 32767
+unfolding allInRange
 range-is [] e i = omega arith
-range-is (z ∷ zs) e zero = leb-true (natAbs z) 32767 (held (leb (natAbs z) 32767) false (inRange zs) true true-false (sym e) .0)
-range-is (z ∷ zs) e (suc i) = range-is zs (sym (held (leb (natAbs z) 32767) false (inRange zs) true true-false (sym e) .1)) i
+range-is (z ∷ zs) e zero = leb-true (natAbs z) 32767 (held (leb (natAbs z) 32767) false (allInRange zs) true true-false (sym e) .0)
+range-is (z ∷ zs) e (suc i) = range-is zs (sym (held (leb (natAbs z) 32767) false (allInRange zs) true true-false (sym e) .1)) i
 
-pub is-range : (zs : List ℤ) → ((i : ℕ) → natAbs (getD zs i (pos 0)) ≤ 32767) → inRange zs ≡ true
-unfolding inRange
+pub is-range : (zs : List ℤ) → ((i : ℕ) → natAbs (getD zs i (pos 0)) ≤ 32767) → allInRange zs ≡ true
+unfolding allInRange
 is-range [] h = refl
 is-range (z ∷ zs) h = sym (passes _ _ _ _ (le-leb (natAbs z) 32767 (h 0)) (sym (is-range zs (λ i. h (suc i)))))
 
-pub range-folded : (zs : List ℤ) → inRange zs ≡ true → InRange (map foldZ zs)
+pub range-folded : (zs : List ℤ) → allInRange zs ≡ true → InRange (map foldZ zs)
 range-folded zs e = range-fold zs (range-is zs e)
 
 -- ---- the bytes at a place: the pen starts there, and the last byte is filled up
@@ -174,20 +174,20 @@ module _ (mode : ℕ) (zs : List ℤ) (o : List ℕ) (at : ℕ) (fits : at + len
 
 -- a component, measured
 module _ (mode : ℕ) (zs : List ℤ) where
-  by-fault : (n : ℕ) → n ≡ componentFault mode zs → sizedOf n (length (bytesOf mode zs)) ≡ sizedOf (componentFault mode zs) (length (bytesOf mode zs))
+  by-fault : (n : ℕ) → n ≡ codeFault mode zs → sizedOf n (length (bytesOf mode zs)) ≡ sizedOf (codeFault mode zs) (length (bytesOf mode zs))
   by-fault n e = ap (λ (f : ℕ). sizedOf f (length (bytesOf mode zs))) e
 
-  pub measure-9 : inRange zs ≡ false → record { number = 9; size = 0 } ≡ sizedOf (componentFault mode zs) (length (bytesOf mode zs))
-  unfolding componentFault sizedOf
+  pub measure-9 : allInRange zs ≡ false → record { number = 9; size = 0 } ≡ sizedOf (codeFault mode zs) (length (bytesOf mode zs))
+  unfolding codeFault sizedOf
   measure-9 e = by-fault 9 (fails _ _ _ _ e refl)
 
-  module _ (size : ℕ) (e : inRange zs ≡ true) (s : size ≡ length (bytesOf mode zs)) where
-    pub measure-6 : 65535 < size → record { number = 6; size = 0 } ≡ sizedOf (componentFault mode zs) (length (bytesOf mode zs))
-    unfolding componentFault sizedOf
+  module _ (size : ℕ) (e : allInRange zs ≡ true) (s : size ≡ length (bytesOf mode zs)) where
+    pub measure-6 : 65535 < size → record { number = 6; size = 0 } ≡ sizedOf (codeFault mode zs) (length (bytesOf mode zs))
+    unfolding codeFault sizedOf
     measure-6 h = by-fault 6 (passes _ _ _ _ e (fails _ _ _ _ (lt-leb (length (bytesOf mode zs)) 65535 (omega arith)) refl))
 
-    pub measure-0 : size ≤ 65535 → record { number = 0; size = size } ≡ sizedOf (componentFault mode zs) (length (bytesOf mode zs))
-    unfolding componentFault sizedOf
+    pub measure-0 : size ≤ 65535 → record { number = 0; size = size } ≡ sizedOf (codeFault mode zs) (length (bytesOf mode zs))
+    unfolding codeFault sizedOf
     measure-0 h = rw s (by-fault 0 (passes _ _ _ _ e (passes _ _ _ _ (le-leb (length (bytesOf mode zs)) 65535 (omega (arith, s))) refl)))
 
 -- what is said in one equation, in two
@@ -198,18 +198,18 @@ sized-measures (suc n) b r e = rw e (record { number = refl; size = λ z. absurd
 
 -- what a component without a fault has
 pub record Fine (mode : ℕ) (zs : List ℤ) : Type 0 where
-  pub range : inRange zs ≡ true
+  pub range : allInRange zs ≡ true
   pub small : length (bytesOf mode zs) ≤ 65535
 
-pub fine : (mode : ℕ) (zs : List ℤ) → 0 ≡ componentFault mode zs → Fine mode zs
-unfolding componentFault
+pub fine : (mode : ℕ) (zs : List ℤ) → 0 ≡ codeFault mode zs → Fine mode zs
+unfolding codeFault
 fine mode zs e =
-    let a = held (inRange zs) 9 _ 0 (λ z. omega arith) e in
+    let a = held (allInRange zs) 9 _ 0 (λ z. omega arith) e in
     let b = held (leb (length (bytesOf mode zs)) 65535) 6 0 0 (λ z. omega arith) (a .1) in
     record { range = a .0; small = leb-true (length (bytesOf mode zs)) 65535 (b .0) }
 
-pub is-fine : (mode : ℕ) (zs : List ℤ) → Fine mode zs → 0 ≡ componentFault mode zs
-unfolding componentFault
+pub is-fine : (mode : ℕ) (zs : List ℤ) → Fine mode zs → 0 ≡ codeFault mode zs
+unfolding codeFault
 is-fine mode zs f = passes _ _ _ _ (f .range) (passes _ _ _ _ (le-leb (length (bytesOf mode zs)) 65535 (f .small)) refl)
 
 -- the mode is one of the two and the list has 4,096 numbers
@@ -217,33 +217,33 @@ pub record Called (mode n : ℕ) : Type 0 where
   pub allowed : isMode mode ≡ true
   pub long : n ≡ 4096
 
-pub called : (mode n : ℕ) → 0 ≡ callFault mode n → Called mode n
-unfolding callFault
+pub called : (mode n : ℕ) → 0 ≡ askFault mode n → Called mode n
+unfolding askFault
 called mode n e =
     let a = held (isMode mode) 5 _ 0 (λ z. omega arith) e in
     let b = held (eqb n 4096) 2 0 0 (λ z. omega arith) (a .1) in
     record { allowed = a .0; long = eqb-true n 4096 (b .0) }
 
-pub is-called : (mode n : ℕ) → Called mode n → 0 ≡ callFault mode n
-unfolding callFault
+pub is-called : (mode n : ℕ) → Called mode n → 0 ≡ askFault mode n
+unfolding askFault
 is-called mode n c = passes _ _ _ _ (c .allowed) (passes _ _ _ _ (eq-eqb n 4096 (c .long)) refl)
 
 -- ---- which numbers the call answers
 
 pub write-among : (mode : ℕ) (zs : List ℤ) (room : ℕ) → Among (0 ∷ 5 ∷ 2 ∷ 9 ∷ 6 ∷ 13 ∷ []) (writeFault mode zs room)
-unfolding writeFault callFault componentFault among
+unfolding writeFault askFault codeFault among
 write-among mode zs room = search numbers depth 9
 
 -- ---- one law for each answer of the call
 
 module _ (mode : ℕ) (zs : List ℤ) (out : List ℕ) where
-  pub write-call : (x : ℕ) → x ≡ callFault mode (length zs) → (x ≡ 0 → ⊥) → Wrote (writeFault mode zs (length out)) (bytesOf mode zs) out out (Refused x)
+  pub write-call : (x : ℕ) → x ≡ askFault mode (length zs) → (x ≡ 0 → ⊥) → Wrote (writeFault mode zs (length out)) (bytesOf mode zs) out out (Refused x)
   unfolding writeFault
   write-call x e h = refused _ x _ out (stops _ _ _ (λ z. h (e ∙ z)) e) h
 
-  module _ (x : ℕ) (c : x ≡ callFault mode (length zs)) (z : x ≡ 0) (s : Sized) (q : s ≡ sizedOf (componentFault mode zs) (length (bytesOf mode zs))) where
-    m : Measures (componentFault mode zs) (length (bytesOf mode zs)) s
-    m = sized-measures (componentFault mode zs) (length (bytesOf mode zs)) s q
+  module _ (x : ℕ) (c : x ≡ askFault mode (length zs)) (z : x ≡ 0) (s : Sized) (q : s ≡ sizedOf (codeFault mode zs) (length (bytesOf mode zs))) where
+    m : Measures (codeFault mode zs) (length (bytesOf mode zs)) s
+    m = sized-measures (codeFault mode zs) (length (bytesOf mode zs)) s q
 
     pub write-component : (s .number ≡ 0 → ⊥) → Wrote (writeFault mode zs (length out)) (bytesOf mode zs) out out (Refused (s .number))
     unfolding writeFault

@@ -22,7 +22,7 @@ use Rattle.collect.specs.laws.Byte.{bytes-length, bytes-joined, six-byte
 use Rattle.collect.specs.laws.Walk.{followed, followed-none, walk-append, walk-first, walk-on, walk-through, stops-at, goes-settled, block-part}
 use Rattle.collect.specs.laws.Code.{head-waits, head-judged}
 use Rattle.collect.specs.laws.Cut.{open-call}
-use Rattle.collect.specs.Request.{Block, blockOf, blocksOf, frameOf, Known, Inner}
+use Rattle.collect.specs.Request.{Block, blockBytes, blocksOf, frameBytes, Known, Inner}
 
 -- ---- a head's bytes, from where so many of them are there
 
@@ -160,37 +160,37 @@ block-begun p h kind size n store xs b l =
 
 -- ---- whole blocks
 
-block-is : (b : Block) → Known b → blockOf b ≡ headBytes 6 (headOf (b .kind) (6 + length (b .body))) ++ b .body
-unfolding blockOf
+block-is : (b : Block) → Known b → blockBytes b ≡ headBytes 6 (headOf (b .kind) (6 + length (b .body))) ++ b .body
+unfolding blockBytes
 block-is b k =
     let n = 6 + length (b .body) in
     ap₂ (λ (x y : ℕ). (bytes16 x ++ bytes32 y) ++ b .body) (sym (head-type (b .kind) n (k .high))) (sym (head-len (b .kind) n (k .high)))
     ∙ ap (λ (x : List ℕ). x ++ b .body) (six-bytes (headOf (b .kind) n))
 
-block-size : (b : Block) → length (blockOf b) ≡ 6 + length (b .body)
-unfolding blockOf bytes16 bytes32
+block-size : (b : Block) → length (blockBytes b) ≡ 6 + length (b .body)
+unfolding blockBytes bytes16 bytes32
 block-size b = length-append (bytes16 (b .kind) ++ bytes32 (6 + length (b .body))) (b .body)
 
 block-whole :
     (part held n : ℕ) (store : List ℕ) (b : Block)
     → Known b
-    → held + length (blockOf b) ≤ length store
-    → walk (state (waiting part held 0 0) store) n (blockOf b)
-    ≡ took (n + length (blockOf b)) (settled (partAfter part (b .kind)) (held + length (blockOf b)) (held + length (blockOf b)) (patch store held (blockOf b)))
+    → held + length (blockBytes b) ≤ length store
+    → walk (state (waiting part held 0 0) store) n (blockBytes b)
+    ≡ took (n + length (blockBytes b)) (settled (partAfter part (b .kind)) (held + length (blockBytes b)) (held + length (blockBytes b)) (patch store held (blockBytes b)))
 block-whole p h n store b k l =
     let size = 6 + length (b .body) in
     let d = headOf (b .kind) size in
     let z = block-size b in
     let fits : Fits h (b .kind) size (length store) = record { low = k .low; high = k .high; least = omega arith; small = k .small; fits = omega arith } in
-    let x : (n + 6) + length (b .body) ≡ n + length (blockOf b) = omega arith in
-    let y : (h + 6) + length (b .body) ≡ h + length (blockOf b) = omega arith in
-    let w : h + size ≡ h + length (blockOf b) = omega arith in
+    let x : (n + 6) + length (b .body) ≡ n + length (blockBytes b) = omega arith in
+    let y : (h + 6) + length (b .body) ≡ h + length (blockBytes b) = omega arith in
+    let w : h + size ≡ h + length (blockBytes b) = omega arith in
     ap (walk (state (waiting p h 0 0) store) n) (block-is b k)
     ∙ block-begun p h (b .kind) size n store (b .body) fits (omega arith)
     ∙ ap₂ (λ (u : ℕ) (v : List ℕ). took u (settled (partAfter p (b .kind)) ((h + 6) + length (b .body)) (h + size) v)) x
     (patch-next _ _ store (headBytes 6 d) (b .body) h (h + 6) refl refl (ap (λ (u : ℕ). h + u) (sym (bytes-length 6 d))) (omega arith)
     ∙ ap (patch store h) (sym (block-is b k)))
-    ∙ ap₂ (λ (u v : ℕ). took (n + length (blockOf b)) (settled (partAfter p (b .kind)) u v (patch store h (blockOf b)))) y w
+    ∙ ap₂ (λ (u v : ℕ). took (n + length (blockBytes b)) (settled (partAfter p (b .kind)) u v (patch store h (blockBytes b)))) y w
 
 -- ---- a block alone, and a whole frame
 
@@ -238,13 +238,13 @@ pub alone-handed :
     (store more : List ℕ) (b : Block)
     → Known b
     → (b .kind ≡ 0xCCC4 → ⊥)
-    → length (blockOf b) ≤ length store
-    → collectOf (state fresh store) (blockOf b ++ more)
-    ≡ took (length (blockOf b)) (step fresh (patch store 0 (blockOf b)) (leb (b .kind) 0xCCC3 ⇒ Header (length (blockOf b)) ∣ Frame (length (blockOf b))))
+    → length (blockBytes b) ≤ length store
+    → collectOf (state fresh store) (blockBytes b ++ more)
+    ≡ took (length (blockBytes b)) (step fresh (patch store 0 (blockBytes b)) (leb (b .kind) 0xCCC3 ⇒ Header (length (blockBytes b)) ∣ Frame (length (blockBytes b))))
 alone-handed store more b k z l =
-    let n = length (blockOf b) in
-    let out = patch store 0 (blockOf b) in
-    handed-whole store out (blockOf b) more _ (hands-alone (leb (b .kind) 0xCCC3) n)
+    let n = length (blockBytes b) in
+    let out = patch store 0 (blockBytes b) in
+    handed-whole store out (blockBytes b) more _ (hands-alone (leb (b .kind) 0xCCC3) n)
     (block-whole 0 0 0 store b k (omega arith)
     ∙ ap (λ (x : ℕ). took x (settled (partAfter 0 (b .kind)) x x out)) (zero-add n)
     ∙ ap (took n) (ap (λ (x : ℕ). settled x n n out) (part-alone (b .kind) z) ∙ settled-alone (leb (b .kind) 0xCCC3) n out))
@@ -253,13 +253,13 @@ inner-block :
     (held n : ℕ) (store : List ℕ) (b : Block)
     → Known b
     → (b .kind ≡ 0xCCC5 → ⊥)
-    → held + length (blockOf b) ≤ length store
-    → walk (state (waiting 3 held 0 0) store) n (blockOf b)
-    ≡ took (n + length (blockOf b)) (step (waiting 3 (held + length (blockOf b)) 0 0) (patch store held (blockOf b)) More)
+    → held + length (blockBytes b) ≤ length store
+    → walk (state (waiting 3 held 0 0) store) n (blockBytes b)
+    ≡ took (n + length (blockBytes b)) (step (waiting 3 (held + length (blockBytes b)) 0 0) (patch store held (blockBytes b)) More)
 inner-block h n store b k z l =
     block-whole 3 h n store b k l
-    ∙ ap (took (n + length (blockOf b)))
-    (settled-waits (partAfter 3 (b .kind)) _ (h + length (blockOf b)) (patch store h (blockOf b)) (omega arith) (part-inner (b .kind) z))
+    ∙ ap (took (n + length (blockBytes b)))
+    (settled-waits (partAfter 3 (b .kind)) _ (h + length (blockBytes b)) (patch store h (blockBytes b)) (omega arith) (part-inner (b .kind) z))
 
 inner-blocks :
     (held n : ℕ) (store : List ℕ) (bs : List Block)
@@ -273,18 +273,18 @@ inner-blocks h n store [] i l =
     ∙ ap₂ (λ (x y : ℕ). took x (step (waiting 3 y 0 0) store More)) (sym (add-zero n)) (sym (add-zero h))
     ∙ ap (λ (x : List ℕ). took (n + 0) (step (waiting 3 (h + 0) 0 0) x More)) (patch-none store h)
 inner-blocks h n store (b ∷ bs) i l =
-    let u = length (blockOf b) in
+    let u = length (blockBytes b) in
     let v = length (blocksOf bs) in
-    let w = length-append (blockOf b) (blocksOf bs) in
-    let one = patch store h (blockOf b) in
-    let k = patch-length store (blockOf b) h (omega arith) in
-    let x : (n + u) + v ≡ n + length (blockOf b ++ blocksOf bs) = omega arith in
-    let y : (h + u) + v ≡ h + length (blockOf b ++ blocksOf bs) = omega arith in
-    walk-through (state (waiting 3 h 0 0) store) _ n _ _ (blockOf b) (blocksOf bs) (inner-block h n store b (i .0) (i .1 .0) (omega arith))
+    let w = length-append (blockBytes b) (blocksOf bs) in
+    let one = patch store h (blockBytes b) in
+    let k = patch-length store (blockBytes b) h (omega arith) in
+    let x : (n + u) + v ≡ n + length (blockBytes b ++ blocksOf bs) = omega arith in
+    let y : (h + u) + v ≡ h + length (blockBytes b ++ blocksOf bs) = omega arith in
+    walk-through (state (waiting 3 h 0 0) store) _ n _ _ (blockBytes b) (blocksOf bs) (inner-block h n store b (i .0) (i .1 .0) (omega arith))
     ∙ inner-blocks (h + u) (n + u) one bs (i .1 .1) (omega arith)
     ∙ ap₂ (λ (p q : ℕ). took p (step (waiting 3 q 0 0) (patch one (h + u) (blocksOf bs)) More)) x y
-    ∙ ap (λ (p : List ℕ). took (n + length (blockOf b ++ blocksOf bs)) (step (waiting 3 (h + length (blockOf b ++ blocksOf bs)) 0 0) p More))
-    (patch-next one _ store (blockOf b) (blocksOf bs) h (h + u) refl refl refl (omega arith))
+    ∙ ap (λ (p : List ℕ). took (n + length (blockBytes b ++ blocksOf bs)) (step (waiting 3 (h + length (blockBytes b ++ blocksOf bs)) 0 0) p More))
+    (patch-next one _ store (blockBytes b) (blocksOf bs) h (h + u) refl refl refl (omega arith))
 
 abbrev begins : List ℕ → Block
 begins body = record { kind = 0xCCC4; body = body }
@@ -298,14 +298,14 @@ known k body l m s = record { low = l; high = m; small = s }
 begin-walk :
     (store first : List ℕ)
     → 6 + length first < 4294967296
-    → length (blockOf (begins first)) ≤ length store
-    → walk (state fresh store) 0 (blockOf (begins first))
-    ≡ took (length (blockOf (begins first))) (step (waiting 3 (length (blockOf (begins first))) 0 0) (patch store 0 (blockOf (begins first))) More)
+    → length (blockBytes (begins first)) ≤ length store
+    → walk (state fresh store) 0 (blockBytes (begins first))
+    ≡ took (length (blockBytes (begins first))) (step (waiting 3 (length (blockBytes (begins first))) 0 0) (patch store 0 (blockBytes (begins first))) More)
 unfolding partAfter _⇒_∣_
 begin-walk store first s l =
     let b = begins first in
-    let n = length (blockOf b) in
-    let out = patch store 0 (blockOf b) in
+    let n = length (blockBytes b) in
+    let out = patch store 0 (blockBytes b) in
     block-whole 0 0 0 store b (known 0xCCC4 first (omega arith) (omega arith) s) (omega arith)
     ∙ ap (λ (x : ℕ). took x (settled 3 x x out)) (zero-add n)
     ∙ ap (took n) (settled-waits 3 n n out (omega arith) refl)
@@ -313,28 +313,28 @@ begin-walk store first s l =
 end-walk :
     (held : ℕ) (store last : List ℕ)
     → 6 + length last < 4294967296
-    → held + length (blockOf (closes last)) ≤ length store
-    → walk (state (waiting 3 held 0 0) store) held (blockOf (closes last))
-    ≡ took (held + length (blockOf (closes last))) (step fresh (patch store held (blockOf (closes last))) (Frame (held + length (blockOf (closes last)))))
+    → held + length (blockBytes (closes last)) ≤ length store
+    → walk (state (waiting 3 held 0 0) store) held (blockBytes (closes last))
+    ≡ took (held + length (blockBytes (closes last))) (step fresh (patch store held (blockBytes (closes last))) (Frame (held + length (blockBytes (closes last)))))
 unfolding partAfter _⇒_∣_
 end-walk h store last s l =
     let b = closes last in
-    let n = h + length (blockOf b) in
-    block-whole 3 h h store b (known 0xCCC5 last (omega arith) (omega arith) s) l ∙ ap (took n) (settled-end n (patch store h (blockOf b)))
+    let n = h + length (blockBytes b) in
+    block-whole 3 h h store b (known 0xCCC5 last (omega arith) (omega arith) s) l ∙ ap (took n) (settled-end n (patch store h (blockBytes b)))
 
 pub frame-handed :
     (store more first last : List ℕ) (bs : List Block)
     → 6 + length first < 4294967296
     → Inner bs
     → 6 + length last < 4294967296
-    → length (frameOf first bs last) ≤ length store
-    → collectOf (state fresh store) (frameOf first bs last ++ more)
-    ≡ took (length (frameOf first bs last)) (step fresh (patch store 0 (frameOf first bs last)) (Frame (length (frameOf first bs last))))
-unfolding frameOf
+    → length (frameBytes first bs last) ≤ length store
+    → collectOf (state fresh store) (frameBytes first bs last ++ more)
+    ≡ took (length (frameBytes first bs last)) (step fresh (patch store 0 (frameBytes first bs last)) (Frame (length (frameBytes first bs last))))
+unfolding frameBytes
 frame-handed store more first last bs f i g l =
-    let b = blockOf (begins first) in
+    let b = blockBytes (begins first) in
     let m = blocksOf bs in
-    let e = blockOf (closes last) in
+    let e = blockBytes (closes last) in
     let u = length-append b (m ++ e) in
     let v = length-append m e in
     let one = patch store 0 b in

@@ -16,7 +16,7 @@ use Rattle.code.specs.laws.OneCode.{read-once}
 use Rattle.code_write.specs.Write.{bytesOf, writeFault}
 use Rattle.frame.specs.Frame.{frameReadingNumber, frameReadingTiles}
 use Rattle.frame.specs.laws.Glass.{one-frame}
-use Rattle.frame_write.specs.Encode.{frameP}
+use Rattle.frame_write.specs.Encode.{pictureFrame}
 use Rattle.frame_write.specs.FrameWrite.{argFault, sendFault}
 use Rattle.panel.specs.Edge.{ReadFrameCall, WriterCall, WriteComponentCall, WriteFrameCall}
 use Rattle.demands.specs.Calls.{ReadHeader, sessionAfter, ReadComponent, WriteComponent, WriteHeaders, WriteFrame}
@@ -90,7 +90,7 @@ as-send c = record {
   list′ = c .list′;
   scratch′ = c .scratch′;
   out′ = c .out′;
-  answer = answerOf (sendNumber c) (frameP (c .index) (c .width) (c .height) (c .mode) (c .quant) (c .pixels));
+  answer = answerOf (sendNumber c) (pictureFrame (c .index) (c .width) (c .height) (c .mode) (c .quant) (c .pixels));
   promise = record { wrote = as-wrote _ _ (c .out) (c .out′) (c .size) (c .number) (c .promise .wrote); first = c .promise .first; second = c .promise .second };
 }
 

@@ -10,7 +10,7 @@ use lib.Dec.{eqb, leb}
 use borrow.Author.Tests.{eqb-true, leb-true, eq-eqb, ne-eqb}
 use Rattle.whole.specs.Row.{_⨟_}
 use Rattle.whole.specs.laws.Row.{held, both, stops, goes-on, passes, fails, case-yes, case-no, ne-is}
-use Rattle.frame_layout.specs.Reader.{beginFault, regionFault, endFault, frameFault, tilesFault, sizeAt, setPlace, endPlace, quantCount, quantAt, rectCount, tileCount, dataOf, tilesIn, frameTiles}
+use Rattle.frame_layout.specs.Reader.{beginFault, regionFault, endFault, frameFault, tilesFault, sizeAt, setPlace, endPlace, quantCount, setAt, rectCount, tileCount, dataOf, tilesIn, frameTiles}
 use Rattle.frame_blocks.specs.Blocks.{setFront, rectsOf, RegionGood}
 use Rattle.frame_blocks.specs.laws.Blocks.{begin-good, region-good}
 use Rattle.frame_blocks.specs.Judged.{judged, inSet, SetSound}
@@ -213,8 +213,8 @@ module _ (w h et : ℕ) (m : List ℕ) (g : MessageGood w h et m) (size : ℕ) (
 
   pub drawn-picture :
       (pic pic′ : List ℕ) →
-      pic′ ≡ tilesDrawn (rectsOf m 14) (rectCount m 14) (tileWord et (quantAt m (14 + size))) w h (tilesIn (dataOf m (14 + size)) (tileCount m (14 + size)) 0) pic →
+      pic′ ≡ tilesDrawn (rectsOf m 14) (rectCount m 14) (tileWord et (setAt m (14 + size))) w h (tilesIn (dataOf m (14 + size)) (tileCount m (14 + size)) 0) pic →
       pic′ ≡ framed et w h m pic
   unfolding framed frameTiles
   drawn-picture pic pic′ e =
-      e ∙ ap (λ (k : ℕ). tilesDrawn (rectsOf m 14) (rectCount m 14) (tileWord et (quantAt m k)) w h (tilesIn (dataOf m k) (tileCount m k) 0) pic) at-place
+      e ∙ ap (λ (k : ℕ). tilesDrawn (rectsOf m 14) (rectCount m 14) (tileWord et (setAt m k)) w h (tilesIn (dataOf m k) (tileCount m k) 0) pic) at-place

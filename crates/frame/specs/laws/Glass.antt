@@ -12,7 +12,7 @@ use lib.Dec.{eqb}
 use borrow.Author.Tests.{eqb-true, eq-eqb, ne-eqb}
 use Rattle.whole.specs.Row.{_⇒_∣_}
 use Rattle.whole.specs.laws.Row.{passes, fails, both}
-use Rattle.frame_layout.specs.Reader.{frameTiles, setPlace, tileCount, rectCount, quantAt, frameFault}
+use Rattle.frame_layout.specs.Reader.{frameTiles, setPlace, tileCount, rectCount, setAt, frameFault}
 use Rattle.frame_blocks.specs.Blocks.{rectsOf}
 use Rattle.frame_blocks.specs.Judged.{judged}
 use Rattle.frame_draw.specs.Draw.{inRegion}
@@ -80,26 +80,26 @@ module _ (s : Session) (m pic : List ℕ) (y cb cr tmp : List ℤ) (pic′ : Lis
       frameReadingNumber r ≡ 0 → (px py : ℕ) → px < s .width → py < s .height →
       getD pic′ (py * s .width + px) 0
       ≡ (inRegion (rectsOf m 14) (rectCount m 14) px py
-      ⇒ wordIn (tileWord (s .mode) (quantAt m (setPlace m))) px py (lastTile (frameTiles m) px py) (getD pic (py * s .width + px) 0)
+      ⇒ wordIn (tileWord (s .mode) (setAt m (setPlace m))) px py (lastTile (frameTiles m) px py) (getD pic (py * s .width + px) 0)
       ∣ getD pic (py * s .width + px) 0)
   unfolding framed
   shown-pixel k px py in-w in-h =
       let a = accepted k in
       ap (λ (p : List ℕ). getD p (py * s .width + px) 0) (a .drawn)
-      ∙ tiles-pixel (rectsOf m 14) (rectCount m 14) (tileWord (s .mode) (quantAt m (setPlace m))) (s .width) (s .height) (frameTiles m) pic px py in-w in-h (a .call .room)
+      ∙ tiles-pixel (rectsOf m 14) (rectCount m 14) (tileWord (s .mode) (setAt m (setPlace m))) (s .width) (s .height) (frameTiles m) pic px py in-w in-h (a .call .room)
 
   -- every word past it
   pub shown-past : frameReadingNumber r ≡ 0 → (i : ℕ) → s .height * s .width ≤ i → getD pic′ i 0 ≡ getD pic i 0
   unfolding framed
   shown-past k i l =
       ap (λ (p : List ℕ). getD p i 0) (accepted k .drawn)
-      ∙ tiles-past (rectsOf m 14) (rectCount m 14) (tileWord (s .mode) (quantAt m (setPlace m))) (s .width) (s .height) (frameTiles m) pic i l
+      ∙ tiles-past (rectsOf m 14) (rectCount m 14) (tileWord (s .mode) (setAt m (setPlace m))) (s .width) (s .height) (frameTiles m) pic i l
 
   pub shown-length : frameReadingNumber r ≡ 0 → length pic′ ≡ length pic
   unfolding framed
   shown-length k =
       ap length (accepted k .drawn)
-      ∙ tiles-length (rectsOf m 14) (rectCount m 14) (tileWord (s .mode) (quantAt m (setPlace m))) (s .width) (s .height) (frameTiles m) pic
+      ∙ tiles-length (rectsOf m 14) (rectCount m 14) (tileWord (s .mode) (setAt m (setPlace m))) (s .width) (s .height) (frameTiles m) pic
 
 -- one answer and one content of the lent memory
 pub record SameFrame (pic pic′ : List ℕ) (y cb cr tmp y′ cb′ cr′ tmp′ : List ℤ) (a b : FrameReading) : Type 0 where

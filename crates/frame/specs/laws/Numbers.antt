@@ -13,7 +13,7 @@ use Rattle.whole.specs.laws.Among.{numbers, each, among-then, among-all, among-
 use Rattle.code.specs.laws.Numbers.{full-fault-among}
 use Rattle.bands.specs.Bands.{sumsFault, scaleFault}
 use Rattle.tile_back.specs.Component.{componentFault}
-use Rattle.frame_layout.specs.Reader.{headJudge, fixedHead, leastHead, codecJudge, beginJudge, regionJudge, lastJudge, setJudge, bodyJudge, sizeAt}
+use Rattle.frame_layout.specs.Reader.{blockJudge, fixedHead, leastHead, codecJudge, beginJudge, regionJudge, lastJudge, setJudge, bodyJudge, sizeAt}
 use Rattle.frame_layout.specs.Reader.{codecFault, beginFault, regionFault, halvesFault, quantsFault, codesFault, tileFault, tilesFault, setFault, endFault, frameFault}
 use Rattle.frame_blocks.specs.Judged.{judged}
 use Rattle.session.specs.declared.Session.{Session}
@@ -37,8 +37,8 @@ read-among mode q s = among-then _ _ (among-all messageNumbers (full-fault-among
 
 -- ---- the blocks
 
-head-among : (kind is : ℕ) (t : Bool) (size room : ℕ) → OfMessage (headJudge kind is t size room)
-unfolding headJudge among
+head-among : (kind is : ℕ) (t : Bool) (size room : ℕ) → OfMessage (blockJudge kind is t size room)
+unfolding blockJudge among
 head-among kind is t size room = search numbers
 
 fixed-among : (kind size : ℕ) (m : List ℕ) (at : ℕ) → OfMessage (fixedHead kind size m at)

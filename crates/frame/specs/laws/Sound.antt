@@ -13,8 +13,8 @@ use lib.IntN.{ℤ}
 use lib.ListN.{length}
 use Rattle.whole.specs.laws.Row.{both}
 use Rattle.frame_layout.specs.Bytes.{Tile}
-use Rattle.frame_layout.specs.Reader.{tileFault, tilesFault, tilesIn, frameTiles, sizeAt, setPlace, quantAt, quantCount, tileCount, dataOf}
-use Rattle.frame_blocks.specs.Tiles.{indexOf, codeOf}
+use Rattle.frame_layout.specs.Reader.{tileFault, tilesFault, tilesIn, frameTiles, sizeAt, setPlace, setAt, quantCount, tileCount, dataOf}
+use Rattle.frame_blocks.specs.Tiles.{indexOf, codePart}
 use Rattle.frame_blocks.specs.laws.Tiles.{sound-part, tile-sound}
 use Rattle.frame_blocks.specs.Judged.{judged, inSet}
 use Rattle.session.specs.declared.Session.{Session}
@@ -26,18 +26,18 @@ use Rattle.frame.specs.laws.Glass.{accepted}
 -- every tile of a walk without a fault is sound in its three components
 walked-sound :
     (judge : ℕ → List ℕ → ℕ) (w h q : ℕ) (d : List ℕ) (n at : ℕ) → at ≤ length d → 0 ≡ tilesFault judge w h q d n at →
-    (t : Tile) → List·Memᴰ t (tilesIn d n at) → (k : ℕ) → k < 3 → 0 ≡ judge (indexOf t k) (codeOf t k)
+    (t : Tile) → List·Memᴰ t (tilesIn d n at) → (k : ℕ) → k < 3 → 0 ≡ judge (indexOf t k) (codePart t k)
 unfolding tilesFault tilesIn
 walked-sound judge w h q d zero at l e t m k b = absurd (List·Memᴰ·not-nil m)
 walked-sound judge w h q d (suc n) at l e t m k b =
     let p = both (tileFault judge w h q d at) (tilesFault judge w h q d n (at + sizeAt d at)) e in
     let s = tile-sound judge w h q d at l (p .0) in
-    ⊎-elim (λ x. subst (λ (u : Tile). 0 ≡ judge (indexOf u k) (codeOf u k)) (sym x) (sound-part judge q d at k s b))
+    ⊎-elim (λ x. subst (λ (u : Tile). 0 ≡ judge (indexOf u k) (codePart u k)) (sym x) (sound-part judge q d at k s b))
     (λ x. walked-sound judge w h q d n (at + sizeAt d at) (s .good .whole .there) (p .1) t x k b) (List·Memᴰ·cases-cons m)
 
 -- component k (0, 1, 2: Y, Cb, Cr) of a listed tile, by the number that the check pass and any reader of it must give: its code, LL3's sums, scaling
 abbrev pub componentNumber : Session → List ℕ → Tile → ℕ → ℕ
-componentNumber s m t k = judged (s .mode) (quantAt m (setPlace m) (indexOf t k)) (codeOf t k)
+componentNumber s m t k = judged (s .mode) (setAt m (setPlace m) (indexOf t k)) (codePart t k)
 
 -- THE STATEMENT: a frame call that answers 0 has drawn tiles none of whose components can be refused
 pub drawn-sound :

@@ -10,14 +10,14 @@ use lib.Dec.{leb, eqb}
 use borrow.Author.Tests.{leb-true, eqb-true}
 use Rattle.whole.specs.Row.{_⨟_}
 use Rattle.whole.specs.laws.Row.{held, both, stops, goes-on}
-use Rattle.frame_layout.specs.Reader.{headJudge, sizeAt, fixedHead, leastHead, codecFault, beginFault, regionJudge, regionFault, rectCount, setJudge, setFault, halvesFault, quantsFault, quantCount, quantAt, tileCount, dataOf, tilesFault}
+use Rattle.frame_layout.specs.Reader.{blockJudge, sizeAt, fixedHead, leastHead, codecFault, beginFault, regionJudge, regionFault, rectCount, setJudge, setFault, halvesFault, quantsFault, quantCount, setAt, tileCount, dataOf, tilesFault}
 use Rattle.frame_blocks.specs.Blocks.{setFields, setFront, RegionGood, SetGood}
 
 not-0 : (k : ℕ) → 0 ≡ suc k → ⊥
 not-0 k e = omega arith
 
-pub head-good : (kind is : ℕ) (t : Bool) (size room : ℕ) → 0 ≡ headJudge kind is t size room → (t ≡ true) × (size ≤ room)
-unfolding headJudge
+pub head-good : (kind is : ℕ) (t : Bool) (size room : ℕ) → 0 ≡ blockJudge kind is t size room → (t ≡ true) × (size ≤ room)
+unfolding blockJudge
 head-good kind is t size room e =
     let a = held _ _ _ _ (not-0 2) e .1 in
     let b = held _ _ _ _ (not-0 3) a in
@@ -115,10 +115,10 @@ then-assoc (suc a) b c = refl
 pub set-goes-on :
     (comp : ℕ → List ℕ → List ℕ → ℕ) (w h et : ℕ) (m : List ℕ) (at : ℕ) →
     setFault comp w h et m at
-    ≡ (setFront et m at ⨟ tilesFault (λ j code. comp et (quantAt m at j) code) w h (quantCount m at) (dataOf m at) (tileCount m at) 0)
+    ≡ (setFront et m at ⨟ tilesFault (λ j code. comp et (setAt m at j) code) w h (quantCount m at) (dataOf m at) (tileCount m at) 0)
 unfolding setFault setFront setFields
 set-goes-on comp w h et m at =
-    let t = tilesFault (λ j code. comp et (quantAt m at j) code) w h (quantCount m at) (dataOf m at) (tileCount m at) 0 in
+    let t = tilesFault (λ j code. comp et (setAt m at j) code) w h (quantCount m at) (dataOf m at) (tileCount m at) 0 in
     let s = setFields et m at in
     let q = quantsFault m (5 * quantCount m at) (at + 22) in
     ap (λ (z : ℕ). leastHead 0xCCC7 22 m at ⨟ (codecFault m at ⨟ z)) (then-assoc s q t)

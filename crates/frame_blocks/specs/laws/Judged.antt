@@ -7,7 +7,7 @@ use lib.ListN.{length, getD, take, drop, length-take, length-drop}
 use lib.Seq.{getD-take, getD-drop}
 use borrow.Author.Tests.{leb-true}
 use Rattle.whole.specs.laws.Row.{held}
-use Rattle.frame_layout.specs.Reader.{halvesFault, quantAt, quantCount, setFault, tilesFault, tileCount, dataOf}
+use Rattle.frame_layout.specs.Reader.{halvesFault, setAt, quantCount, setFault, tilesFault, tileCount, dataOf}
 use Rattle.frame_blocks.specs.Blocks.{setFront}
 use Rattle.frame_blocks.specs.laws.Blocks.{quants-each, set-good, set-goes-on}
 use Rattle.bands.specs.Bands.{quantOf, QuantGood}
@@ -43,8 +43,8 @@ module _ (m : List ℕ) (at : ℕ) (s : SetSound m at) (j : ℕ) (l : j < quantC
   set-fits = omega (arith, s .good .there, s .good .size)
 
   -- and its ten values are good
-  pub set-values : QuantGood (quantOf (quantAt m at j))
-  unfolding quantAt
+  pub set-values : QuantGood (quantOf (setAt m at j))
+  unfolding setAt
   set-values =
       let a = at + (22 + 5 * j) in
       let five = take 5 (drop a m) in
@@ -64,6 +64,6 @@ unfolding inSet
 set-fault w h et m at = set-goes-on judged w h et m at
 
 -- the set that was read, by the index that was read
-pub set-is : (m : List ℕ) (at j i : ℕ) (v : List ℕ) → v ≡ quantOf (take 5 (drop (at + (22 + 5 * j)) m)) → j ≡ i → v ≡ quantOf (quantAt m at i)
-unfolding quantAt
+pub set-is : (m : List ℕ) (at j i : ℕ) (v : List ℕ) → v ≡ quantOf (take 5 (drop (at + (22 + 5 * j)) m)) → j ≡ i → v ≡ quantOf (setAt m at i)
+unfolding setAt
 set-is m at j i v e x = e ∙ ap (λ (z : ℕ). quantOf (take 5 (drop (at + (22 + 5 * z)) m))) x

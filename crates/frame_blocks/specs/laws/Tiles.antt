@@ -14,7 +14,7 @@ use Rattle.session.specs.Header.{tilesOver}
 use Rattle.session.specs.laws.Header.{starts-in, starts-out}
 use Rattle.frame_layout.specs.Reader.{leastHead, bodyJudge, sizeAt, tileAt, codesFault, tileFault, tilesFault}
 use Rattle.frame_blocks.specs.laws.Blocks.{least-good, then-assoc}
-use Rattle.frame_blocks.specs.Tiles.{tileFields, tileFront, codeOf, indexOf, partStart, TileWhole, TileGood, TileSound}
+use Rattle.frame_blocks.specs.Tiles.{tileFields, tileFront, codePart, indexOf, partStart, TileWhole, TileGood, TileSound}
 
 not-0 : (k : ℕ) → 0 ≡ suc k → ⊥
 not-0 k e = omega arith
@@ -50,8 +50,8 @@ part-fits d at (suc (suc zero)) g l = omega (arith, g .there, g .lengths)
 part-fits d at (suc (suc (suc k))) g l = absurd (omega arith)
 
 -- and it is the tile's own code
-pub part-is : (d : List ℕ) (at k : ℕ) → k < 3 → take (le16 d (at + (13 + 2 * k))) (drop (partStart d at k) d) ≡ codeOf (tileAt d at) k
-unfolding partStart _⇒_∣_ codeOf tileAt
+pub part-is : (d : List ℕ) (at k : ℕ) → k < 3 → take (le16 d (at + (13 + 2 * k))) (drop (partStart d at k) d) ≡ codePart (tileAt d at) k
+unfolding partStart _⇒_∣_ codePart tileAt
 part-is d at zero l = refl
 part-is d at (suc zero) l = refl
 part-is d at (suc (suc zero)) l = refl
@@ -72,8 +72,8 @@ index-below q d at (suc (suc zero)) g l = g .cr-index
 index-below q d at (suc (suc (suc k))) g l = absurd (omega arith)
 
 -- a sound tile's component by number
-pub sound-part : (judge : ℕ → List ℕ → ℕ) (q : ℕ) (d : List ℕ) (at k : ℕ) → TileSound judge q d at → k < 3 → 0 ≡ judge (indexOf (tileAt d at) k) (codeOf (tileAt d at) k)
-unfolding indexOf codeOf
+pub sound-part : (judge : ℕ → List ℕ → ℕ) (q : ℕ) (d : List ℕ) (at k : ℕ) → TileSound judge q d at → k < 3 → 0 ≡ judge (indexOf (tileAt d at) k) (codePart (tileAt d at) k)
+unfolding indexOf codePart
 sound-part judge q d at zero s l = s .y
 sound-part judge q d at (suc zero) s l = s .cb
 sound-part judge q d at (suc (suc zero)) s l = s .cr

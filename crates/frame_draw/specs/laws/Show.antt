@@ -6,14 +6,14 @@ use native.Mathlib.Omega.{arith}
 use lib.IntN.{ℤ}
 use lib.ListN.{length, length-take, length-drop}
 use Rattle.frame_layout.specs.Bytes.{Tile}
-use Rattle.frame_layout.specs.Reader.{tileAt, dataOf, tilesIn, sizeAt, quantAt, rectCount}
+use Rattle.frame_layout.specs.Reader.{tileAt, dataOf, tilesIn, sizeAt, setAt, rectCount}
 use Rattle.frame_blocks.specs.Blocks.{rectsOf, RegionGood}
 use Rattle.bands.specs.Bands.{quantOf}
 use Rattle.frame_draw.specs.Draw.{tileDrawn}
 use Rattle.frame_draw.specs.Shown.{tilesDrawn}
 use Rattle.tile_back.specs.Word.{Plane, wordAt}
 use Rattle.tile_back.specs.laws.Word.{samples-plane}
-use Rattle.frame_blocks.specs.Tiles.{indexOf, codeOf, TileSound}
+use Rattle.frame_blocks.specs.Tiles.{indexOf, codePart, TileSound}
 use Rattle.frame_blocks.specs.laws.Tiles.{sound-part}
 use Rattle.frame_blocks.specs.Judged.{judged, inSet}
 use Rattle.frame_draw.specs.Show.{Lists, Sampled, planeOf, tileWord}
@@ -24,10 +24,10 @@ lists-kept y cb cr tmp y′ cb′ cr′ tmp′ l a b c t = record { y-len = a �
 -- the samples of a sound component are a plane
 pub part-plane :
     (mode : ℕ) (m : List ℕ) (sp q : ℕ) (d : List ℕ) (at k : ℕ) (xs : List ℤ) → TileSound (inSet mode m sp) q d at → k < 3 →
-    xs ≡ planeOf mode (quantAt m sp) (tileAt d at) k → Plane xs
+    xs ≡ planeOf mode (setAt m sp) (tileAt d at) k → Plane xs
 unfolding planeOf inSet judged
 part-plane mode m sp q d at k xs s l e =
-    subst Plane (sym e) (samples-plane mode (quantOf (quantAt m sp (indexOf (tileAt d at) k))) (codeOf (tileAt d at) k) (sound-part (inSet mode m sp) q d at k s l))
+    subst Plane (sym e) (samples-plane mode (quantOf (setAt m sp (indexOf (tileAt d at) k))) (codePart (tileAt d at) k) (sound-part (inSet mode m sp) q d at k s l))
 
 -- a tile drawn in the region as it was taken from the message
 pub drawn-same :

@@ -11,7 +11,7 @@ use borrow.Author.Tests.{le-leb, eq-eqb}
 use Rattle.wire.specs.Le.{le16, le32, bytes16, bytes32}
 use Rattle.whole.specs.laws.Row.{passes}
 use Rattle.frame_layout.specs.Bytes.{Tile, tileOf, tilesOf, beginOf, regionOf, propsOf, quantBytes, setHead, endOf, frontOf, frameOf}
-use Rattle.frame_layout.specs.Reader.{sizeAt, codesFault, codecJudge, codecFault, beginJudge, beginFault, rectCount, regionJudge, lastJudge, regionFault, propsGood, setJudge, halvesFault, quantsFault, quantCount, tileCount, dataSize, quantAt, dataOf, tilesIn, setFault, endFault, setPlace, endPlace, frameFault, frameTiles}
+use Rattle.frame_layout.specs.Reader.{sizeAt, codesFault, codecJudge, codecFault, beginJudge, beginFault, rectCount, regionJudge, lastJudge, regionFault, propsGood, setJudge, halvesFault, quantsFault, quantCount, tileCount, dataSize, setAt, dataOf, tilesIn, setFault, endFault, setPlace, endPlace, frameFault, frameTiles}
 use Rattle.frame_layout.specs.laws.Here.{tile-length, tile-least, two-bytes, four-bytes, past, byte-in, le16-in, le32-in}
 use Rattle.frame_layout.specs.laws.Tiles.{none, least-none, fixed-none, Good, listed, tiles-walked}
 
@@ -65,16 +65,16 @@ set-none et size n bytes l c s =
     passes _ _ _ _ refl (passes _ _ _ _ refl (passes _ _ _ _ (sym (props-good et l)) (passes _ _ _ _ refl (passes _ _ _ _ (le-leb n 2048 c) (passes _ _ _ _ (eq-eqb size (22 + 5 * 1 + bytes) (omega arith)) refl)))))
 
 -- ten quantisers in order
-pub QuantGood : List ℕ → Type 0
-QuantGood q = (k : ℕ) → k < 10 → (6 ≤ getD q k 0) × (getD q k 0 ≤ 15)
+pub SetGood : List ℕ → Type 0
+SetGood q = (k : ℕ) → k < 10 → (6 ≤ getD q k 0) × (getD q k 0 ≤ 15)
 
 halves-none : (a b : ℕ) → (6 ≤ a) × (a ≤ 15) → (6 ≤ b) × (b ≤ 15) → 0 ≡ halvesFault (a + 16 * b)
 unfolding halvesFault
 halves-none a b p q =
     passes _ _ _ _ (le-leb 6 ((a + 16 * b) % 16) (omega arith)) (passes _ _ _ _ (le-leb 6 ((a + 16 * b) / 16) (omega arith)) (passes _ _ _ _ (le-leb ((a + 16 * b) / 16) 15 (omega arith)) refl))
 
-quants-none : (m q rest : List ℕ) → QuantGood q → drop 59 m ≡ quantBytes q ++ rest → 0 ≡ quantsFault m 5 59
-unfolding quantsFault quantBytes QuantGood
+quants-none : (m q rest : List ℕ) → SetGood q → drop 59 m ≡ quantBytes q ++ rest → 0 ≡ quantsFault m 5 59
+unfolding quantsFault quantBytes SetGood
 quants-none m q rest g e =
     none _ _ (rw (byte-in m _ 59 0 e) (halves-none _ _ (g 0 (omega arith)) (g 1 (omega arith))))
     (none _ _ (rw (byte-in m _ 59 1 e) (halves-none _ _ (g 2 (omega arith)) (g 3 (omega arith))))
@@ -90,8 +90,8 @@ end-none m at e l =
     none _ _ (fixed-none 0xCCC5 8 m at (omega arith) (ap (le16 m) (sym (add-zero at)) ∙ k) s (omega arith))
     (none _ _ (codec-none m at (byte-in m endOf at 6 e) (byte-in m endOf at 7 e)) (passes _ _ _ _ (eq-eqb (length m) (at + 8) l) refl))
 
-quant-0 : (m q rest : List ℕ) → drop 59 m ≡ quantBytes q ++ rest → quantAt m 37 0 ≡ quantBytes q
-unfolding quantAt quantBytes
+quant-0 : (m q rest : List ℕ) → drop 59 m ≡ quantBytes q ++ rest → setAt m 37 0 ≡ quantBytes q
+unfolding setAt quantBytes
 quant-0 m q rest e = ap (take 5) e
 
 pub length-behind : (D : List ℕ) → length (D ++ endOf) ≡ length D + 8
@@ -105,12 +105,12 @@ end-at : (k : ℕ) → 64 + k ≡ 37 + (27 + k)
 end-at k = omega arith
 
 -- what is asked of the picture that is written
-pub record Sent (comp : ℕ → List ℕ → List ℕ → ℕ) (w h et : ℕ) (q : List ℕ) (n : ℕ) (tile : ℕ → Tile) : Type 0 where
+pub record FrameSent (comp : ℕ → List ℕ → List ℕ → ℕ) (w h et : ℕ) (q : List ℕ) (n : ℕ) (tile : ℕ → Tile) : Type 0 where
   pub wide : w < 65536
   pub high : h < 65536
   pub mode : et < 16
   pub few : n ≤ 2048
-  pub quants : QuantGood q
+  pub quants : SetGood q
   pub tiles : (k : ℕ) → k < n → Good (λ (j : ℕ) (code : List ℕ). comp et (quantBytes q) code) w h 1 (tile k)
 
 -- what its frame is to a reader
@@ -139,8 +139,8 @@ region-none m w h et q n size rest f =
     (none _ _ (passes _ _ _ _ refl (passes _ _ _ _ refl (passes _ _ _ _ refl refl))) (passes _ _ _ _ refl (passes _ _ _ _ refl refl)))))
 
 -- the set that the reader finds by the number 0 is the one written
-recode : (comp : ℕ → List ℕ → List ℕ → ℕ) (w h et : ℕ) (m q : List ℕ) (t : Tile) → quantAt m 37 0 ≡ quantBytes q →
-    Good (λ (j : ℕ) (code : List ℕ). comp et (quantBytes q) code) w h 1 t → Good (λ (j : ℕ) (code : List ℕ). comp et (quantAt m 37 j) code) w h 1 t
+recode : (comp : ℕ → List ℕ → List ℕ → ℕ) (w h et : ℕ) (m q : List ℕ) (t : Tile) → setAt m 37 0 ≡ quantBytes q →
+    Good (λ (j : ℕ) (code : List ℕ). comp et (quantBytes q) code) w h 1 t → Good (λ (j : ℕ) (code : List ℕ). comp et (setAt m 37 j) code) w h 1 t
 unfolding codesFault
 recode comp w h et m q t e g = record {
   fits = g .fits;
@@ -152,20 +152,20 @@ recode comp w h et m q t e g = record {
   codes = rw (by (t .qy) (g .iy), by (t .qcb) (g .icb), by (t .qcr) (g .icr)) (g .codes);
 }
   where
-    by : (j : ℕ) → j < 1 → quantAt m 37 j ≡ quantBytes q
-    by j l = let z : j ≡ 0 = omega arith in ap (quantAt m 37) z ∙ e
+    by : (j : ℕ) → j < 1 → setAt m 37 j ≡ quantBytes q
+    by j l = let z : j ≡ 0 = omega arith in ap (setAt m 37) z ∙ e
 
 set-fault-none : (comp : ℕ → List ℕ → List ℕ → ℕ) (w h et : ℕ) (q : List ℕ) (n : ℕ) (tile : ℕ → Tile) (m rest : List ℕ) →
-    Sent comp w h et q n tile → Front m w h et q n (length (tilesOf tile n 0)) rest → rest ≡ tilesOf tile n 0 ++ endOf →
+    FrameSent comp w h et q n tile → Front m w h et q n (length (tilesOf tile n 0)) rest → rest ≡ tilesOf tile n 0 ++ endOf →
     (0 ≡ setFault comp w h et m 37) × (tilesIn (dataOf m 37) (tileCount m 37) 0 ≡ listed tile n 0)
 unfolding setFault sizeAt quantCount tileCount dataSize dataOf
 set-fault-none comp w h et q n tile m rest s f r =
     let b = f .set in
     let c = f .counts in
     let x = f .fixed in
-    let q0 : quantAt m 37 0 ≡ quantBytes q = quant-0 m q rest (f .quants) in
+    let q0 : setAt m 37 0 ≡ quantBytes q = quant-0 m q rest (f .quants) in
     let d : take (length (tilesOf tile n 0)) (drop 64 m) ≡ tilesOf tile n 0 = rw (f .behind, r) (take-append-seam (tilesOf tile n 0) endOf) in
-    let t = tiles-walked (λ (j : ℕ) (code : List ℕ). comp et (quantAt m 37 j) code) w h 1 tile n (λ k l. recode comp w h et m q (tile k) q0 (s .tiles k l))
+    let t = tiles-walked (λ (j : ℕ) (code : List ℕ). comp et (setAt m 37 j) code) w h 1 tile n (λ k l. recode comp w h et m q (tile k) q0 (s .tiles k l))
     (tilesOf tile n 0) n 0 0 (omega arith) (omega arith) refl in
     let long : length rest ≡ length (tilesOf tile n 0) + 8 = rw r (length-behind (tilesOf tile n 0)) in (
       none _ _ (least-none 0xCCC7 22 m 37 (omega arith) (b .0) (omega (arith, b .1 .0)) (omega (arith, f .long, b .1 .0, long)))
@@ -189,13 +189,13 @@ tiles-small judge w h q tile N good (suc n) i s =
     let b = tile-least (tile i) f in
     omega arith
 
-pub sent-small : (comp : ℕ → List ℕ → List ℕ → ℕ) (w h et : ℕ) (q : List ℕ) (n : ℕ) (tile : ℕ → Tile) → Sent comp w h et q n tile → 27 + length (tilesOf tile n 0) < 4294967296
+pub sent-small : (comp : ℕ → List ℕ → List ℕ → ℕ) (w h et : ℕ) (q : List ℕ) (n : ℕ) (tile : ℕ → Tile) → FrameSent comp w h et q n tile → 27 + length (tilesOf tile n 0) < 4294967296
 sent-small comp w h et q n tile s =
     let a = tiles-small _ _ _ _ tile n (s .tiles) n 0 (omega arith) in
     let b = s .few in
     omega arith
 
-pub read-back : (comp : ℕ → List ℕ → List ℕ → ℕ) (idx w h et : ℕ) (q : List ℕ) (n : ℕ) (tile : ℕ → Tile) → Sent comp w h et q n tile →
+pub read-back : (comp : ℕ → List ℕ → List ℕ → ℕ) (idx w h et : ℕ) (q : List ℕ) (n : ℕ) (tile : ℕ → Tile) → FrameSent comp w h et q n tile →
     Taken comp w h et n tile (frameOf idx w h et q n tile)
 unfolding frameOf frameFault frameTiles setPlace endPlace tileCount rectCount sizeAt
 read-back comp idx w h et q n tile s =
@@ -214,14 +214,14 @@ read-back comp idx w h et q n tile s =
       rect = f .rect;
     }
 
-pub quant-at : (q : List ℕ) → QuantGood q → (k : ℕ) → k < 10 → (6 ≤ getD q k 0) × (getD q k 0 ≤ 15)
-unfolding QuantGood
+pub quant-at : (q : List ℕ) → SetGood q → (k : ℕ) → k < 10 → (6 ≤ getD q k 0) × (getD q k 0 ≤ 15)
+unfolding SetGood
 quant-at q g k l = g k l
 
 -- ten numbers from 6 to 15 are such a set
 pub quants-good : (a b c d e f g h i j : ℕ) → (6 ≤ a) × (a ≤ 15) → (6 ≤ b) × (b ≤ 15) → (6 ≤ c) × (c ≤ 15) → (6 ≤ d) × (d ≤ 15) → (6 ≤ e) × (e ≤ 15) →
-    (6 ≤ f) × (f ≤ 15) → (6 ≤ g) × (g ≤ 15) → (6 ≤ h) × (h ≤ 15) → (6 ≤ i) × (i ≤ 15) → (6 ≤ j) × (j ≤ 15) → QuantGood (a ∷ b ∷ c ∷ d ∷ e ∷ f ∷ g ∷ h ∷ i ∷ j ∷ [])
-unfolding QuantGood
+    (6 ≤ f) × (f ≤ 15) → (6 ≤ g) × (g ≤ 15) → (6 ≤ h) × (h ≤ 15) → (6 ≤ i) × (i ≤ 15) → (6 ≤ j) × (j ≤ 15) → SetGood (a ∷ b ∷ c ∷ d ∷ e ∷ f ∷ g ∷ h ∷ i ∷ j ∷ [])
+unfolding SetGood
 quants-good a b c d e f g h i j pa pb pc pd pe pf pg ph pi pj zero l = pa
 quants-good a b c d e f g h i j pa pb pc pd pe pf pg ph pi pj (suc zero) l = pb
 quants-good a b c d e f g h i j pa pb pc pd pe pf pg ph pi pj (suc (suc zero)) l = pc

@@ -10,15 +10,15 @@ use Rattle.wire.specs.Le.{le16}
 use Rattle.whole.specs.Row.{_⨟_}
 use Rattle.whole.specs.laws.Row.{rows, passes, goes-on}
 use Rattle.frame_layout.specs.Bytes.{Tile, tileLen, tilesOf}
-use Rattle.frame_layout.specs.Reader.{headJudge, sizeAt, fixedHead, leastHead, bodyJudge, tileAt, codesFault, tileFault, tilesFault, tilesIn}
+use Rattle.frame_layout.specs.Reader.{blockJudge, sizeAt, fixedHead, leastHead, bodyJudge, tileAt, codesFault, tileFault, tilesFault, tilesIn}
 use Rattle.frame_layout.specs.laws.Here.{Fits, TileHere, tile-here}
 
 -- no fault in two parts
 pub none : (n b : ℕ) → 0 ≡ n → 0 ≡ b → 0 ≡ (n ⨟ b)
 none n b p q = goes-on n b 0 (sym p) q
 
-pub head-none : (kind is : ℕ) (b : Bool) (size room : ℕ) → is ≡ kind → b ≡ true → size ≤ room → 0 ≡ headJudge kind is b size room
-unfolding headJudge
+pub head-none : (kind is : ℕ) (b : Bool) (size room : ℕ) → is ≡ kind → b ≡ true → size ≤ room → 0 ≡ blockJudge kind is b size room
+unfolding blockJudge
 head-none kind is b size room e h l = search rows
 
 pub least-none : (kind least : ℕ) (m : List ℕ) (at : ℕ) → 6 ≤ least → le16 m at ≡ kind → least ≤ sizeAt m at → sizeAt m at ≤ length m - at → 0 ≡ leastHead kind least m at

@@ -11,7 +11,7 @@ use borrow.Author.Tests.{le-leb}
 use Rattle.whole.specs.Row.{_⇒_∣_}
 use Rattle.whole.specs.laws.Row.{passes, goes-on}
 use Rattle.whole.specs.laws.Near.{Near, sub-near, wide-near}
-use Rattle.whole.specs.Tab.{at, tab}
+use Rattle.whole.specs.Tab.{at, table}
 use Rattle.whole.specs.laws.Tab.{AllNear, tab-near, length-tab, at-tab}
 use Rattle.bands.specs.Bands.{QuantGood, bandOf, ll3, sumsOf, sumsFault, summed, scaleAt, scaleFault, rangeFault, coefficientsFault}
 use Rattle.bands.specs.laws.Band.{band-below}
@@ -23,7 +23,7 @@ use Rattle.wave_forth.specs.laws.Forth.{forth-near}
 use Rattle.wire.specs.laws.Mode.{is-1, is-4}
 use Rattle.code_write.specs.Write.{bytesOf}
 use Rattle.code.specs.Cases.{first}
-use Rattle.code_write.specs.Cases.{Sent}
+use Rattle.code_write.specs.Cases.{CodeSent}
 use Rattle.code_write.specs.laws.Cases.{write-cases}
 use Rattle.tile_forth.specs.TileForth.{componentOf, bytesAt, sampleAt, roundedOf}
 use Rattle.frame_pieces.specs.Parts.{colsOf, tilesNo}
@@ -83,14 +83,14 @@ diff-0 f n (suc i) = sub-near (n (suc i)) (n i)
 rounded-0 : (xs : List ℤ) → AllNear 0 xs → AllNear 0 (roundedBy sixes xs)
 unfolding roundedBy differences
 rounded-0 xs n =
-    let T = tab 4096 (roundAt sixes (at xs)) in
+    let T = table 4096 (roundAt sixes (at xs)) in
     let t = tab-near 4096 (roundAt sixes (at xs)) (λ k. none _ (round-0 xs k n)) in
-    seam-near T (tab 64 (diffAt (ll3 T))) (length-tab 4096 _) (length-tab 64 _) t (λ i h. subst (Near 0) (sym (at-tab 64 (diffAt (ll3 T)) i h)) (diff-0 (ll3 T) (λ k. t .all (4032 + k)) i))
+    seam-near T (table 64 (diffAt (ll3 T))) (length-tab 4096 _) (length-tab 64 _) t (λ i h. subst (Near 0) (sym (at-tab 64 (diffAt (ll3 T)) i h)) (diff-0 (ll3 T) (λ k. t .all (4032 + k)) i))
 
 list-0 : (c k : ℕ) → c < 3 → AllNear 0 (listOf grey 1 1 sixes k c)
 unfolding listOf roundedOf
 list-0 c k h =
-    rounded-0 _ (forth-near (tab 4096 (sampleAt grey 1 1 (k % colsOf 1) (k / colsOf 1) c)) (tab-near 4096 _ (λ i. none _ (sample-0 c (k % colsOf 1) (k / colsOf 1) i h))))
+    rounded-0 _ (forth-near (table 4096 (sampleAt grey 1 1 (k % colsOf 1) (k / colsOf 1) c)) (tab-near 4096 _ (λ i. none _ (sample-0 c (k % colsOf 1) (k / colsOf 1) i h))))
 
 zero-at : (n i : ℕ) → getD (replicate n (pos 0)) i (pos 0) ≡ pos 0
 zero-at zero i = refl
@@ -119,15 +119,15 @@ scale-0 xs n k = rw (same-at 6 10 (bandOf k) (band-below k), nothing (at xs k) (
 judged-0 : (zs : List ℤ) → length zs ≡ 4096 → AllNear 0 zs → 0 ≡ coefficientsFault sixes zs
 unfolding coefficientsFault rangeFault sumsFault scaleFault summed
 judged-0 zs l n =
-    let s = seam-near zs (tab 64 (sumsOf zs)) l (length-tab 64 _) n (λ i h. subst (Near 0) (sym (at-tab 64 (sumsOf zs) i h)) (sums-0 zs n i)) in
+    let s = seam-near zs (table 64 (sumsOf zs)) l (length-tab 64 _) n (λ i h. subst (Near 0) (sym (at-tab 64 (sumsOf zs) i h)) (sums-0 zs n i)) in
     goes-on _ _ _ (sym (passes _ _ _ _ (each-all (at zs) (length zs) (λ i h. wide (n .all i))) refl))
     (goes-on _ _ _ (sym (passes _ _ _ _ (each-all (sumsOf zs) 64 (λ i h. wide (sums-0 zs n i))) refl))
     (passes _ _ _ _ (each-all (scaleAt sixes (at (summed zs))) 4096 (λ i h. wide (none _ (scale-0 (summed zs) s i)))) refl))
 
-bytes-3 : (mode : ℕ) → Sent mode (0x00 ∷ 0x00 ∷ 0x00 ∷ []) (first (pos 0)) → (zs : List ℤ) → length zs ≡ 4096 → AllNear 0 zs → length (bytesOf mode zs) ≡ 3
+bytes-3 : (mode : ℕ) → CodeSent mode (0x00 ∷ 0x00 ∷ 0x00 ∷ []) (first (pos 0)) → (zs : List ℤ) → length zs ≡ 4096 → AllNear 0 zs → length (bytesOf mode zs) ≡ 3
 bytes-3 mode s zs l n = ap (λ (xs : List ℤ). length (bytesOf mode xs)) (zeros zs l n) ∙ ap length (s .bytes)
 
-module _ (mode : ℕ) (s : Sent mode (0x00 ∷ 0x00 ∷ 0x00 ∷ []) (first (pos 0))) where
+module _ (mode : ℕ) (s : CodeSent mode (0x00 ∷ 0x00 ∷ 0x00 ∷ []) (first (pos 0))) where
   part-0 : (c k : ℕ) → c < 3 → 0 ≡ partRefusal mode sixes (listOf grey 1 1 sixes k c)
   unfolding partRefusal
   part-0 c k h =

@@ -20,20 +20,20 @@ use Rattle.wire.specs.declared.Writing.{Writing}
 use Rattle.whole.specs.Row.{_⇒_∣_}
 use Rattle.whole.specs.laws.Row.{passes, fails, both, held, goes-on, case-is}
 use Rattle.frame_layout.specs.Bytes.{Tile, quantBytes, tilesOf, frameOf, endOf}
-use Rattle.frame_layout.specs.Reader.{sizeAt, setPlace, rectCount, quantAt, frameTiles}
+use Rattle.frame_layout.specs.Reader.{sizeAt, setPlace, rectCount, setAt, frameTiles}
 use Rattle.frame_layout.specs.laws.Tiles.{listed}
 use Rattle.frame_layout.specs.laws.ReadBack.{front, sent-small, Taken}
 use Rattle.frame_blocks.specs.Blocks.{rectsOf}
 use Rattle.bands.specs.Bands.{quantOf, summed, scaledBy}
 use Rattle.session.specs.declared.Session.{Session}
-use Rattle.session.specs.Header.{at, sizeGood}
+use Rattle.session.specs.Header.{recordOf, sizeGood}
 use Rattle.session.specs.laws.Header.{ready-at}
 use Rattle.headers.specs.Headers.{HeadersWritten}
 use Rattle.headers.specs.laws.ReadBack.{AllTaken, our-headers}
 use Rattle.code_write.specs.Write.{bytesOf}
 use Rattle.tile_back.specs.Component.{componentFault, samplesOf}
 use Rattle.wave_back.specs.Tile.{tileBack}
-use Rattle.frame_blocks.specs.Tiles.{codeOf, indexOf}
+use Rattle.frame_blocks.specs.Tiles.{codePart, indexOf}
 use Rattle.frame_blocks.specs.Judged.{judged}
 use Rattle.whole.specs.laws.Tab.{row-in}
 use Rattle.frame_draw.specs.laws.Pixels.{split}
@@ -44,7 +44,7 @@ use Rattle.frame.specs.declared.call.FrameReading.{FrameReading}
 use Rattle.frame.specs.Frame.{full, callFault, early, frameNumber, frameReadingNumber, FrameRead}
 use Rattle.frame.specs.laws.Glass.{number-is, accepted, shown-pixel, shown-past, shown-length}
 use Rattle.frame_pieces.specs.Parts.{tileWith, colsOf, tilesNo}
-use Rattle.frame_write.specs.Encode.{partOf, tileP, frameP, refusals}
+use Rattle.frame_write.specs.Encode.{tilePart, pictureTile, pictureFrame, refusals}
 use Rattle.frame_write.specs.FrameWrite.{argFault, sendFault, FrameWritten}
 use Rattle.frame_write.specs.laws.FrameWrite.{args-good}
 use Rattle.frame_readback.specs.laws.OurTiles.{quant-back, PartTaken, Sendable, tile-taken, sent, our-frame}
@@ -63,7 +63,7 @@ mode-of w h mode q pixels list scratch e =
 pub record Written (w h mode : ℕ) (q : List ℕ) (index : ℕ) (p out′ : List ℕ) (r : Writing) : Type 0 where
   pub size : sizeGood w h ≡ true
   pub sendable : Sendable p w h mode q
-  pub bytes : take (writingLength r) out′ ≡ frameP index w h mode q p
+  pub bytes : take (writingLength r) out′ ≡ pictureFrame index w h mode q p
 
 pub written-is :
     (w h mode : ℕ) (q : List ℕ) (index : ℕ) (p : List ℕ) (list list′ scratch scratch′ : List ℤ) (out out′ : List ℕ) (r : Writing) → length q ≡ 10 →
@@ -77,7 +77,7 @@ written-is w h mode q index p list list′ scratch scratch′ out out′ r ten f
     record {
       size = m .0;
       sendable = record { picture = g .picture; ten = ten; allowed = m .1; none = b .0 };
-      bytes = wrote-bytes _ (frameP index w h mode q p) out out′ r (f .wrote) e;
+      bytes = wrote-bytes _ (pictureFrame index w h mode q p) out out′ r (f .wrote) e;
     }
 
 -- ---- the tile of a pixel
@@ -91,14 +91,14 @@ module _ (p : List ℕ) (w h mode : ℕ) (q : List ℕ) (px py : ℕ) (in-w : px
   unfolding colsOf
   row-in-h = omega arith
 
-  here : inTile (tileP p w h mode q (tileNo w px py)) px py ≡ true
-  unfolding inTile tileP tileWith tileNo
+  here : inTile (pictureTile p w h mode q (tileNo w px py)) px py ≡ true
+  unfolding inTile pictureTile tileWith tileNo
   here =
       let e = tile-place (colsOf w) (px / 64) (py / 64) col-in in
       sym (passes _ _ _ _ (eq-eqb (px / 64) ((py / 64 * colsOf w + px / 64) % colsOf w) (sym (e .0))) (sym (eq-eqb (py / 64) ((py / 64 * colsOf w + px / 64) / colsOf w) (sym (e .1)))))
 
-  other : (j : ℕ) → (j ≡ tileNo w px py → ⊥) → inTile (tileP p w h mode q j) px py ≡ false
-  unfolding inTile tileP tileWith tileNo
+  other : (j : ℕ) → (j ≡ tileNo w px py → ⊥) → inTile (pictureTile p w h mode q j) px py ≡ false
+  unfolding inTile pictureTile tileWith tileNo
   other j ne =
       ⊎-elim
       (λ (a : eqb (px / 64) (j % colsOf w) ≡ true).
@@ -110,8 +110,8 @@ module _ (p : List ℕ) (w h mode : ℕ) (q : List ℕ) (px py : ℕ) (in-w : px
   unfolding tileNo tilesNo
   among = omega (arith, row-in (py / 64) (colsOf h) (colsOf w) row-in-h, col-in, mul-comm (colsOf w) (colsOf h))
 
-  pub its-tile : lastTile (listed (tileP p w h mode q) (tilesNo w h) 0) px py ≡ found (tileP p w h mode q (tileNo w px py))
-  its-tile = last-found (tileP p w h mode q) px py (tileNo w px py) here other (tilesNo w h) 0 (omega arith) among
+  pub its-tile : lastTile (listed (pictureTile p w h mode q) (tilesNo w h) 0) px py ≡ found (pictureTile p w h mode q (tileNo w px py))
+  its-tile = last-found (pictureTile p w h mode q) px py (tileNo w px py) here other (tilesNo w h) 0 (omega arith) among
 
   pub tile-among : tileNo w px py < tilesNo w h
   tile-among = omega (arith, among)
@@ -124,26 +124,26 @@ judges mode set code = refl
 
 module _ (p : List ℕ) (w h mode : ℕ) (q : List ℕ) (index : ℕ) (s : Sendable p w h mode q) where
   abbrev pub m : List ℕ
-  m = frameP index w h mode q p
+  m = pictureFrame index w h mode q p
 
-  taken : Taken judged w h mode (tilesNo w h) (tileP p w h mode q) m
+  taken : Taken judged w h mode (tilesNo w h) (pictureTile p w h mode q) m
   taken = our-frame p w h mode q s judged (judges mode) index
 
-  set-is : quantAt m (setPlace m) 0 ≡ quantBytes q
-  unfolding frameP frameOf quantAt setPlace sizeAt quantBytes
+  set-is : setAt m (setPlace m) 0 ≡ quantBytes q
+  unfolding pictureFrame frameOf setAt setPlace sizeAt quantBytes
   set-is =
       let t = sent p w h mode q s judged (judges mode) in
-      let D = tilesOf (tileP p w h mode q) (tilesNo w h) 0 in
-      let f = front index w h mode q (tilesNo w h) (length D) (D ++ endOf) (t .wide) (t .high) (t .mode) (omega (arith, t .few)) (sent-small judged w h mode q (tilesNo w h) (tileP p w h mode q) t) in
+      let D = tilesOf (pictureTile p w h mode q) (tilesNo w h) 0 in
+      let f = front index w h mode q (tilesNo w h) (length D) (D ++ endOf) (t .wide) (t .high) (t .mode) (omega (arith, t .few)) (sent-small judged w h mode q (tilesNo w h) (pictureTile p w h mode q) t) in
       rw (f .region .1 .0) (ap (take 5) (f .quants))
 
-  part-back : (zs : List ℤ) → PartTaken mode q zs → samplesOf mode (quantOf (quantAt m (setPlace m) 0)) (bytesOf mode zs) ≡ tileBack (scaledBy q (summed zs))
+  part-back : (zs : List ℤ) → PartTaken mode q zs → samplesOf mode (quantOf (setAt m (setPlace m) 0)) (bytesOf mode zs) ≡ tileBack (scaledBy q (summed zs))
   part-back zs t =
       ap (λ (v : List ℕ). samplesOf mode (quantOf v) (bytesOf mode zs)) set-is
       ∙ ap (λ (v : List ℕ). samplesOf mode v (bytesOf mode zs)) (quant-back q (s .ten) (s .picture .quants)) ∙ t .samples
 
-  word-back : (k i : ℕ) → k < tilesNo w h → tileWord mode (quantAt m (setPlace m)) (tileP p w h mode q k) i ≡ wordBack p w h q k i
-  unfolding tileWord planeOf indexOf codeOf tileP tileWith partOf wordBack samplesBack
+  word-back : (k i : ℕ) → k < tilesNo w h → tileWord mode (setAt m (setPlace m)) (pictureTile p w h mode q k) i ≡ wordBack p w h q k i
+  unfolding tileWord planeOf indexOf codePart pictureTile tileWith tilePart wordBack samplesBack
   word-back k i l =
       let t = tile-taken p w h mode q s k l in
       rw (part-back _ (t .y), part-back _ (t .cb), part-back _ (t .cr)) refl
@@ -153,19 +153,19 @@ module _ (p : List ℕ) (w h mode : ℕ) (q : List ℕ) (index : ℕ) (s : Senda
   region px py a b = rw (taken .rects) (whole-region m w h px py (taken .rect .0) (taken .rect .1 .0) (taken .rect .1 .1 .0) (taken .rect .1 .1 .1) a b)
 
   shown-word : (px py old : ℕ) → px < w → py < h →
-      (inRegion (rectsOf m 14) (rectCount m 14) px py ⇒ wordIn (tileWord mode (quantAt m (setPlace m))) px py (lastTile (frameTiles m) px py) old ∣ old)
+      (inRegion (rectsOf m 14) (rectCount m 14) px py ⇒ wordIn (tileWord mode (setAt m (setPlace m))) px py (lastTile (frameTiles m) px py) old ∣ old)
       ≡ wordBack p w h q (tileNo w px py) (64 * (py % 64) + px % 64)
   unfolding wordIn
   shown-word px py old a b =
       case-is _ _ _ _ (region px py a b) refl
-      ∙ ap (λ (f : Found). wordIn (tileWord mode (quantAt m (setPlace m))) px py f old) (ap (λ (ts : List Tile). lastTile ts px py) (taken .tiles) ∙ its-tile p w h mode q px py a b)
+      ∙ ap (λ (f : Found). wordIn (tileWord mode (setAt m (setPlace m))) px py f old) (ap (λ (ts : List Tile). lastTile ts px py) (taken .tiles) ∙ its-tile p w h mode q px py a b)
       ∙ word-back (tileNo w px py) (64 * (py % 64) + px % 64) (tile-among p w h mode q px py a b)
 
   -- the frame call on it, with the record that our headers give, lists of 4,096 and a picture long enough
   module _ (good : sizeGood w h ≡ true) (pic : List ℕ) (y cb cr tmp : List ℤ) (pic′ : List ℕ) (y′ cb′ cr′ tmp′ : List ℤ) (r : FrameReading)
       (ly : length y ≡ 4096) (lb : length cb ≡ 4096) (lr : length cr ≡ 4096) (lt : length tmp ≡ 4096) (room : h * w ≤ length pic)
-      (done : FrameRead (at 4 w h mode) m pic y cb cr tmp pic′ y′ cb′ cr′ tmp′ r) where
-    call-fine : 0 ≡ early (at 4 w h mode) pic y cb cr tmp
+      (done : FrameRead (recordOf 4 w h mode) m pic y cb cr tmp pic′ y′ cb′ cr′ tmp′ r) where
+    call-fine : 0 ≡ early (recordOf 4 w h mode) pic y cb cr tmp
     unfolding callFault full
     call-fine =
         passes _ _ _ _ (ready-at w h mode good (s .allowed)) (passes _ _ _ _
@@ -174,15 +174,15 @@ module _ (p : List ℕ) (w h mode : ℕ) (q : List ℕ) (index : ℕ) (s : Senda
 
     number-0 : frameReadingNumber r ≡ 0
     unfolding frameNumber
-    number-0 = number-is (at 4 w h mode) m pic y cb cr tmp pic′ y′ cb′ cr′ tmp′ r done ∙ sym (goes-on _ _ _ (sym call-fine) (taken .fault))
+    number-0 = number-is (recordOf 4 w h mode) m pic y cb cr tmp pic′ y′ cb′ cr′ tmp′ r done ∙ sym (goes-on _ _ _ (sym call-fine) (taken .fault))
 
     pub shown : Shown p w h q pic pic′ r
     shown = record {
       number = number-0;
-      tiles = accepted (at 4 w h mode) m pic y cb cr tmp pic′ y′ cb′ cr′ tmp′ r done number-0 .counted ∙ taken .count;
-      word = λ px py a b. shown-pixel (at 4 w h mode) m pic y cb cr tmp pic′ y′ cb′ cr′ tmp′ r done number-0 px py a b ∙ shown-word px py _ a b;
-      past = shown-past (at 4 w h mode) m pic y cb cr tmp pic′ y′ cb′ cr′ tmp′ r done number-0;
-      long = shown-length (at 4 w h mode) m pic y cb cr tmp pic′ y′ cb′ cr′ tmp′ r done number-0;
+      tiles = accepted (recordOf 4 w h mode) m pic y cb cr tmp pic′ y′ cb′ cr′ tmp′ r done number-0 .counted ∙ taken .count;
+      word = λ px py a b. shown-pixel (recordOf 4 w h mode) m pic y cb cr tmp pic′ y′ cb′ cr′ tmp′ r done number-0 px py a b ∙ shown-word px py _ a b;
+      past = shown-past (recordOf 4 w h mode) m pic y cb cr tmp pic′ y′ cb′ cr′ tmp′ r done number-0;
+      long = shown-length (recordOf 4 w h mode) m pic y cb cr tmp pic′ y′ cb′ cr′ tmp′ r done number-0;
     }
 
 -- THE STATEMENT OVER THE CALLS. Whenever our two writers are done, for the same size and mode: four header calls on our headers, from any
@@ -195,10 +195,10 @@ pub our-own-frames :
     FrameWritten w h mode q index p list list′ scratch scratch′ out out′ r → writingNumber r ≡ 0 →
     (pic : List ℕ) (y cb cr tmp : List ℤ) (pic′ : List ℕ) (y′ cb′ cr′ tmp′ : List ℤ) (answer : FrameReading) →
     length y ≡ 4096 → length cb ≡ 4096 → length cr ≡ 4096 → length tmp ≡ 4096 → h * w ≤ length pic →
-    FrameRead (at 4 w h mode) (take (writingLength r) out′) pic y cb cr tmp pic′ y′ cb′ cr′ tmp′ answer →
+    FrameRead (recordOf 4 w h mode) (take (writingLength r) out′) pic y cb cr tmp pic′ y′ cb′ cr′ tmp′ answer →
     AllTaken s₀ w h mode (take (writingLength hr) ho′) × Shown p w h q pic pic′ answer
 our-own-frames s₀ w h mode ho ho′ hr hw e q index p list list′ scratch scratch′ out out′ r ten fw f
     pic y cb cr tmp pic′ y′ cb′ cr′ tmp′ answer ly lb lr lt room done =
     let u = written-is w h mode q index p list list′ scratch scratch′ out out′ r ten fw f in
-    let d = subst (λ (x : List ℕ). FrameRead (at 4 w h mode) x pic y cb cr tmp pic′ y′ cb′ cr′ tmp′ answer) (u .bytes) done in
+    let d = subst (λ (x : List ℕ). FrameRead (recordOf 4 w h mode) x pic y cb cr tmp pic′ y′ cb′ cr′ tmp′ answer) (u .bytes) done in
     (our-headers s₀ w h mode ho ho′ hr hw e, shown p w h mode q index (u .sendable) (u .size) pic y cb cr tmp pic′ y′ cb′ cr′ tmp′ answer ly lb lr lt room d)

@@ -13,7 +13,7 @@ use Rattle.whole.specs.laws.Row.{both, goes-on}
 use Rattle.frame_layout.specs.Bytes.{quantBytes}
 use Rattle.frame_layout.specs.Reader.{codesFault}
 use Rattle.frame_layout.specs.laws.Tiles.{Good}
-use Rattle.frame_layout.specs.laws.ReadBack.{Sent, Taken, read-back}
+use Rattle.frame_layout.specs.laws.ReadBack.{FrameSent, Taken, read-back}
 use Rattle.bands.specs.Bands.{QuantGood, quantOf, summed, scaledBy, coefficientsFault}
 use Rattle.wire.specs.Mode.{isMode}
 use Rattle.wire.specs.laws.Mode.{mode-is}
@@ -23,7 +23,7 @@ use Rattle.wave_back.specs.Tile.{tileBack}
 use Rattle.tile_back.specs.Component.{componentFault, samplesOf}
 use Rattle.tile_back.specs.laws.Judged.{reader-takes, reader-samples}
 use Rattle.frame_pieces.specs.Parts.{tileWith, tilesNo}
-use Rattle.frame_write.specs.Encode.{listOf, partOf, tileP, frameP, partRefusal, refusals, Picture}
+use Rattle.frame_write.specs.Encode.{listOf, tilePart, pictureTile, pictureFrame, partRefusal, refusals, Picture}
 use Rattle.frame_write.specs.laws.Encode.{place-good, few, list-long, part-small}
 use Rattle.frame_write.specs.laws.Put.{cells, good-is, tile-fine, one-fine}
 
@@ -100,8 +100,8 @@ module _ (p : List ℕ) (w h mode : ℕ) (q : List ℕ) (s : Sendable p w h mode
     taken-by : (zs : List ℤ) → PartTaken mode q zs → 0 ≡ comp mode (quantBytes q) (bytesOf mode zs)
     taken-by zs t = t .fault ∙ (ap (λ (v : List ℕ). componentFault mode v (bytesOf mode zs)) (sym (quant-back q (s .ten) (s .picture .quants))) ∙ sym (judges (quantBytes q) (bytesOf mode zs)))
 
-    tile-good : (k : ℕ) → k < tilesNo w h → Good (λ (j : ℕ) (code : List ℕ). comp mode (quantBytes q) code) w h 1 (tileP p w h mode q k)
-    unfolding tileP tileWith partOf codesFault
+    tile-good : (k : ℕ) → k < tilesNo w h → Good (λ (j : ℕ) (code : List ℕ). comp mode (quantBytes q) code) w h 1 (pictureTile p w h mode q k)
+    unfolding pictureTile tileWith tilePart codesFault
     tile-good k l =
         let f = tile-fine p w h mode q k (one-fine p w h mode q (tilesNo w h) k (s .none) l) in
         let t = tile-taken k l in
@@ -122,7 +122,7 @@ module _ (p : List ℕ) (w h mode : ℕ) (q : List ℕ) (s : Sendable p w h mode
           codes = goes-on _ _ _ (sym (taken-by _ (t .y))) (goes-on _ _ _ (sym (taken-by _ (t .cb))) (taken-by _ (t .cr)));
         }
 
-    pub sent : Sent comp w h mode q (tilesNo w h) (tileP p w h mode q)
+    pub sent : FrameSent comp w h mode q (tilesNo w h) (pictureTile p w h mode q)
     sent = record {
       wide = omega (arith, s .picture .wider);
       high = omega (arith, s .picture .higher);
@@ -133,6 +133,6 @@ module _ (p : List ℕ) (w h mode : ℕ) (q : List ℕ) (s : Sendable p w h mode
     }
 
     -- our frame, for the same size and mode: no fault, as many tiles, the ones written, one rectangle over the whole
-    pub our-frame : (index : ℕ) → Taken comp w h mode (tilesNo w h) (tileP p w h mode q) (frameP index w h mode q p)
-    unfolding frameP
-    our-frame index = read-back comp index w h mode q (tilesNo w h) (tileP p w h mode q) sent
+    pub our-frame : (index : ℕ) → Taken comp w h mode (tilesNo w h) (pictureTile p w h mode q) (pictureFrame index w h mode q p)
+    unfolding pictureFrame
+    our-frame index = read-back comp index w h mode q (tilesNo w h) (pictureTile p w h mode q) sent

@@ -17,13 +17,13 @@ use Rattle.frame_layout.specs.Bytes.{tileLen, tileOf, tilesOf}
 use Rattle.frame_layout.specs.laws.Here.{tile-length}
 use Rattle.bands.specs.Bands.{coefficientsFault, rangeFault, allIn}
 use Rattle.bands.specs.laws.Range.{all-each}
-use Rattle.code_write.specs.Write.{bytesOf, inRange, componentFault, Measures}
+use Rattle.code_write.specs.Write.{bytesOf, allInRange, codeFault, Measures}
 use Rattle.code_write.specs.laws.Write.{is-range}
 use Rattle.code_write.specs.declared.call.Sized.{Sized}
 use Rattle.frame_pieces.specs.Parts.{colsOf, tilesNo}
 use Rattle.frame_pieces.specs.laws.Parts.{tile-parts, tiles-step-length, few-tiles}
 use Rattle.tile_forth.specs.laws.TileForth.{rounded-of-length}
-use Rattle.frame_write.specs.Encode.{listOf, partOf, tileP, partRefusal, tileRefusal, refusals}
+use Rattle.frame_write.specs.Encode.{listOf, tilePart, pictureTile, partRefusal, tileRefusal, refusals}
 use Rattle.frame_write.specs.Job.{Sizes}
 
 -- ---- what the sizing pass says, by the two cases: it refuses, or it does not
@@ -64,7 +64,7 @@ unfolding listOf
 list-long p w h q k c = rounded-of-length p w h q (k % colsOf w) (k / colsOf w) c
 
 -- what is not refused has its coefficients in range
-pub judged-range : (q : List ℕ) (zs : List ℤ) → 0 ≡ coefficientsFault q zs → inRange zs ≡ true
+pub judged-range : (q : List ℕ) (zs : List ℤ) → 0 ≡ coefficientsFault q zs → allInRange zs ≡ true
 unfolding coefficientsFault rangeFault
 judged-range q zs e =
     let a = held (allIn (at zs) (length zs)) 9 0 0 (λ z. omega arith) (both _ _ e .0) .0 in
@@ -79,7 +79,7 @@ module _ (mode : ℕ) (q : List ℕ) (zs : List ℤ) where
   unfolding partRefusal
   part-small e = leb-true (length (bytesOf mode zs)) 65535 (held _ _ _ _ (λ z. omega arith) (both _ _ e .1) .0)
 
-  pub part-range : 0 ≡ partRefusal mode q zs → inRange zs ≡ true
+  pub part-range : 0 ≡ partRefusal mode q zs → allInRange zs ≡ true
   unfolding partRefusal
   part-range e = judged-range q zs (both _ _ e .0)
 
@@ -88,11 +88,11 @@ module _ (mode : ℕ) (q : List ℕ) (zs : List ℤ) where
   part-judged f e h = sizes-none _ _ _ (stops _ _ _ (λ z. h (e ∙ z)) e) h refl
 
   -- behind the reader's 9 the component writer's own is silent
-  same-six : 0 ≡ coefficientsFault q zs → componentFault mode zs ≡ partRefusal mode q zs
-  unfolding partRefusal componentFault
+  same-six : 0 ≡ coefficientsFault q zs → codeFault mode zs ≡ partRefusal mode q zs
+  unfolding partRefusal codeFault
   same-six e = goes-on _ _ _ (sym e) (sym (passes _ _ _ _ (judged-range q zs e) refl))
 
-  module _ (f : ℕ) (e : f ≡ coefficientsFault q zs) (z : f ≡ 0) (s : Sized) (m : Measures (componentFault mode zs) (length (bytesOf mode zs)) s) where
+  module _ (f : ℕ) (e : f ≡ coefficientsFault q zs) (z : f ≡ 0) (s : Sized) (m : Measures (codeFault mode zs) (length (bytesOf mode zs)) s) where
     pub part-large : (s .number ≡ 0 → ⊥) → Sizes (partRefusal mode q zs) (length (bytesOf mode zs)) (record { number = s .number; size = 0 })
     part-large h = sizes-none _ _ _ (m .number ∙ same-six (sym z ∙ e)) h refl
 
@@ -114,22 +114,22 @@ module _ (a b c x y z n : ℕ) (r : Sized) (mr : Sizes a x r) where
         sizes-none _ _ _ (goes-on _ _ _ (sym (mr .number) ∙ er) (goes-on _ _ _ (sym (ms .number) ∙ es) (mt .number))) h (size-none _ _ _ mt h)
 
 module _ (p : List ℕ) (w h mode : ℕ) (q : List ℕ) where
-  pub tile-long : (k : ℕ) → tileLen (tileP p w h mode q k) ≡ 19 + length (partOf p w h mode q k 0) + length (partOf p w h mode q k 1) + length (partOf p w h mode q k 2)
-  unfolding tileP
-  tile-long k = tile-parts (k % colsOf w) (k / colsOf w) (partOf p w h mode q k 0) (partOf p w h mode q k 1) (partOf p w h mode q k 2)
+  pub tile-long : (k : ℕ) → tileLen (pictureTile p w h mode q k) ≡ 19 + length (tilePart p w h mode q k 0) + length (tilePart p w h mode q k 1) + length (tilePart p w h mode q k 2)
+  unfolding pictureTile
+  tile-long k = tile-parts (k % colsOf w) (k / colsOf w) (tilePart p w h mode q k 0) (tilePart p w h mode q k 1) (tilePart p w h mode q k 2)
 
   module _ (k : ℕ) (r s t : Sized)
-      (mr : Sizes (partRefusal mode q (listOf p w h q k 0)) (length (partOf p w h mode q k 0)) r) (er : r .number ≡ 0)
-      (ms : Sizes (partRefusal mode q (listOf p w h q k 1)) (length (partOf p w h mode q k 1)) s) (es : s .number ≡ 0)
-      (mt : Sizes (partRefusal mode q (listOf p w h q k 2)) (length (partOf p w h mode q k 2)) t) (et : t .number ≡ 0) where
-    pub tile-sized : (n : ℕ) → n ≡ 19 + r .size + s .size + t .size → Sizes (tileRefusal p w h mode q k) (tileLen (tileP p w h mode q k)) (record { number = 0; size = n })
+      (mr : Sizes (partRefusal mode q (listOf p w h q k 0)) (length (tilePart p w h mode q k 0)) r) (er : r .number ≡ 0)
+      (ms : Sizes (partRefusal mode q (listOf p w h q k 1)) (length (tilePart p w h mode q k 1)) s) (es : s .number ≡ 0)
+      (mt : Sizes (partRefusal mode q (listOf p w h q k 2)) (length (tilePart p w h mode q k 2)) t) (et : t .number ≡ 0) where
+    pub tile-sized : (n : ℕ) → n ≡ 19 + r .size + s .size + t .size → Sizes (tileRefusal p w h mode q k) (tileLen (pictureTile p w h mode q k)) (record { number = 0; size = n })
     unfolding tileRefusal
     tile-sized n e =
         sizes-done _ _ _ (goes-on _ _ _ (sym (mr .number) ∙ er) (goes-on _ _ _ (sym (ms .number) ∙ es) (sym et ∙ mt .number))) refl
         (omega (arith, tile-long k, size-done _ _ _ mr er, size-done _ _ _ ms es, size-done _ _ _ mt et))
 
-  tile-small : (k : ℕ) → 0 ≡ tileRefusal p w h mode q k → tileLen (tileP p w h mode q k) ≤ 196624
-  unfolding tileRefusal partOf
+  tile-small : (k : ℕ) → 0 ≡ tileRefusal p w h mode q k → tileLen (pictureTile p w h mode q k) ≤ 196624
+  unfolding tileRefusal tilePart
   tile-small k e =
       let a = both _ _ e in
       let b = both _ _ (a .1) in
@@ -155,7 +155,7 @@ part-sized mode q zs s m e = let a = size-done _ _ _ m e in let b = part-small m
 
 pub record Sizing (p : List ℕ) (w h mode : ℕ) (q : List ℕ) (n i total : ℕ) : Type 0 where
   pub rest : refusals p w h mode q n 0 ≡ refusals p w h mode q (n - i) i
-  pub sum : total + length (tilesOf (tileP p w h mode q) (n - i) i) ≡ length (tilesOf (tileP p w h mode q) n 0)
+  pub sum : total + length (tilesOf (pictureTile p w h mode q) (n - i) i) ≡ length (tilesOf (pictureTile p w h mode q) n 0)
   pub small : total ≤ i * 196624
 
 left : (n i : ℕ) → i < n → n - i ≡ suc (n - (i + 1))
@@ -169,41 +169,41 @@ module _ (p : List ℕ) (w h mode : ℕ) (q : List ℕ) where
   unfolding refusals
   refusals-step n i l = rw (left n i l)
 
-  module _ (n i total : ℕ) (r : Sized) (l : i < n) (s : Sizing p w h mode q n i total) (m : Sizes (tileRefusal p w h mode q i) (tileLen (tileP p w h mode q i)) r) where
-    pub sizing-stops : (r .number ≡ 0 → ⊥) → Sizes (refusals p w h mode q n 0) (length (tilesOf (tileP p w h mode q) n 0)) r
+  module _ (n i total : ℕ) (r : Sized) (l : i < n) (s : Sizing p w h mode q n i total) (m : Sizes (tileRefusal p w h mode q i) (tileLen (pictureTile p w h mode q i)) r) where
+    pub sizing-stops : (r .number ≡ 0 → ⊥) → Sizes (refusals p w h mode q n 0) (length (tilesOf (pictureTile p w h mode q) n 0)) r
     sizing-stops f = sizes-none _ _ _ (stops _ _ _ (λ e. f (m .number ∙ e)) (m .number) ∙ sym (s .rest ∙ refusals-step n i l)) f (size-none _ _ _ m f)
 
     pub sizing-next : r .number ≡ 0 → Sizing p w h mode q n (i + 1) (total + r .size) × (total + r .size ≤ (i + 1) * 196624)
     sizing-next e =
         let k = size-done _ _ _ m e in
         let t = tile-small p w h mode q i (sym e ∙ m .number) in
-        let u = tiles-step-length (tileP p w h mode q) n i l in
+        let u = tiles-step-length (pictureTile p w h mode q) n i l in
         let a = s .sum in
         let b = s .small in
         let c : total + r .size ≤ (i + 1) * 196624 = omega arith in
         (record { rest = s .rest ∙ (refusals-step n i l ∙ sym (goes-on _ _ _ (sym (m .number) ∙ e) refl)); sum = omega arith; small = c }, c)
 
-  pub sizing-ends : (n i total : ℕ) → n ≤ i → Sizing p w h mode q n i total → Sizes (refusals p w h mode q n 0) (length (tilesOf (tileP p w h mode q) n 0)) (record { number = 0; size = total })
+  pub sizing-ends : (n i total : ℕ) → n ≤ i → Sizing p w h mode q n i total → Sizes (refusals p w h mode q n 0) (length (tilesOf (pictureTile p w h mode q) n 0)) (record { number = 0; size = total })
   unfolding refusals tilesOf
   sizing-ends n i total l s =
       let z : n - i ≡ 0 = omega arith in
       sizes-done _ _ _ (sym (s .rest ∙ ap (λ (k : ℕ). refusals p w h mode q k i) z)) refl
-      (omega (arith, subst (λ (k : ℕ). total + length (tilesOf (tileP p w h mode q) k i) ≡ length (tilesOf (tileP p w h mode q) n 0)) z (s .sum)))
+      (omega (arith, subst (λ (k : ℕ). total + length (tilesOf (pictureTile p w h mode q) k i) ≡ length (tilesOf (pictureTile p w h mode q) n 0)) z (s .sum)))
 
   -- the bytes of tiles that are not refused
-  refusals-small : (n i : ℕ) → 0 ≡ refusals p w h mode q n i → length (tilesOf (tileP p w h mode q) n i) ≤ n * 196624
+  refusals-small : (n i : ℕ) → 0 ≡ refusals p w h mode q n i → length (tilesOf (pictureTile p w h mode q) n i) ≤ n * 196624
   unfolding refusals tilesOf
   refusals-small zero i e = omega arith
   refusals-small (suc n) i e =
       let b = both _ _ e in
       let s = tile-small p w h mode q i (b .0) in
       let more = refusals-small n (i + 1) (b .1) in
-      let t = tile-length (tileP p w h mode q i) in
-      let a = length-append (tileOf (tileP p w h mode q i)) (tilesOf (tileP p w h mode q) n (i + 1)) in
+      let t = tile-length (pictureTile p w h mode q i) in
+      let a = length-append (tileOf (pictureTile p w h mode q i)) (tilesOf (pictureTile p w h mode q) n (i + 1)) in
       omega arith
 
-  pub sized-small : (n : ℕ) (s : Sized) → n ≤ 2048 → Sizes (refusals p w h mode q n 0) (length (tilesOf (tileP p w h mode q) n 0)) s → s .number ≡ 0 →
-      (s .size ≡ length (tilesOf (tileP p w h mode q) n 0)) × (s .size ≤ 402685952)
+  pub sized-small : (n : ℕ) (s : Sized) → n ≤ 2048 → Sizes (refusals p w h mode q n 0) (length (tilesOf (pictureTile p w h mode q) n 0)) s → s .number ≡ 0 →
+      (s .size ≡ length (tilesOf (pictureTile p w h mode q) n 0)) × (s .size ≤ 402685952)
   sized-small n s l m e =
       let a = size-done _ _ _ m e in
       let b = refusals-small n 0 (sym e ∙ m .number) in

@@ -25,7 +25,7 @@ use Rattle.bands.specs.laws.Band.{good-set}
 use Rattle.code_write.specs.declared.call.Sized.{Sized}
 use Rattle.frame_pieces.specs.Parts.{tilesNo}
 use Rattle.frame_pieces.specs.laws.Parts.{frame-long}
-use Rattle.frame_write.specs.Encode.{tileP, refusals, frameP}
+use Rattle.frame_write.specs.Encode.{pictureTile, refusals, pictureFrame}
 use Rattle.frame_write.specs.FrameWrite.{pixelsGood, argFault, sendFault, workLeft, FrameWritten}
 use Rattle.frame_write.specs.Job.{ArgsGood, Sizes}
 use Rattle.frame_write.specs.laws.Encode.{size-done}
@@ -66,32 +66,32 @@ size-small w h a b = mul-le-mul {n₂ = 4096} {m₂ = 2048} a b
 
 -- ---- the answers
 
-module _ (index w h mode : ℕ) (q p out : List ℕ) (n : ℕ) (count : n ≡ tilesNo w h) (s : Sized) (m : Sizes (refusals p w h mode q n 0) (length (tilesOf (tileP p w h mode q) n 0)) s) where
-  frame-is : frameOf index w h mode q n (tileP p w h mode q) ≡ frameP index w h mode q p
-  unfolding frameP
-  frame-is = ap (λ (k : ℕ). frameOf index w h mode q k (tileP p w h mode q)) count
+module _ (index w h mode : ℕ) (q p out : List ℕ) (n : ℕ) (count : n ≡ tilesNo w h) (s : Sized) (m : Sizes (refusals p w h mode q n 0) (length (tilesOf (pictureTile p w h mode q) n 0)) s) where
+  frame-is : frameOf index w h mode q n (pictureTile p w h mode q) ≡ pictureFrame index w h mode q p
+  unfolding pictureFrame
+  frame-is = ap (λ (k : ℕ). frameOf index w h mode q k (pictureTile p w h mode q)) count
 
   first-is : s .number ≡ refusals p w h mode q (tilesNo w h) 0
   first-is = m .number ∙ ap (λ (k : ℕ). refusals p w h mode q k 0) count
 
-  pub send-stop : (s .number ≡ 0 → ⊥) → Wrote (sendFault index w h mode q p (length out)) (frameP index w h mode q p) out out (Refused (s .number))
+  pub send-stop : (s .number ≡ 0 → ⊥) → Wrote (sendFault index w h mode q p (length out)) (pictureFrame index w h mode q p) out out (Refused (s .number))
   unfolding sendFault
   send-stop f = refused _ (s .number) _ out (stops _ _ _ (λ z. f (first-is ∙ z)) first-is) f
 
   module _ (e : s .number ≡ 0) where
-    frame-size : length (frameP index w h mode q p) ≡ 72 + s .size
-    frame-size = sym (ap length frame-is) ∙ (frame-long index w h mode q n (tileP p w h mode q) ∙ ap (λ (k : ℕ). 72 + k) (sym (size-done _ _ _ m e)))
+    frame-size : length (pictureFrame index w h mode q p) ≡ 72 + s .size
+    frame-size = sym (ap length frame-is) ∙ (frame-long index w h mode q n (pictureTile p w h mode q) ∙ ap (λ (k : ℕ). 72 + k) (sym (size-done _ _ _ m e)))
 
-    pub send-room : length out < 72 + s .size → Wrote (sendFault index w h mode q p (length out)) (frameP index w h mode q p) out out (Refused 13)
+    pub send-room : length out < 72 + s .size → Wrote (sendFault index w h mode q p (length out)) (pictureFrame index w h mode q p) out out (Refused 13)
     unfolding sendFault
     send-room l =
-        refused _ 13 _ out (goes-on _ _ _ (sym first-is ∙ e) (fails _ _ _ _ (lt-leb (length (frameP index w h mode q p)) (length out) (omega (arith, frame-size))) refl)) (λ y. omega arith)
+        refused _ 13 _ out (goes-on _ _ _ (sym first-is ∙ e) (fails _ _ _ _ (lt-leb (length (pictureFrame index w h mode q p)) (length out) (omega (arith, frame-size))) refl)) (λ y. omega arith)
 
-    pub send-done : 72 + s .size ≤ length out → (out′ : List ℕ) (k : ℕ) → out′ ≡ written (frameOf index w h mode q n (tileP p w h mode q)) out → k ≡ length (frameOf index w h mode q n (tileP p w h mode q)) →
-        Wrote (sendFault index w h mode q p (length out)) (frameP index w h mode q p) out out′ (Done k)
+    pub send-done : 72 + s .size ≤ length out → (out′ : List ℕ) (k : ℕ) → out′ ≡ written (frameOf index w h mode q n (pictureTile p w h mode q)) out → k ≡ length (frameOf index w h mode q n (pictureTile p w h mode q)) →
+        Wrote (sendFault index w h mode q p (length out)) (pictureFrame index w h mode q p) out out′ (Done k)
     unfolding sendFault
     send-done l out′ k w′ lk =
-        done _ k _ out out′ (goes-on _ _ _ (sym first-is ∙ e) (passes _ _ _ _ (le-leb (length (frameP index w h mode q p)) (length out) (omega (arith, frame-size))) refl))
+        done _ k _ out out′ (goes-on _ _ _ (sym first-is ∙ e) (passes _ _ _ _ (le-leb (length (pictureFrame index w h mode q p)) (length out) (omega (arith, frame-size))) refl))
         (lk ∙ ap length frame-is) (w′ ∙ ap (λ (y : List ℕ). written y out) frame-is)
 
 pub untouched : (f x : ℕ) (xs : List ℤ) → x ≡ f → (x ≡ 0 → ⊥) → xs ≡ workLeft f xs
@@ -112,7 +112,7 @@ module _ (w h mode : ℕ) (q : List ℕ) (index : ℕ) (p : List ℕ) (list scra
     second = untouched _ x scratch is f;
   }
 
-  pub all-sent : x ≡ 0 → (list′ scratch′ : List ℤ) (out′ : List ℕ) (r : Writing) → Wrote (sendFault index w h mode q p (length out)) (frameP index w h mode q p) out out′ r →
+  pub all-sent : x ≡ 0 → (list′ scratch′ : List ℤ) (out′ : List ℕ) (r : Writing) → Wrote (sendFault index w h mode q p (length out)) (pictureFrame index w h mode q p) out out′ r →
       list′ ≡ replicate 4096 (pos 0) → scratch′ ≡ replicate 4096 (pos 0) → FrameWritten w h mode q index p list list′ scratch scratch′ out out′ r
   all-sent z list′ scratch′ out′ r s c d = record {
     wrote = onward _ _ _ out out′ r (sym z ∙ is) s;
@@ -123,9 +123,9 @@ module _ (w h mode : ℕ) (q : List ℕ) (index : ℕ) (p : List ℕ) (list scra
 -- ---- the promise leaves one answer, one output and one content of each work list
 
 -- a done answer says a length that no refusal says
-some-frame : (index w h mode : ℕ) (q p : List ℕ) → 0 < length (frameP index w h mode q p)
-unfolding frameP
-some-frame index w h mode q p = omega (arith, frame-long index w h mode q (tilesNo w h) (tileP p w h mode q))
+some-frame : (index w h mode : ℕ) (q p : List ℕ) → 0 < length (pictureFrame index w h mode q p)
+unfolding pictureFrame
+some-frame index w h mode q p = omega (arith, frame-long index w h mode q (tilesNo w h) (pictureTile p w h mode q))
 
 pub frame-once : (w h mode : ℕ) (q : List ℕ) (index : ℕ) (p : List ℕ) (list a a′ scratch b b′ : List ℤ) (out c c′ : List ℕ) (r r′ : Writing) →
     FrameWritten w h mode q index p list a scratch b out c r → FrameWritten w h mode q index p list a′ scratch b′ out c′ r′ → (r ≡ r′) × (a ≡ a′) × (b ≡ b′) × (c ≡ c′)

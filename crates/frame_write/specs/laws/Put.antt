@@ -10,12 +10,12 @@ use lib.Seq.{take-all}
 use Rattle.whole.specs.laws.Row.{both}
 use Rattle.wire.specs.Le.{patch}
 use Rattle.frame_layout.specs.Bytes.{tileLen, tileOf}
-use Rattle.frame_layout.specs.laws.ReadBack.{QuantGood as SetGood, quants-good}
+use Rattle.frame_layout.specs.laws.ReadBack.{SetGood as SetGood, quants-good}
 use Rattle.bands.specs.Bands.{QuantGood}
 use Rattle.bands.specs.laws.Band.{five}
 use Rattle.frame_pieces.specs.Parts.{headOf, filled, colsOf}
 use Rattle.frame_pieces.specs.laws.Parts.{tile-put}
-use Rattle.frame_write.specs.Encode.{listOf, partOf, tileP, partRefusal, tileRefusal, refusals}
+use Rattle.frame_write.specs.Encode.{listOf, tilePart, pictureTile, partRefusal, tileRefusal, refusals}
 use Rattle.frame_write.specs.laws.Encode.{not-refused}
 
 -- ---- a quantiser set has ten values; the two ways of saying that they are good
@@ -50,12 +50,12 @@ module _ (p : List ℕ) (w h mode : ℕ) (q : List ℕ) where
   pub tile-stands :
       (o o1 o2 o3 o4 o5 : List ℕ) (k cols at b c e : ℕ) → cols ≡ colsOf w → at ≤ length o →
       o1 ≡ patch o at (headOf (k % cols) (k / cols) 0 0 0 0) →
-      o2 ≡ patch o1 (at + 19) (partOf p w h mode q k 0) → b ≡ at + 19 + length (partOf p w h mode q k 0) →
-      o3 ≡ patch o2 b (partOf p w h mode q k 1) → c ≡ b + length (partOf p w h mode q k 1) →
-      o4 ≡ patch o3 c (partOf p w h mode q k 2) → e ≡ c + length (partOf p w h mode q k 2) →
+      o2 ≡ patch o1 (at + 19) (tilePart p w h mode q k 0) → b ≡ at + 19 + length (tilePart p w h mode q k 0) →
+      o3 ≡ patch o2 b (tilePart p w h mode q k 1) → c ≡ b + length (tilePart p w h mode q k 1) →
+      o4 ≡ patch o3 c (tilePart p w h mode q k 2) → e ≡ c + length (tilePart p w h mode q k 2) →
       o5 ≡ filled o4 at (e - at) (b - (at + 19)) (c - b) (e - c) →
-      (o5 ≡ patch o at (tileOf (tileP p w h mode q k))) × (e ≡ at + tileLen (tileP p w h mode q k))
-  unfolding tileP
+      (o5 ≡ patch o at (tileOf (pictureTile p w h mode q k))) × (e ≡ at + tileLen (pictureTile p w h mode q k))
+  unfolding pictureTile
   tile-stands o o1 o2 o3 o4 o5 k cols at b c e ec l p1 p2 eb p3 ecb p4 ee p5 =
-      tile-put o o1 o2 o3 o4 o5 (partOf p w h mode q k 0) (partOf p w h mode q k 1) (partOf p w h mode q k 2) (k % colsOf w) (k / colsOf w) at b c e l
+      tile-put o o1 o2 o3 o4 o5 (tilePart p w h mode q k 0) (tilePart p w h mode q k 1) (tilePart p w h mode q k 2) (k % colsOf w) (k / colsOf w) at b c e l
       (p1 ∙ ap (λ (n : ℕ). patch o at (headOf (k % n) (k / n) 0 0 0 0)) ec) p2 eb p3 ecb p4 ee p5

@@ -12,11 +12,11 @@ use Rattle.plain.proofs.green.Tie as tie
 abbrev one : (c : tie.Start) → Calc w64 (scaled (c .args .y) -ℤ pos 22527 *ℤ c .args .cb)
 one c = sub (base (c .pre .0)) (times 22527 (c .pre .1) tt tt) tt
 
-abbrev two : (c : tie.Start) → Calc w64 (scaled (c .args .y) -ℤ pos 22527 *ℤ c .args .cb -ℤ pos 46819 *ℤ c .args .cr)
-two c = sub (one c) (times 46819 (c .pre .2) tt tt) tt
+abbrev rlgr3 : (c : tie.Start) → Calc w64 (scaled (c .args .y) -ℤ pos 22527 *ℤ c .args .cb -ℤ pos 46819 *ℤ c .args .cr)
+rlgr3 c = sub (one c) (times 46819 (c .pre .2) tt tt) tt
 
 abbrev half : (c : tie.Start) → Calc w64 (scaled (c .args .y) -ℤ pos 22527 *ℤ c .args .cb -ℤ pos 46819 *ℤ c .args .cr +ℤ pos 1048576)
-half c = add (two c) (lit w64 (pos 1048576) tt) tt
+half c = add (rlgr3 c) (lit w64 (pos 1048576) tt) tt
 
 returns : tie.Need-returns
 unfolding greenOf
@@ -27,4 +27,4 @@ green-spec =
     tie.close
     (tie.spec (λ c. fits (wide (c .pre .0))) (λ c. fits (raised (c .pre .0))) (λ c. fits (base (c .pre .0))) (λ c. fits (wide (c .pre .1)))
     (λ c. fits (times 22527 (c .pre .1) tt tt)) (λ c. fits (one c)) (λ c. fits (wide (c .pre .2))) (λ c. fits (times 46819 (c .pre .2) tt tt))
-    (λ c. fits (two c)) (λ c. fits (half c)) (λ c κs. search needs) returns)
+    (λ c. fits (rlgr3 c)) (λ c. fits (half c)) (λ c κs. search needs) returns)

@@ -12,7 +12,7 @@ use lib.Signed.{ltZ}
 use lib.ListN.{length, set}
 use Rattle.whole.specs.Row.{_⨟_}
 use Rattle.whole.specs.laws.Row.{passes, fails, and-yes, and-no, and-no′, stops, goes-on}
-use Rattle.whole.specs.Tab.{at, tab}
+use Rattle.whole.specs.Tab.{at, table}
 use Rattle.whole.specs.laws.Tab.{AllNear, at-tab, length-tab, is-tab}
 use Rattle.bands.specs.Bands.{bandAt, bandOf, inRange, allIn, sumTo, ll3, sumsOf, sumsFault, summed, scaleAt, scaleFault, scaledBy}
 use Rattle.bands.specs.laws.Part.{Done, done-none, done-put, done-all, front-at, back-at, seam-length, summed-near}
@@ -97,7 +97,7 @@ module _ (before : List ℤ) (len : length before ≡ 4096) where
     room = omega arith;
     so-far = refl;
     good = refl;
-    done = record { same = refl; done = λ k h. sym (front-at before (tab 64 (sumsOf before)) k len h); rest = λ k h. refl };
+    done = record { same = refl; done = λ k h. sym (front-at before (table 64 (sumsOf before)) k len h); rest = λ k h. refl };
   }
 
   module _ (now : List ℤ) (s : ℤ) (i : ℕ) (w : Summing before now s i) (h : i < 64) where
@@ -112,7 +112,7 @@ module _ (before : List ℤ) (len : length before ≡ 4096) where
 
       at-sum : v ≡ at (summed before) (4032 + i)
       unfolding summed
-      at-sum = is-sum ∙ sym (back-at before (tab 64 (sumsOf before)) i len ∙ at-tab 64 (sumsOf before) i h)
+      at-sum = is-sum ∙ sym (back-at before (table 64 (sumsOf before)) i len ∙ at-tab 64 (sumsOf before) i h)
 
       pub sum-next : inRange v ≡ true → Summing before (set now (4032 + i) v) v (i + 1)
       unfolding sumsOf

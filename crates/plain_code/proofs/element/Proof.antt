@@ -10,7 +10,7 @@ use Rattle.plain_code.proofs.element.Tie as tie
 returns : tie.Need-returns
 returns c =
     let args = c .before .before .before .before .args in
-    let a = args in c .run .ensures ∙ sym (elem-high (a .two) (a .c .kp) (a .c .krp) (a .left) (a .c .at) (bitsOf (a .s .now)) (c .before .if1 .taken))
+    let a = args in c .run .ensures ∙ sym (elem-high (a .rlgr3) (a .c .kp) (a .c .krp) (a .left) (a .c .at) (bitsOf (a .s .now)) (c .before .if1 .taken))
 
 returns-2 : tie.Need-returns-2
 returns-2 c =

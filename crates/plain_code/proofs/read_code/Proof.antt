@@ -16,17 +16,17 @@ use Rattle.plain_code.proofs.read_code.Statement.{statement}
 use Rattle.plain_code.proofs.read_code.Tie as tie
 
 abbrev Inv-loop : tie.InvT-loop
-Inv-loop two s out₀ c₀ i₀ out c i = Filling two 4096 (bitsOf s) out c i
+Inv-loop rlgr3 s out₀ c₀ i₀ out c i = Filling rlgr3 4096 (bitsOf s) out c i
 
 abbrev μ-loop : tie.MeasureT-loop
-μ-loop two s out₀ c₀ i₀ out c i = 4096 - i
+μ-loop rlgr3 s out₀ c₀ i₀ out c i = 4096 - i
 
 loop-holds : tie.Need-loop-holds Inv-loop μ-loop
 loop-holds c =
     let pre = c .before .before .pre in
     let a = c .before .before .args in
-    subst (λ (x : State). Filling (a .two) 4096 (bitsOf (now (a .s))) (now (a .list)) x 0) (sym (c .state .ensures))
-    (filling-start (a .two) 4096 (bitsOf (now (a .s))) (now (a .list)) (pre .1) (pre .2))
+    subst (λ (x : State). Filling (a .rlgr3) 4096 (bitsOf (now (a .s))) (now (a .list)) x 0) (sym (c .state .ensures))
+    (filling-start (a .rlgr3) 4096 (bitsOf (now (a .s))) (now (a .list)) (pre .1) (pre .2))
 
 element-requires : tie.Need-element-requires Inv-loop μ-loop
 element-requires c κs =
@@ -40,7 +40,7 @@ place-requires c κs =
     let l = c .before .before .before .loop in
     let a = c .before .before .before .before .before .before .args in
     let n : length (l .list) ≡ 4096 = l .inv .clear .len in
-    let h = filling-fine (a .two) 4096 (bitsOf (now (a .s))) (l .list) (l .c) (l .i) (l .inv) (loop-test .taken) _ (c .element .ensures) in
+    let h = filling-fine (a .rlgr3) 4096 (bitsOf (now (a .s))) (l .list) (l .c) (l .i) (l .inv) (loop-test .taken) _ (c .element .ensures) in
     (omega (arith, n), omega (arith, n, loop-test .taken), rw n h)
 
 same-length : tie.Need-same-length Inv-loop μ-loop
@@ -59,8 +59,8 @@ returns c =
     let l = c .before .before .before .before .before .before .before .before .before .loop in
     let a = c .before .before .before .before .before .before .before .before .before .before .before .before .args in
     let no = gone-not _ _ (e .result) _ (sym (p .ensures .0) ∙ r .given .1) in
-    code-bad (a .two) (now (a .s)) (p .last .0) _
-    (turn-bad (a .two) 4096 (bitsOf (now (a .s))) (l .list) (p .last .0) (l .c) (l .i) (e .result) (placedOf (length (l .list)) (l .i) (e .result)) (l .inv)
+    code-bad (a .rlgr3) (now (a .s)) (p .last .0) _
+    (turn-bad (a .rlgr3) 4096 (bitsOf (now (a .s))) (l .list) (p .last .0) (l .c) (l .i) (e .result) (placedOf (length (l .list)) (l .i) (e .result)) (l .inv)
     (loop-test .taken) (e .ensures) refl _ (ap (λ (x : Element). placedOf (length (l .list)) (l .i) x) no))
     _ _ refl (c .refusal-number .ensures)
 
@@ -74,7 +74,7 @@ loop-less c =
     let a = c .before .before .before .before .before .before .before .before .before .before .before .args in
     omega (
       arith,
-      gone-next (a .two) 4096 (bitsOf (now (a .s))) (l .list) (l .c) (l .i) (l .inv) (loop-test .taken) _ _ (p .last .0) (e .result) (p .result) _
+      gone-next (a .rlgr3) 4096 (bitsOf (now (a .s))) (l .list) (l .c) (l .i) (l .inv) (loop-test .taken) _ _ (p .last .0) (e .result) (p .result) _
           (e .ensures) (l .inv .clear .len) (p .ensures .0) (p .ensures .1) (c .before .j .given .1) .1,
       loop-test .taken,
     )
@@ -86,7 +86,7 @@ loop-again c =
     let loop-test = c .before .before .before .before .before .before .before .loop-test in
     let l = c .before .before .before .before .before .before .before .before .loop in
     let a = c .before .before .before .before .before .before .before .before .before .before .before .args in
-    gone-next (a .two) 4096 (bitsOf (now (a .s))) (l .list) (l .c) (l .i) (l .inv) (loop-test .taken) _ _ (p .last .0) (e .result) (p .result) _ (e .ensures)
+    gone-next (a .rlgr3) 4096 (bitsOf (now (a .s))) (l .list) (l .c) (l .i) (l .inv) (loop-test .taken) _ _ (p .last .0) (e .result) (p .result) _ (e .ensures)
     (l .inv .clear .len) (p .ensures .0) (p .ensures .1) (c .before .j .given .1) .0
 
 clean-tail-requires : tie.Need-clean-tail-requires Inv-loop μ-loop
@@ -95,7 +95,7 @@ clean-tail-requires c κs =
     let a = c .before .before .before .before .args in
     let l = c .before .loop in (
       pre .0,
-      whole-fits (a .two) (now (a .s)) (l .list) _ (filling-end (a .two) 4096 (bitsOf (now (a .s))) (l .list) (l .c) (l .i)
+      whole-fits (a .rlgr3) (now (a .s)) (l .list) _ (filling-end (a .rlgr3) 4096 (bitsOf (now (a .s))) (l .list) (l .c) (l .i)
           (c .loop-test .left) (l .inv)) _ refl,
     )
 
@@ -110,7 +110,7 @@ returns-2 c =
     let loop-test = c .before .before .loop-test in
     let l = c .before .before .before .loop in
     let a = c .before .before .before .before .before .before .args in
-    code-done (a .two) (now (a .s)) (l .list) _ (filling-end (a .two) 4096 (bitsOf (now (a .s))) (l .list) (l .c) (l .i) (loop-test .left) (l .inv)) _ refl
+    code-done (a .rlgr3) (now (a .s)) (l .list) _ (filling-end (a .rlgr3) 4096 (bitsOf (now (a .s))) (l .list) (l .c) (l .i) (loop-test .left) (l .inv)) _ refl
     (sym (c .before .clean-tail .ensures) ∙ c .if1 .taken)
 
 same-length-3 : tie.Need-same-length-3 Inv-loop μ-loop
@@ -124,7 +124,7 @@ returns-3 c =
     let loop-test = c .before .before .loop-test in
     let l = c .before .before .before .loop in
     let a = c .before .before .before .before .before .before .args in
-    code-tail (a .two) (now (a .s)) (l .list) _ (filling-end (a .two) 4096 (bitsOf (now (a .s))) (l .list) (l .c) (l .i) (loop-test .left) (l .inv)) _ refl
+    code-tail (a .rlgr3) (now (a .s)) (l .list) _ (filling-end (a .rlgr3) 4096 (bitsOf (now (a .s))) (l .list) (l .c) (l .i) (loop-test .left) (l .inv)) _ refl
     (sym (c .before .clean-tail .ensures) ∙ c .if1 .left)
 
 pub read-code-spec : {M : Type 1} → statement M

@@ -42,14 +42,14 @@ to-j e = cc
 to-s : {j k : ℕ} {s t : State} → To j s ≡ To k t → t ≡ s
 to-s e = cc
 
-module _ (two : Bool) (n : ℕ) (B : List Bool) (out : List ℤ) (c : State) (i : ℕ) (w : Filling two n B out c i) (h : i < n) (j : ℕ) (s : State) where
+module _ (rlgr3 : Bool) (n : ℕ) (B : List Bool) (out : List ℤ) (c : State) (i : ℕ) (w : Filling rlgr3 n B out c i) (h : i < n) (j : ℕ) (s : State) where
   -- a turn that is not refused
-  pub gone-on : (e : Element) → e ≡ elemOf two (c .kp) (c .krp) (n - i) (c .at) B → goneOf n i e ≡ To j s → Filling two n B (storedOf out i e) s j × (i < j)
+  pub gone-on : (e : Element) → e ≡ elemOf rlgr3 (c .kp) (c .krp) (n - i) (c .at) B → goneOf n i e ≡ To j s → Filling rlgr3 n B (storedOf out i e) s j × (i < j)
   gone-on (Refused r) q p = let z : _≡_ {A = ℕ} 0 1 = cc in absurd (omega arith)
-  gone-on (Zeros z t) q p = rw (to-j p, to-s p) (filling-next two n B out c i w h (Zeros z t) q (min n (i + z)) t refl)
-  gone-on (One z v t) q p = rw (to-j p, to-s p) (filling-next two n B out c i w h (One z v t) q (i + z + 1) t refl)
-  gone-on (Two a b t) q p = rw (to-j p, to-s p) (filling-next two n B out c i w h (Two a b t) q (min n (i + 2)) t refl)
+  gone-on (Zeros z t) q p = rw (to-j p, to-s p) (filling-next rlgr3 n B out c i w h (Zeros z t) q (min n (i + z)) t refl)
+  gone-on (One z v t) q p = rw (to-j p, to-s p) (filling-next rlgr3 n B out c i w h (One z v t) q (i + z + 1) t refl)
+  gone-on (Two a b t) q p = rw (to-j p, to-s p) (filling-next rlgr3 n B out c i w h (Two a b t) q (min n (i + 2)) t refl)
 
-  pub gone-next : (new : List ℤ) (e : Element) (g : Gone) (m : ℕ) → e ≡ elemOf two (c .kp) (c .krp) (n - i) (c .at) B → m ≡ n → g ≡ goneOf m i e →
-      new ≡ storedOf out i e → g ≡ To j s → Filling two n B new s j × (i < j)
+  pub gone-next : (new : List ℤ) (e : Element) (g : Gone) (m : ℕ) → e ≡ elemOf rlgr3 (c .kp) (c .krp) (n - i) (c .at) B → m ≡ n → g ≡ goneOf m i e →
+      new ≡ storedOf out i e → g ≡ To j s → Filling rlgr3 n B new s j × (i < j)
   gone-next new e g m q l is p f = rw p (gone-on e q (rw l at (sym is ∙ f)))

@@ -5,7 +5,7 @@ use mathlib.Core.Bool.{false}
 use mathlib.Core.List.{List}
 use native.Mathlib.Omega.{arith}
 use lib.ListN.{getD}
-use Rattle.whole.specs.Tab.{tab}
+use Rattle.whole.specs.Tab.{table}
 use Rattle.whole.specs.laws.Tab.{length-tab, at-tab, is-tab}
 use Rattle.tile_forth.specs.TileForth.{edge, pixelPlace, bytesAt, sampleAt, roundedOf}
 use Rattle.plan.specs.Plan.{tileColumn, tileRow, filledAt, changedTile}
@@ -36,9 +36,9 @@ module _ (w h k : ℕ) where
         let a = rw z at (same-byte i 0 l (omega arith)) in
         rw (a, same-byte i 1 l (omega arith), same-byte i 2 l (omega arith))
 
-    same-tab : (c : ℕ) → tab 4096 (sampleAt old w h (tileColumn w k) (tileRow w k) c) ≡ tab 4096 (sampleAt new w h (tileColumn w k) (tileRow w k) c)
+    same-tab : (c : ℕ) → table 4096 (sampleAt old w h (tileColumn w k) (tileRow w k) c) ≡ table 4096 (sampleAt new w h (tileColumn w k) (tileRow w k) c)
     same-tab c =
-        is-tab 4096 (sampleAt new w h (tileColumn w k) (tileRow w k) c) (tab 4096 (sampleAt old w h (tileColumn w k) (tileRow w k) c)) (length-tab 4096 _)
+        is-tab 4096 (sampleAt new w h (tileColumn w k) (tileRow w k) c) (table 4096 (sampleAt old w h (tileColumn w k) (tileRow w k) c)) (length-tab 4096 _)
         (λ i l. at-tab 4096 (sampleAt old w h (tileColumn w k) (tileRow w k) c) i l ∙ same-sample c i l)
 
     same-rounded : (q : List ℕ) (c : ℕ) → roundedOf old w h q (tileColumn w k) (tileRow w k) c ≡ roundedOf new w h q (tileColumn w k) (tileRow w k) c

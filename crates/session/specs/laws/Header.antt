@@ -17,7 +17,7 @@ use Rattle.wire.specs.laws.Mode.{mode-is}
 use Rattle.whole.specs.laws.Row.{held, both, passes, case-yes, case-no, case-is, case-not}
 use Rattle.session.specs.declared.Session.{Session}
 use Rattle.session.specs.declared.HeaderReading.the-variants.{Taken, Refused}
-use Rattle.session.specs.Header.{tilesOver, at, ofNumbers, stepped, Right, right, sizeGood, counted, made, ready, due}
+use Rattle.session.specs.Header.{tilesOver, recordOf, ofNumbers, stepped, Right, right, sizeGood, counted, made, ready, due}
 use Rattle.session.specs.Header.{sizeOf, headJudge, headerFault, channelsJudge, channelsFault, fieldFault, recordAfter, headerNumber, headerReading}
 
 -- ---- tiles over pixels
@@ -131,10 +131,10 @@ right-is s e =
     let b = held _ _ _ _ true≢false (a .1) in
     record { columns = eqb-true _ _ (a .0); rows = eqb-true _ _ (b .0); words = eqb-true _ _ (sym (b .1)) }
 
-pub right-at : (n w h et : ℕ) → Right (at n w h et)
+pub right-at : (n w h et : ℕ) → Right (recordOf n w h et)
 right-at n w h et = record { columns = refl; rows = refl; words = refl }
 
-at-right : (n w h et : ℕ) → right (at n w h et) ≡ true
+at-right : (n w h et : ℕ) → right (recordOf n w h et) ≡ true
 unfolding right
 at-right n w h et = sym (passes _ _ _ _ (eq-eqb (tilesOver w) _ refl) (passes _ _ _ _ (eq-eqb (tilesOver h) _ refl) (sym (eq-eqb (w * h) _ refl))))
 
@@ -152,34 +152,34 @@ made-good s e =
     record { no-glass = eqb-true _ _ (a .0); right = right-is s (b .0); counted = sym (b .1) }
 
 -- a record of 01's four numbers is judged by these alone
-pub made-at : (n w h et : ℕ) → counted n w h et ≡ true → made (at n w h et) ≡ true
+pub made-at : (n w h et : ℕ) → counted n w h et ≡ true → made (recordOf n w h et) ≡ true
 unfolding made
 made-at n w h et e = sym (passes _ _ _ _ (eq-eqb 0 0 refl) (passes _ _ _ _ (at-right n w h et) (sym e)))
 
 -- such records, by the headers that are in
-pub made-1 : made (at 1 0 0 0) ≡ true
+pub made-1 : made (recordOf 1 0 0 0) ≡ true
 unfolding counted _!_⨾_ _⇒_∣_
 made-1 = made-at 1 0 0 0 refl
 
-pub made-2 : made (at 2 0 0 0) ≡ true
+pub made-2 : made (recordOf 2 0 0 0) ≡ true
 unfolding counted _!_⨾_ _⇒_∣_
 made-2 = made-at 2 0 0 0 refl
 
-pub made-3 : (w h : ℕ) → sizeGood w h ≡ true → made (at 3 w h 0) ≡ true
+pub made-3 : (w h : ℕ) → sizeGood w h ≡ true → made (recordOf 3 w h 0) ≡ true
 unfolding counted _!_⨾_ _⇒_∣_
 made-3 w h g = made-at 3 w h 0 (rw g)
 
-pub ready-at : (w h et : ℕ) → sizeGood w h ≡ true → isMode et ≡ true → ready (at 4 w h et) ≡ true
+pub ready-at : (w h et : ℕ) → sizeGood w h ≡ true → isMode et ≡ true → ready (recordOf 4 w h et) ≡ true
 unfolding ready counted _!_⨾_ _⇒_∣_
 ready-at w h et g m = made-at 4 w h et (rw (g, m))
 
 -- a record of four numbers whose size 01 allows
-pub numbers-at : (n w h et : ℕ) → w ≤ 4096 → h ≤ 4096 → ofNumbers n w h et ≡ at n w h et
+pub numbers-at : (n w h et : ℕ) → w ≤ 4096 → h ≤ 4096 → ofNumbers n w h et ≡ recordOf n w h et
 unfolding ofNumbers
 numbers-at n w h et a b = rw (byte-holds w a, byte-holds h b)
 
 -- a made record, with other headers and another mode
-pub stepped-at : (s : Session) (n et : ℕ) → Made s → stepped s n et ≡ at n (s .width) (s .height) et
+pub stepped-at : (s : Session) (n et : ℕ) → Made s → stepped s n et ≡ recordOf n (s .width) (s .height) et
 unfolding stepped
 stepped-at s n et m = rw (m .right .columns, m .right .rows, m .right .words, m .no-glass)
 

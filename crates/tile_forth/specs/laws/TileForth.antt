@@ -12,7 +12,7 @@ use lib.ListN.{length, set, length-set, List·getD-eq-default}
 use borrow.Author.Count.{below-more}
 use Rattle.whole.specs.Row.{_⇒_∣_}
 use Rattle.whole.specs.laws.Near.{Near}
-use Rattle.whole.specs.Tab.{at, tab}
+use Rattle.whole.specs.Tab.{at, table}
 use Rattle.whole.specs.laws.Tab.{AllNear, row-in, is-tab}
 use Rattle.whole.specs.laws.Put.{put-new}
 use Rattle.colour.specs.Colour.{lumaOf, cbOf, crOf}
@@ -58,7 +58,7 @@ loaded-more f i xs v h e n d = record {
   near = below-more (λ k. Near 16384 (f k)) i (d .near) (subst (Near 16384) e n);
 }
 
-pub loaded-list : (f : ℕ → ℤ) (xs : List ℤ) → Loaded f 4096 xs → xs ≡ tab 4096 f
+pub loaded-list : (f : ℕ → ℤ) (xs : List ℤ) → Loaded f 4096 xs → xs ≡ table 4096 f
 loaded-list f xs d = is-tab 4096 f xs (d .len) (d .done)
 
 pub loaded-near : (f : ℕ → ℤ) (xs : List ℤ) → Loaded f 4096 xs → AllNear 16384 xs
@@ -72,4 +72,4 @@ loaded-near f xs d = record { all = λ k. place k (decLt k 4096) }
 
 pub rounded-of-length : (pixels : List ℕ) (w h : ℕ) (q : List ℕ) (tx ty c : ℕ) → length (roundedOf pixels w h q tx ty c) ≡ 4096
 unfolding roundedOf
-rounded-of-length pixels w h q tx ty c = rounded-length q (tileForth (tab 4096 (sampleAt pixels w h tx ty c)))
+rounded-of-length pixels w h q tx ty c = rounded-length q (tileForth (table 4096 (sampleAt pixels w h tx ty c)))

@@ -7,7 +7,7 @@ use lib.IntN.{ℤ, pos}
 use lib.ListN.{length, set, length-set}
 use Rattle.whole.specs.laws.Put.{put-new, put-old}
 use Rattle.whole.specs.laws.Near.{Near, add-near, sub-near, half-near, cut-near, lit-near, mul-near, wide-near, ap3}
-use Rattle.whole.specs.Tab.{at, tab}
+use Rattle.whole.specs.Tab.{at, table}
 use Rattle.whole.specs.laws.Tab.{is-tab}
 use Rattle.wave_back.specs.Line.{rowAvg, colAvg, evenZ, oddZ, evenAt, oddAt, lineAt, byParity}
 
@@ -35,7 +35,7 @@ line-place avg N L H f p q k h = place (k % 2) refl
         ap f g ∙ q (k / 2) (omega arith) ∙ ap (λ (m : ℕ). byParity m (evenAt L H (k / 2)) (oddAt avg N H (evenAt L H) (k / 2))) (sym e)
 
 -- and so is a list
-pub line-is : (avg : ℤ → ℤ → ℤ) (N : ℕ) (L H : ℕ → ℤ) (x : List ℤ) → length x ≡ 2 * N → ((n : ℕ) → n < N → at x (2 * n) ≡ evenAt L H n) → ((n : ℕ) → n < N → at x (2 * n + 1) ≡ oddAt avg N H (evenAt L H) n) → x ≡ tab (2 * N) (lineAt avg N L H)
+pub line-is : (avg : ℤ → ℤ → ℤ) (N : ℕ) (L H : ℕ → ℤ) (x : List ℤ) → length x ≡ 2 * N → ((n : ℕ) → n < N → at x (2 * n) ≡ evenAt L H n) → ((n : ℕ) → n < N → at x (2 * n + 1) ≡ oddAt avg N H (evenAt L H) n) → x ≡ table (2 * N) (lineAt avg N L H)
 line-is avg N L H x e p q = is-tab (2 * N) (lineAt avg N L H) x e (λ k h. line-place avg N L H (at x) p q k h)
 
 -- how far an even place can grow

@@ -10,7 +10,7 @@ use Rattle.whole.specs.Tab.{at, grid}
 use Rattle.whole.specs.laws.Tab.{length-grid, row-in}
 use Rattle.whole.specs.laws.Holds.{holds-grid, holds-append, holds-all}
 use Rattle.wave_back.specs.laws.Pass.{Two, Own, Done, Turned}
-use Rattle.wave_forth.specs.Halves.{highAt, lowAt}
+use Rattle.wave_forth.specs.Halves.{lineHigh, lineLow}
 use Rattle.wave_forth.specs.Forth.{lowRow, highRow}
 
 -- column x of rows of w numbers, and what is to stand in its low and its high half
@@ -18,10 +18,10 @@ abbrev pub colOf : ℕ → List ℤ → ℕ → ℕ → ℤ
 colOf w src x y = at src (y * w + x)
 
 abbrev pub Low : ℕ → ℕ → List ℤ → ℕ → ℕ → ℤ
-Low n w src r x = lowAt n (colOf w src x) r
+Low n w src r x = lineLow n (colOf w src x) r
 
 abbrev pub High : ℕ → ℕ → List ℤ → ℕ → ℕ → ℤ
-High n w src r x = highAt n (colOf w src x) r
+High n w src r x = lineHigh n (colOf w src x) r
 
 -- turn r of the pass makes rows r and n + r, and the rows of all turns below r
 abbrev pub Turn : ℕ → ℕ → List ℤ → ℕ → ℕ → List ℤ → List ℤ → Type 0

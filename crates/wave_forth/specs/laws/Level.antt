@@ -8,7 +8,7 @@ use lib.IntN.{ℤ}
 use lib.ListN.{length}
 use Rattle.whole.specs.Tab.{at, grid}
 use Rattle.whole.specs.laws.Tab.{length-grid, row-in}
-use Rattle.wave_forth.specs.Halves.{highAt, lowAt}
+use Rattle.wave_forth.specs.Halves.{lineHigh, lineLow}
 use Rattle.wave_forth.specs.laws.Halves.{high-cong, low-cong}
 use Rattle.wave_forth.specs.laws.Row.{from, Bands}
 use Rattle.wave_forth.specs.Forth.{lowRow, highRow, levelForth}
@@ -31,11 +31,11 @@ module _ (n : ℕ) (xs d₀ d₁ d₂ : List ℤ) (one : 1 ≤ n) (e : length d�
   unfolding levelForth
   level-is p q =
       holds-all d₂ _ (q .same ∙ p .same ∙ e ∙ sym (length-level n xs))
-      (holds-append d₂ 0 (n * n) _ _ (omega (arith, length-grid n n (λ r c. highAt n (lowRow n (at xs) r) c)))
+      (holds-append d₂ 0 (n * n) _ _ (omega (arith, length-grid n n (λ r c. lineHigh n (lowRow n (at xs) r) c)))
       (holds-grid d₂ 0 n n _ one (λ y i x j. let b = row-in y n n i in q .kept (0 + (y * n + x)) (λ m g. omega arith) (λ m g. omega arith) ∙ p .highs y i x j ∙ high-cong n _ _ (top y i) x j))
-      (holds-append d₂ (n * n) (2 * (n * n)) _ _ (omega (arith, length-grid n n (λ r c. lowAt n (highRow n (at xs) r) c)))
+      (holds-append d₂ (n * n) (2 * (n * n)) _ _ (omega (arith, length-grid n n (λ r c. lineLow n (highRow n (at xs) r) c)))
       (holds-grid d₂ (n * n) n n _ one (λ y i x j. q .lows y i x j ∙ low-cong n _ _ (bottom y i) x j))
-      (holds-append d₂ (2 * (n * n)) (3 * (n * n)) _ _ (omega (arith, length-grid n n (λ r c. highAt n (highRow n (at xs) r) c)))
+      (holds-append d₂ (2 * (n * n)) (3 * (n * n)) _ _ (omega (arith, length-grid n n (λ r c. lineHigh n (highRow n (at xs) r) c)))
       (holds-grid d₂ (2 * (n * n)) n n _ one (λ y i x j. q .highs y i x j ∙ high-cong n _ _ (bottom y i) x j))
       (holds-grid d₂ (3 * (n * n)) n n _ one (λ y i x j. let b = row-in y n n i in q .kept (3 * (n * n) + (y * n + x)) (λ m g. omega arith) (λ m g. omega arith) ∙ p .lows y i x j ∙ low-cong n _ _ (top y i) x j)))))
 

@@ -12,7 +12,7 @@ use borrow.Author.Count.{below-more}
 use Rattle.whole.specs.laws.Put.{put-new, put-old}
 use Rattle.whole.specs.Tab.{at}
 use Rattle.whole.specs.laws.Tab.{row-in}
-use Rattle.wave_forth.specs.Halves.{highAt, lowAt}
+use Rattle.wave_forth.specs.Halves.{lineHigh, lineLow}
 
 -- the q places from l on and those from h on have none in common
 pub record Apart (q l h : ℕ) : Type 0 where
@@ -25,20 +25,20 @@ from src s k = at src (s + k)
 -- the first c numbers of both halves of the row x are done, and what is in neither half is as it was
 pub record Split (n : ℕ) (x : ℕ → ℤ) (l h c : ℕ) (d₀ d : List ℤ) : Type 0 where
   pub same : length d ≡ length d₀
-  pub lows : (i : ℕ) → i < c → at d (l + i) ≡ lowAt n x i
-  pub highs : (i : ℕ) → i < c → at d (h + i) ≡ highAt n x i
+  pub lows : (i : ℕ) → i < c → at d (l + i) ≡ lineLow n x i
+  pub highs : (i : ℕ) → i < c → at d (h + i) ≡ lineHigh n x i
   pub kept : (k : ℕ) → ((i : ℕ) → i < n → k ≢ l + i) → ((i : ℕ) → i < n → k ≢ h + i) → at d k ≡ at d₀ k
 
 pub split-start : (n : ℕ) (x : ℕ → ℤ) (l h : ℕ) (d : List ℤ) → Split n x l h 0 d d
 split-start n x l h d = record { same = refl; lows = λ i k. absurd (not-suc-le-zero k); highs = λ i k. absurd (not-suc-le-zero k); kept = λ k p q. refl }
 
-pub split-put : (n : ℕ) (x : ℕ → ℤ) (l h j : ℕ) (d₀ d : List ℤ) (u v : ℤ) → Apart n l h → j < n → l + j < length d → h + j < length d → u ≡ lowAt n x j → v ≡ highAt n x j → Split n x l h j d₀ d → Split n x l h (j + 1) d₀ (set (set d (h + j) v) (l + j) u)
+pub split-put : (n : ℕ) (x : ℕ → ℤ) (l h j : ℕ) (d₀ d : List ℤ) (u v : ℤ) → Apart n l h → j < n → l + j < length d → h + j < length d → u ≡ lineLow n x j → v ≡ lineHigh n x j → Split n x l h j d₀ d → Split n x l h (j + 1) d₀ (set (set d (h + j) v) (l + j) u)
 split-put n x l h j d₀ d u v a b bl bh e f p = record {
   same = simp length-set (p .same);
-  lows = put-new (λ i. l + i) (lowAt n x) (set d (h + j) v) j u (simp length-set bl) (λ i k. omega arith) e
-      (put-old (λ i. l + i) (lowAt n x) d (h + j) v j (λ i k. a .apart i j (omega arith) b) (p .lows));
-  highs = put-old (λ i. h + i) (highAt n x) (set d (h + j) v) (l + j) u (j + 1) (λ i k g. a .apart j i b (omega arith) (sym g))
-      (put-new (λ i. h + i) (highAt n x) d j v bh (λ i k. omega arith) f (p .highs));
+  lows = put-new (λ i. l + i) (lineLow n x) (set d (h + j) v) j u (simp length-set bl) (λ i k. omega arith) e
+      (put-old (λ i. l + i) (lineLow n x) d (h + j) v j (λ i k. a .apart i j (omega arith) b) (p .lows));
+  highs = put-old (λ i. h + i) (lineHigh n x) (set d (h + j) v) (l + j) u (j + 1) (λ i k g. a .apart j i b (omega arith) (sym g))
+      (put-new (λ i. h + i) (lineHigh n x) d j v bh (λ i k. omega arith) f (p .highs));
   kept = λ k y z. getD-set-other (set d (h + j) v) (l + j) k u (pos 0) (y j b) ∙ getD-set-other d (h + j) k v (pos 0) (z j b) ∙ p .kept k y z;
 }
 
@@ -48,8 +48,8 @@ split-whole {n} {x} {l} {h} {c} {d₀} {d} e p = subst (λ (k : ℕ). Split n x 
 -- r rows of w numbers of src, from place s on, are done: their halves are the first rows of the n by n bands at l and at h
 pub record Bands (n w s : ℕ) (src : List ℤ) (l h r : ℕ) (d₀ d : List ℤ) : Type 0 where
   pub same : length d ≡ length d₀
-  pub lows : (y : ℕ) → y < r → (i : ℕ) → i < n → at d (l + (y * n + i)) ≡ lowAt n (from src (s + y * w)) i
-  pub highs : (y : ℕ) → y < r → (i : ℕ) → i < n → at d (h + (y * n + i)) ≡ highAt n (from src (s + y * w)) i
+  pub lows : (y : ℕ) → y < r → (i : ℕ) → i < n → at d (l + (y * n + i)) ≡ lineLow n (from src (s + y * w)) i
+  pub highs : (y : ℕ) → y < r → (i : ℕ) → i < n → at d (h + (y * n + i)) ≡ lineHigh n (from src (s + y * w)) i
   pub kept : (k : ℕ) → ((i : ℕ) → i < n * n → k ≢ l + i) → ((i : ℕ) → i < n * n → k ≢ h + i) → at d k ≡ at d₀ k
 
 pub bands-start : (n w s : ℕ) (src : List ℤ) (l h : ℕ) (d : List ℤ) → Bands n w s src l h 0 d d
@@ -69,10 +69,10 @@ module _ (n r l h : ℕ) (b : r < n) (a : Apart (n * n) l h) where
   pub bands-turn : (w s : ℕ) (src d₀ d e : List ℤ) → Split n (from src (s + r * w)) (l + r * n) (h + r * n) n d e → Bands n w s src l h r d₀ d → Bands n w s src l h (r + 1) d₀ e
   bands-turn w s src d₀ d e v p = record {
     same = v .same ∙ p .same;
-    lows = below-more (λ y. (i : ℕ) → i < n → at e (l + (y * n + i)) ≡ lowAt n (from src (s + y * w)) i) r
+    lows = below-more (λ y. (i : ℕ) → i < n → at e (l + (y * n + i)) ≡ lineLow n (from src (s + y * w)) i) r
         (λ y k i j. v .kept (l + (y * n + i)) (λ m g. omega (arith, row-in y r n k)) (λ m g f. a .apart (y * n + i) (r * n + m) (omega (arith, row-in y n n (before k))) (in-row m g) (omega arith)) ∙ p .lows y k i j)
         (λ i j. let z : l + (r * n + i) ≡ l + r * n + i = omega arith in ap (at e) z ∙ v .lows i j);
-    highs = below-more (λ y. (i : ℕ) → i < n → at e (h + (y * n + i)) ≡ highAt n (from src (s + y * w)) i) r
+    highs = below-more (λ y. (i : ℕ) → i < n → at e (h + (y * n + i)) ≡ lineHigh n (from src (s + y * w)) i) r
         (λ y k i j. v .kept (h + (y * n + i)) (λ m g f. a .apart (r * n + m) (y * n + i) (in-row m g) (omega (arith, row-in y n n (before k))) (omega arith)) (λ m g. omega (arith, row-in y r n k)) ∙ p .highs y k i j)
         (λ i j. let z : h + (r * n + i) ≡ h + r * n + i = omega arith in ap (at e) z ∙ v .highs i j);
     kept = λ k y z. v .kept k (λ i g f. y (r * n + i) (in-row i g) (omega arith)) (λ i g f. z (r * n + i) (in-row i g) (omega arith)) ∙ p .kept k y z;

@@ -10,7 +10,7 @@ use lib.ListN.{length, take, drop, length-take, length-drop, drop-of-length-le, 
 use lib.Seq.{take-at, drop-at, take-all, take-add, length-take-le}
 use borrow.Rule.Slice.PartMut.{putMid}
 use Rattle.whole.specs.laws.Near.{Near, wide-near}
-use Rattle.whole.specs.Tab.{at, tab, grid}
+use Rattle.whole.specs.Tab.{at, table, grid}
 use Rattle.whole.specs.laws.Tab.{at-tab, length-tab, at-grid, is-grid, length-grid, AllNear}
 
 -- two grids that agree within are one
@@ -18,12 +18,12 @@ pub grid-cong : (h W : ℕ) (f g : ℕ → ℕ → ℤ) → zero < W → ((y : �
 grid-cong h W f g w p = is-grid h W g (grid h W f) w (length-grid h W f) (λ y i x j. at-grid h W f y x i j ∙ p y i x j)
 
 -- 0 past the end is near too, so a bound on the places within bounds the list
-pub tab-within : {B : ℕ} (n : ℕ) (f : ℕ → ℤ) → ((k : ℕ) → k < n → Near B (f k)) → AllNear B (tab n f)
+pub tab-within : {B : ℕ} (n : ℕ) (f : ℕ → ℤ) → ((k : ℕ) → k < n → Near B (f k)) → AllNear B (table n f)
 tab-within {B} n f p = record { all = λ i. place i (decLt i n) }
   where
-    place : (i : ℕ) → Dec (i < n) → Near B (at (tab n f) i)
+    place : (i : ℕ) → Dec (i < n) → Near B (at (table n f) i)
     place i (yes h) = subst (Near B) (sym (at-tab n f i h)) (p i h)
-    place i (no h) = subst (Near B) (sym (List·getD-eq-default (tab n f) (pos 0) (subst (λ (m : ℕ). m ≤ i) (sym (length-tab n f)) (omega arith)))) (record { near = zero-le })
+    place i (no h) = subst (Near B) (sym (List·getD-eq-default (table n f) (pos 0) (subst (λ (m : ℕ). m ≤ i) (sym (length-tab n f)) (omega arith)))) (record { near = zero-le })
 
 pub grid-within : {B : ℕ} (h W : ℕ) (f : ℕ → ℕ → ℤ) → zero < W → ((y : ℕ) → y < h → (x : ℕ) → x < W → Near B (f y x)) → AllNear B (grid h W f)
 unfolding grid

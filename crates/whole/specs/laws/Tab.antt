@@ -12,23 +12,23 @@ use lib.IntN.{ℤ, pos}
 use lib.ListN.{length, List·getD-eq-default}
 use lib.Seq.{ext-getD}
 use Rattle.whole.specs.laws.Near.{Near}
-use Rattle.whole.specs.Tab.{at, tab, grid}
+use Rattle.whole.specs.Tab.{at, table, grid}
 
-pub length-tab : (n : ℕ) (f : ℕ → ℤ) → length (tab n f) ≡ n
-unfolding tab
+pub length-tab : (n : ℕ) (f : ℕ → ℤ) → length (table n f) ≡ n
+unfolding table
 length-tab zero f = refl
 length-tab (suc n) f = ap suc (length-tab n (λ k. f (suc k)))
 
-pub at-tab : (n : ℕ) (f : ℕ → ℤ) (i : ℕ) → i < n → at (tab n f) i ≡ f i
-unfolding tab
+pub at-tab : (n : ℕ) (f : ℕ → ℤ) (i : ℕ) → i < n → at (table n f) i ≡ f i
+unfolding table
 at-tab zero f i h = absurd (not-suc-le-zero h)
 at-tab (suc n) f zero h = refl
 at-tab (suc n) f (suc i) h = at-tab n (λ k. f (suc k)) i (le-of-suc-le-suc h)
 
 -- a list that has f at each place is the list of f
-pub is-tab : (n : ℕ) (f : ℕ → ℤ) (l : List ℤ) → length l ≡ n → ((i : ℕ) → i < n → at l i ≡ f i) → l ≡ tab n f
+pub is-tab : (n : ℕ) (f : ℕ → ℤ) (l : List ℤ) → length l ≡ n → ((i : ℕ) → i < n → at l i ≡ f i) → l ≡ table n f
 is-tab n f l e h =
-    ext-getD (pos 0) l (tab n f) (e ∙ sym (length-tab n f)) (λ i k. h i (rw e at k) ∙ sym (at-tab n f i (rw e at k)))
+    ext-getD (pos 0) l (table n f) (e ∙ sym (length-tab n f)) (λ i k. h i (rw e at k) ∙ sym (at-tab n f i (rw e at k)))
 
 -- every place holds a number that is at most B away from 0
 pub record AllNear (B : ℕ) (xs : List ℤ) : Type 0 where
@@ -65,12 +65,12 @@ pub row-apart : (W y x v : ℕ) → x < W → y ≢ v → y * W + x ≢ v * W + 
 row-apart W y x v p d e = d (sym (digits-div y p) ∙ ap (λ (k : ℕ). k / W) e ∙ digits-div v p)
 
 -- 0 past the end is near too, so a bound on f bounds the list
-pub tab-near : {B : ℕ} (n : ℕ) (f : ℕ → ℤ) → ((k : ℕ) → Near B (f k)) → AllNear B (tab n f)
+pub tab-near : {B : ℕ} (n : ℕ) (f : ℕ → ℤ) → ((k : ℕ) → Near B (f k)) → AllNear B (table n f)
 tab-near {B} n f p = record { all = λ i. place i (decLt i n) }
   where
-    place : (i : ℕ) → Dec (i < n) → Near B (at (tab n f) i)
+    place : (i : ℕ) → Dec (i < n) → Near B (at (table n f) i)
     place i (yes h) = subst (Near B) (sym (at-tab n f i h)) (p i)
-    place i (no h) = subst (Near B) (sym (List·getD-eq-default (tab n f) (pos 0) (subst (λ (m : ℕ). m ≤ i) (sym (length-tab n f)) (omega arith)))) (record { near = zero-le })
+    place i (no h) = subst (Near B) (sym (List·getD-eq-default (table n f) (pos 0) (subst (λ (m : ℕ). m ≤ i) (sym (length-tab n f)) (omega arith)))) (record { near = zero-le })
 
 pub grid-near : {B : ℕ} (h W : ℕ) (f : ℕ → ℕ → ℤ) → ((y x : ℕ) → Near B (f y x)) → AllNear B (grid h W f)
 unfolding grid

@@ -26,7 +26,7 @@ returns-2 : tie.Need-returns-2
 returns-2 c = let a = c .before .before .before .before .args in c .single .ensures ∙ rw (c .before .if2 .left) (sym (elem-low-one (a .c .kp) (a .c .krp) (a .left) (a .c .at) (bitsOf (a .s .now)) (c .before .before .if1 .taken)))
 
 returns-3 : tie.Need-returns-3
-returns-3 c = let a = c .before .before .before .args in c .run .ensures ∙ sym (elem-high (a .two) (a .c .kp) (a .c .krp) (a .left) (a .c .at) (bitsOf (a .s .now)) (c .before .if1 .left))
+returns-3 c = let a = c .before .before .before .args in c .run .ensures ∙ sym (elem-high (a .rlgr3) (a .c .kp) (a .c .krp) (a .left) (a .c .at) (bitsOf (a .s .now)) (c .before .if1 .left))
 
 pub read-element-spec : {M : Type 1} → statement M
 read-element-spec =

@@ -23,7 +23,7 @@ returns c =
     let f = c .before .fill in
     let l = c .before .before .before .before .clear in
     let s = c .before .before .before .before .before .before .before in
-    subst (λ (n : ℕ). Fills (readList (s .args .two) n (bitsOf (now (s .args .s)))) (f .last .1 .1 .0) (f .result)) (l .kept .0 ∙ s .pre .1) (f .ensures)
+    subst (λ (n : ℕ). Fills (readList (s .args .rlgr3) n (bitsOf (now (s .args .s)))) (f .last .1 .1 .0) (f .result)) (l .kept .0 ∙ s .pre .1) (f .ensures)
 
 pub decode-spec : {M : Type 1} → statement M
 decode-spec = tie.close (tie.spec (λ c κs. search needs) fill-requires (λ c. search needs) returns)

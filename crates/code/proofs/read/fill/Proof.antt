@@ -18,15 +18,15 @@ use Rattle.code.proofs.read.place.Reads as place-reads
 use Rattle.code.proofs.read.quick_turn.Reads as quick-turn-reads
 
 abbrev Inv-loop : tie.InvT-loop
-Inv-loop s two out₀ n c₀ i₀ out c i = Filling two (length out₀) (bitsOf s) out c i
+Inv-loop s rlgr3 out₀ n c₀ i₀ out c i = Filling rlgr3 (length out₀) (bitsOf s) out c i
 
 abbrev μ-loop : tie.MeasureT-loop
-μ-loop s two out₀ n c₀ i₀ out c i = length out₀ - i
+μ-loop s rlgr3 out₀ n c₀ i₀ out c i = length out₀ - i
 
 loop-holds : tie.Need-loop-holds Inv-loop μ-loop
 loop-holds c =
     let a = c .before in
-    filling-start (a .args .two) (length (a .args .list .now)) (bitsOf (a .args .s .now)) (a .args .list .now) refl (a .pre .2)
+    filling-start (a .args .rlgr3) (length (a .args .list .now)) (bitsOf (a .args .s .now)) (a .args .list .now) refl (a .pre .2)
 
 quick-turn-requires : tie.Need-quick-turn-requires Inv-loop μ-loop
 quick-turn-requires c κs =
@@ -37,7 +37,7 @@ quick-turn-requires c κs =
       s .pre .0,
       omega (arith, n, s .pre .1),
       omega (arith, n, c .before .loop-test .taken),
-      filling-long (a .two) (length (a .list .now)) (bitsOf (a .s .now)) (l .list) (l .c) (l .i) (l .inv),
+      filling-long (a .rlgr3) (length (a .list .now)) (bitsOf (a .s .now)) (l .list) (l .c) (l .i) (l .inv),
     )
 
 enum-known-j : tie.Need-enum-known-j Inv-loop μ-loop
@@ -49,7 +49,7 @@ loop-less c =
     let l = q .before .before .before .loop in
     let a = q .before .before .before .before .before .args in
     let t = q .quick-turn in
-    let r = quick-next (a .two) (bitsOf (a .s .now)) (l .list) (l .c) (l .i) (length (a .list .now)) (t .last .1 .1 .1 .0) (t .result) (l .inv) (t .ensures) in
+    let r = quick-next (a .rlgr3) (bitsOf (a .s .now)) (l .list) (l .c) (l .i) (length (a .list .now)) (t .last .1 .1 .1 .0) (t .result) (l .inv) (t .ensures) in
     omega (arith, r _ _ (c .before .j .given .1) .1, q .before .before .loop-test .taken)
 
 loop-again : tie.Need-loop-again Inv-loop μ-loop
@@ -58,7 +58,7 @@ loop-again c =
     let l = q .before .before .before .loop in
     let a = q .before .before .before .before .before .args in
     let t = q .quick-turn in
-    let r = quick-next (a .two) (bitsOf (a .s .now)) (l .list) (l .c) (l .i) (length (a .list .now)) (t .last .1 .1 .1 .0) (t .result) (l .inv) (t .ensures) in
+    let r = quick-next (a .rlgr3) (bitsOf (a .s .now)) (l .list) (l .c) (l .i) (length (a .list .now)) (t .last .1 .1 .1 .0) (t .result) (l .inv) (t .ensures) in
     r _ _ (c .before .j .given .1) .0
 
 enum-told : tie.Need-enum-told Inv-loop μ-loop
@@ -80,7 +80,7 @@ place-requires c κs =
     let a = s .args in
     let h = q .before .before .loop-test .taken in
     let n : length (q .quick-turn .last .1 .1 .1 .0) ≡ length (a .list .now) = q .quick-turn .kept .1 .1 .1 .0 ∙ l .inv .clear .len in
-    let f = elem-fine (a .two) (l .c .kp) (l .c .krp) (length (a .list .now)) (l .i) (l .c .at) (bitsOf (a .s .now)) h in
+    let f = elem-fine (a .rlgr3) (l .c .kp) (l .c .krp) (length (a .list .now)) (l .i) (l .c .at) (bitsOf (a .s .now)) h in
     (omega (arith, n, s .pre .1), omega (arith, n, h), rw (n, c .before .read-element .ensures) f)
 
 enum-known-r : tie.Need-enum-known-r Inv-loop μ-loop
@@ -101,8 +101,8 @@ returns c =
     let a = q .before .before .before .before .before .args in
     let n = length (a .list .now) in
     let t = q .quick-turn in
-    let same = quick-same (a .two) (bitsOf (a .s .now)) (l .list) (l .c) (l .i) n (t .last .1 .1 .1 .0) (t .result) (l .inv) (t .ensures) in
-    turn-bad (a .two) n (bitsOf (a .s .now)) (t .last .1 .1 .1 .0) (p .place .last .0) (l .c) (l .i) (e .result) (p .place .result)
+    let same = quick-same (a .rlgr3) (bitsOf (a .s .now)) (l .list) (l .c) (l .i) n (t .last .1 .1 .1 .0) (t .result) (l .inv) (t .ensures) in
+    turn-bad (a .rlgr3) n (bitsOf (a .s .now)) (t .last .1 .1 .1 .0) (p .place .last .0) (l .c) (l .i) (e .result) (p .place .result)
     (same (p .before .before .before .enum-told .given .1)) (q .before .before .loop-test .taken) (e .ensures) (p .place .ensures .0) _ (c .before .r .given .1)
 
 enum-known-j-2 : tie.Need-enum-known-j-2 Inv-loop μ-loop
@@ -118,8 +118,8 @@ loop-less-2 c =
     let n = length (a .list .now) in
     let t = q .quick-turn in
     let h = q .before .before .loop-test .taken in
-    let same = quick-same (a .two) (bitsOf (a .s .now)) (l .list) (l .c) (l .i) n (t .last .1 .1 .1 .0) (t .result) (l .inv) (t .ensures) in
-    let r = turn-next (a .two) n (bitsOf (a .s .now)) (t .last .1 .1 .1 .0) (p .place .last .0) (l .c) (l .i) (e .result) (p .place .result)
+    let same = quick-same (a .rlgr3) (bitsOf (a .s .now)) (l .list) (l .c) (l .i) n (t .last .1 .1 .1 .0) (t .result) (l .inv) (t .ensures) in
+    let r = turn-next (a .rlgr3) n (bitsOf (a .s .now)) (t .last .1 .1 .1 .0) (p .place .last .0) (l .c) (l .i) (e .result) (p .place .result)
     (same (p .before .before .before .enum-told .given .1)) h (e .ensures) (p .place .ensures .0) in
     omega (arith, r _ _ (p .place .ensures .1) (c .before .j2 .given .1) .1, h)
 
@@ -132,8 +132,8 @@ loop-again-2 c =
     let a = q .before .before .before .before .before .args in
     let n = length (a .list .now) in
     let t = q .quick-turn in
-    let same = quick-same (a .two) (bitsOf (a .s .now)) (l .list) (l .c) (l .i) n (t .last .1 .1 .1 .0) (t .result) (l .inv) (t .ensures) in
-    let r = turn-next (a .two) n (bitsOf (a .s .now)) (t .last .1 .1 .1 .0) (p .place .last .0) (l .c) (l .i) (e .result) (p .place .result)
+    let same = quick-same (a .rlgr3) (bitsOf (a .s .now)) (l .list) (l .c) (l .i) n (t .last .1 .1 .1 .0) (t .result) (l .inv) (t .ensures) in
+    let r = turn-next (a .rlgr3) n (bitsOf (a .s .now)) (t .last .1 .1 .1 .0) (p .place .last .0) (l .c) (l .i) (e .result) (p .place .result)
     (same (p .before .before .before .enum-told .given .1)) (q .before .before .loop-test .taken) (e .ensures) (p .place .ensures .0) in
     r _ _ (p .place .ensures .1) (c .before .j2 .given .1) .0
 
@@ -144,7 +144,7 @@ returns-2 : tie.Need-returns-2 Inv-loop μ-loop
 returns-2 c =
     let l = c .before .loop in
     let a = c .before .before .before .args in
-    filling-end (a .two) (length (a .list .now)) (bitsOf (a .s .now)) (l .list) (l .c) (l .i) (c .loop-test .left) (l .inv)
+    filling-end (a .rlgr3) (length (a .list .now)) (bitsOf (a .s .now)) (l .list) (l .c) (l .i) (c .loop-test .left) (l .inv)
 
 pub fill-spec : {M : Type 1} → statement M
 fill-spec =

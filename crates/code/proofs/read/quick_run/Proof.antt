@@ -118,7 +118,7 @@ same-length : tie.Need-same-length
 same-length c = search needs
 
 returns-3 : tie.Need-returns-3
-returns-3 c two _ =
+returns-3 c rlgr3 _ =
     let q = c .before .before .before .before in
     let t = q .before .before in
     let k = t .before .before .before in

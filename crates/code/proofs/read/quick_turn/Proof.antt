@@ -27,7 +27,7 @@ same-length c = search needs
 returns-3 : tie.Need-returns-3
 returns-3 c =
     let s = c .before .before .before .before .before .before .before in
-    c .before .quick-run .ensures (s .args .two) (s .pre .3)
+    c .before .quick-run .ensures (s .args .rlgr3) (s .pre .3)
 
 quick-pair-requires : tie.Need-quick-pair-requires
 quick-pair-requires c κs =

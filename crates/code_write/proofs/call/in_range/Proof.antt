@@ -6,7 +6,7 @@ use lib.ListN.{getD, length, drop}
 use Rattle.code_write.specs.laws.Write.{near-read, range-next, range-stop, range-past}
 use Prim.Native.Nat.{_-_}
 use native.Mathlib.Omega.{arith}
-use Rattle.code_write.specs.Write.{inRange}
+use Rattle.code_write.specs.Write.{allInRange}
 use Rattle.code_write.proofs.call.in_range.Statement.{statement}
 use Rattle.code_write.proofs.call.in_range.Tie as tie
 use Rattle.code_write.proofs.call.in_range.Reads as reads
@@ -14,7 +14,7 @@ use Rattle.code_write.proofs.call.in_range.Lts as lts
 use Rattle.code_write.proofs.call.near.Reads as near-reads
 
 abbrev Inv-loop : tie.InvT-loop
-Inv-loop list i₀ i = inRange list ≡ inRange (drop i list)
+Inv-loop list i₀ i = allInRange list ≡ allInRange (drop i list)
 
 abbrev μ-loop : tie.MeasureT-loop
 μ-loop list i₀ i = length list - i

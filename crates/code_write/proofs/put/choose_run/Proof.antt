@@ -31,7 +31,7 @@ returns c =
     let s = c .before .before in
     let a = s .args in
     let w = shift-one (a .kp / 8) (omega (arith, s .pre .4)) in
-    sym (item-full (a .two) (a .kp) (drop (a .i) (map foldZ (a .xs .now))) (omega (arith, s .pre .3))
+    sym (item-full (a .rlgr3) (a .kp) (drop (a .i) (map foldZ (a .xs .now))) (omega (arith, s .pre .3))
     (omega (arith, w, c .before .zeros-from .ensures, c .if1 .taken)))
 
 returns-2 : tie.Need-returns-2
@@ -40,7 +40,7 @@ returns-2 c =
     let a = s .args in
     let l = map foldZ (a .xs .now) in
     let n = length-drop (a .i) l in
-    sym (item-full (a .two) (a .kp) (drop (a .i) l) (omega (arith, s .pre .3))
+    sym (item-full (a .rlgr3) (a .kp) (drop (a .i) l) (omega (arith, s .pre .3))
     (omega (arith, n, length-map (a .xs .now) foldZ, c .before .before .zeros-from .ensures, c .if2 .taken)))
 
 add-folded-at : tie.Need-add-folded-at
@@ -59,7 +59,7 @@ returns-3 c =
     let w = shift-one (a .kp / 8) (omega (arith, s .pre .4)) in
     let e : zerosOf (drop (a .i) l) ≡ z = omega (arith, f .zeros-from .ensures, c .before .before .if1 .left) in
     let v = at-drop l (a .i) z (a .i + z) refl ∙ sym (c .folded-at .ensures) in
-    sym (item-run (a .two) (a .kp) (drop (a .i) l) (omega (arith, s .pre .3)) z _ (sym e) v (omega (arith, w, c .before .before .if1 .left))
+    sym (item-run (a .rlgr3) (a .kp) (drop (a .i) l) (omega (arith, s .pre .3)) z _ (sym e) v (omega (arith, w, c .before .before .if1 .left))
     (omega (arith, length-drop (a .i) l, length-map (a .xs .now) foldZ, c .before .if2 .left)))
 
 pub choose-run-spec : {M : Type 1} → statement M

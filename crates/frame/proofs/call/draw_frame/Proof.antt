@@ -40,9 +40,10 @@ returns c =
     let s = l .before .before .before in
     let a = s .args in
     let g = message-good (a .w) (a .h) (a .mode) (now (a .m)) (s .pre .1) in
-    let size = l .le32-at .ensures .0 in
-    (drawn-count (a .w) (a .h) (a .mode) (now (a .m)) g _ size _ (c .le16-at .ensures .0),
-    drawn-picture (a .w) (a .h) (a .mode) (now (a .m)) g _ size _ _ (c .before .before .before .before .before .before .before .show .ensures))
+    let size = l .le32-at .ensures .0 in (
+      drawn-count (a .w) (a .h) (a .mode) (now (a .m)) g _ size _ (c .le16-at .ensures .0),
+      drawn-picture (a .w) (a .h) (a .mode) (now (a .m)) g _ size _ _ (c .before .before .before .before .before .before .before .show .ensures),
+    )
 
 pub draw-frame-spec : {M : Type 1} → statement M
 draw-frame-spec =

@@ -7,7 +7,7 @@ use lib.ListN.{length}
 use denote.Ref.{now}
 use borrow.Author.Needs.{needs}
 use Rattle.bands.specs.Bands.{quantOf, QuantGood}
-use Rattle.frame_layout.specs.Reader.{quantAt, quantCount, tileAt}
+use Rattle.frame_layout.specs.Reader.{setAt, quantCount, tileAt}
 use Rattle.frame_blocks.specs.Tiles.{indexOf}
 use Rattle.frame_blocks.specs.laws.Tiles.{index-below}
 use Rattle.frame_blocks.specs.Judged.{inSet, judged}
@@ -26,7 +26,7 @@ there c = let s = c .before .before .before in omega (arith, set-fits (now (s .a
 set-read : (c : tie.After-quant-at) →
     let s = c .before .before .before .before in
     let t = tileAt (now (s .args .d)) (s .args .at) in
-    c .quant-at .result .v ≡ quantOf (quantAt (now (s .args .m)) (s .args .sp) (indexOf t (s .args .k)))
+    c .quant-at .result .v ≡ quantOf (setAt (now (s .args .m)) (s .args .sp) (indexOf t (s .args .k)))
 set-read c = let s = c .before .before .before .before in set-is (now (s .args .m)) (s .args .sp) _ _ _ (c .quant-at .ensures) (c .before .quant-index .ensures)
 
 component-fault-requires : tie.Need-component-fault-requires

@@ -1,24 +1,24 @@
 use Rattle.whole.specs.laws.Row.{rows}
-use Rattle.frame_layout.specs.Reader.{headJudge}
+use Rattle.frame_layout.specs.Reader.{blockJudge}
 use Rattle.frame_blocks.proofs.block.head_judge.Statement.{statement}
 use Rattle.frame_blocks.proofs.block.head_judge.Tie as tie
 use Rattle.frame_blocks.proofs.block.head_judge.Reads as reads
 use Rattle.frame_blocks.proofs.block.head_judge.Lts as lts
 
 returns : tie.Need-returns
-unfolding headJudge
+unfolding blockJudge
 returns c = search rows depth 14 fits 20000
 
 returns-2 : tie.Need-returns-2
-unfolding headJudge
+unfolding blockJudge
 returns-2 c = search rows depth 14 fits 20000
 
 returns-3 : tie.Need-returns-3
-unfolding headJudge
+unfolding blockJudge
 returns-3 c = search rows depth 14 fits 20000
 
 returns-4 : tie.Need-returns-4
-unfolding headJudge
+unfolding blockJudge
 returns-4 c = search rows depth 14 fits 20000
 
 pub head-judge-spec : {M : Type 1} → statement M

@@ -5,7 +5,7 @@ use mathlib.Core.List.{List}
 use native.Mathlib.Omega.{arith}
 use denote.Ref.{now}
 use Rattle.bands.specs.Bands.{QuantGood}
-use Rattle.frame_layout.specs.Reader.{quantCount, quantAt, tileAt}
+use Rattle.frame_layout.specs.Reader.{quantCount, setAt, tileAt}
 use Rattle.frame_blocks.specs.Tiles.{indexOf, TileSound}
 use Rattle.frame_blocks.specs.laws.Tiles.{index-below, sound-part}
 use Rattle.frame_blocks.specs.Judged.{inSet, judged}
@@ -80,7 +80,7 @@ returns c =
     let i = c .before .before .before .before .before .before .before in
     let s = i .before .before .before in
     let set = set-is (now (s .args .m)) (s .args .p .sp) _ _ _ (c .before .before .before .before .before .before .quant-at .ensures) (i .quant-index .ensures) in
-    let d = ap (λ (z : List ℕ). planeOf (s .args .p .mode) (quantAt (now (s .args .m)) (s .args .p .sp)) (tileAt z (s .args .at)) (s .args .k)) (i .before .tile-data .ensures) in
+    let d = ap (λ (z : List ℕ). planeOf (s .args .p .mode) (setAt (now (s .args .m)) (s .args .p .sp)) (tileAt z (s .args .at)) (s .args .k)) (i .before .tile-data .ensures) in
     c .before .before .samples .ensures ∙ (rw (set, c .before .before .before .before .before .code-part .ensures) d)
 
 pub part-samples-spec : {M : Type 1} → statement M

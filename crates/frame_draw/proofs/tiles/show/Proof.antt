@@ -8,7 +8,7 @@ use native.Mathlib.Omega.{arith}
 use denote.Ref.{now}
 use lib.ListN.{length}
 use Rattle.wire.specs.Le.{le32}
-use Rattle.frame_layout.specs.Reader.{sizeAt, tilesFault, tilesIn, tileCount, rectCount, quantCount, quantAt, dataOf}
+use Rattle.frame_layout.specs.Reader.{sizeAt, tilesFault, tilesIn, tileCount, rectCount, quantCount, setAt, dataOf}
 use Rattle.frame_blocks.specs.Blocks.{rectsOf}
 use Rattle.frame_blocks.specs.Tiles.{TileSound}
 use Rattle.frame_blocks.specs.laws.Tiles.{walk-sound}
@@ -22,7 +22,7 @@ use Rattle.frame_draw.proofs.tiles.show.Tie as tie
 abbrev Inv-loop : tie.InvT-loop
 Inv-loop picture₀ p m ys₀ cbs₀ crs₀ tmp₀ n d at₀ i₀ picture ys cbs crs tmp at i =
     let tiles = dataOf m (p .sp) in
-    let drawn = tilesDrawn (rectsOf m 14) (rectCount m 14) (tileWord (p .mode) (quantAt m (p .sp))) (p .w) (p .h) in
+    let drawn = tilesDrawn (rectsOf m 14) (rectCount m 14) (tileWord (p .mode) (setAt m (p .sp))) (p .w) (p .h) in
     (i ≤ n) × (at ≤ length tiles) × (0 ≡ tilesFault (inSet (p .mode) m (p .sp)) (p .w) (p .h) (quantCount m (p .sp)) tiles (n - i) at)
     × (length picture ≡ length picture₀) × Lists ys cbs crs tmp × (drawn (tilesIn tiles n 0) picture₀ ≡ drawn (tilesIn tiles (n - i) at) picture)
 
@@ -126,7 +126,7 @@ returns c =
     let a = c .before in
     let t = a .before .before in
     let g = t .before .before .before .before .args in
-    let drawn = tilesDrawn (rectsOf (now (g .m)) 14) (rectCount (now (g .m)) 14) (tileWord (g .p .mode) (quantAt (now (g .m)) (g .p .sp))) (g .p .w) (g .p .h) in
+    let drawn = tilesDrawn (rectsOf (now (g .m)) 14) (rectCount (now (g .m)) 14) (tileWord (g .p .mode) (setAt (now (g .m)) (g .p .sp))) (g .p .w) (g .p .h) in
     let n : t .le16-at .result ≤ a .loop .i = omega (arith, c .loop-test .left) in
     sym (a .loop .inv .5 ∙ shown-none _ _ _ _ _ _ (t .le16-at .result) (a .loop .i) _ _ n)
     ∙ ap (λ (z : ℕ). drawn (tilesIn (dataOf (now (g .m)) (g .p .sp)) z 0) (now (g .picture))) (t .le16-at .ensures .0)

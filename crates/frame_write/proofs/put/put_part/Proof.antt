@@ -8,8 +8,8 @@ use lib.IntN.{ℤ}
 use lib.ListN.{length}
 use denote.Ref.{now}
 use Rattle.wire.specs.Le.{patch}
-use Rattle.code_write.specs.Write.{bytesOf, inRange}
-use Rattle.frame_write.specs.Encode.{partOf}
+use Rattle.code_write.specs.Write.{bytesOf, allInRange}
+use Rattle.frame_write.specs.Encode.{tilePart}
 use Rattle.frame_write.specs.Job.{listIn}
 use Rattle.frame_write.specs.laws.Encode.{part-range}
 use borrow.Author.Needs.{needs}
@@ -20,14 +20,14 @@ load-part-requires : tie.Need-load-part-requires
 load-part-requires c κs = (c .before .before .before .before .pre .0, c .before .before .before .before .pre .1)
 
 put-component-requires : tie.Need-put-component-requires
-unfolding partOf
+unfolding tilePart
 put-component-requires c κs =
     let s = c .before .before .before .before .before .before .before .before .before in
     let a = s .args in
     let j = a .job in
     let e = sym (c .before .before .before .before .load-part .ensures) in (
       omega (arith, c .before .before .before .before .load-part .kept .1 .1 .1 .1 .0, s .pre .0 .first),
-      subst (λ (l : List ℤ). inRange l ≡ true) e (part-range (j .mode) (j .quant .v) (listIn j (now (a .pixels)) (a .k) (a .c)) (s .pre .2)),
+      subst (λ (l : List ℤ). allInRange l ≡ true) e (part-range (j .mode) (j .quant .v) (listIn j (now (a .pixels)) (a .k) (a .c)) (s .pre .2)),
       subst (λ (l : List ℤ). a .at + length (bytesOf (j .mode) l) ≤ length (now (a .out))) e (s .pre .3),
     )
 
@@ -41,7 +41,7 @@ same-length-3 : tie.Need-same-length-3
 same-length-3 c = search needs
 
 returns : tie.Need-returns
-unfolding partOf
+unfolding tilePart
 returns c =
     let a = c .before .before .before .before .before .before .before .before .before .before .before .before .args in
     let j = a .job in

@@ -6,9 +6,9 @@ use lib.ListN.{length}
 use denote.Ref.{now}
 use borrow.Author.Needs.{needs}
 use Rattle.bands.specs.Bands.{coefficientsFault}
-use Rattle.code_write.specs.Write.{Measures, bytesOf, componentFault}
+use Rattle.code_write.specs.Write.{Measures, bytesOf, codeFault}
 use Rattle.code_write.specs.laws.Write.{sized-measures}
-use Rattle.frame_write.specs.Encode.{partOf}
+use Rattle.frame_write.specs.Encode.{tilePart}
 use Rattle.frame_write.specs.Job.{listIn}
 use Rattle.frame_write.specs.laws.Encode.{part-judged, part-large, part-measured}
 use Rattle.frame_write.proofs.size.part_size.Statement.{statement}
@@ -27,7 +27,7 @@ same-length-2 : tie.Need-same-length-2
 same-length-2 c = search needs
 
 returns : tie.Need-returns
-unfolding partOf
+unfolding tilePart
 returns c =
     let a = c .before .before .before .before .before .before .before .before .before .before .args in
     let j = a .job in
@@ -44,7 +44,7 @@ same-length-4 : tie.Need-same-length-4
 same-length-4 c = search needs
 
 returns-2 : tie.Need-returns-2
-unfolding partOf
+unfolding tilePart
 returns-2 c =
     let c1 = c .before .before in
     let c2 = c1 .before .before in
@@ -56,7 +56,7 @@ returns-2 c =
     let m = c1 .measure-component in
     let e = c3 .judge .ensures ∙ ap (coefficientsFault (j .quant .v)) (c4 .load-part .ensures) in
     part-large (j .mode) (j .quant .v) (listIn j (now (a .pixels)) (a .k) (a .c)) (c3 .judge .result) e (c2 .if1 .left) (m .result)
-    (subst (λ (x : List ℤ). Measures (componentFault (j .mode) x) (length (bytesOf (j .mode) x)) (m .result)) (c4 .load-part .ensures)
+    (subst (λ (x : List ℤ). Measures (codeFault (j .mode) x) (length (bytesOf (j .mode) x)) (m .result)) (c4 .load-part .ensures)
     (sized-measures _ _ _ (m .ensures)))
     (c .if2 .taken)
 
@@ -67,7 +67,7 @@ same-length-6 : tie.Need-same-length-6
 same-length-6 c = search needs
 
 returns-3 : tie.Need-returns-3
-unfolding partOf
+unfolding tilePart
 returns-3 c =
     let c1 = c .before .before in
     let c2 = c1 .before .before in
@@ -79,7 +79,7 @@ returns-3 c =
     let m = c1 .measure-component in
     let e = c3 .judge .ensures ∙ ap (coefficientsFault (j .quant .v)) (c4 .load-part .ensures) in
     part-measured (j .mode) (j .quant .v) (listIn j (now (a .pixels)) (a .k) (a .c)) (c3 .judge .result) e (c2 .if1 .left) (m .result)
-    (subst (λ (x : List ℤ). Measures (componentFault (j .mode) x) (length (bytesOf (j .mode) x)) (m .result)) (c4 .load-part .ensures)
+    (subst (λ (x : List ℤ). Measures (codeFault (j .mode) x) (length (bytesOf (j .mode) x)) (m .result)) (c4 .load-part .ensures)
     (sized-measures _ _ _ (m .ensures)))
     (c .if2 .left)
 

@@ -3,7 +3,7 @@
 use mathlib.Core.Path.{refl, _∙_}
 use native.Mathlib.Omega.{arith}
 use denote.Ref.{now}
-use Rattle.frame_write.specs.Encode.{partOf, tileRefusal}
+use Rattle.frame_write.specs.Encode.{tilePart, tileRefusal}
 use Rattle.frame_write.specs.laws.Encode.{part-sized, first-of, second-of, third-of, tile-sized}
 use Rattle.frame_write.specs.laws.FrameWrite.{still-good}
 use borrow.Author.Needs.{needs}
@@ -75,7 +75,7 @@ returns-3 c =
     third-of _ _ _ _ _ _ _ (r .result) (r .ensures) (c4 .if1 .left) (s .result) (s .ensures) (c2 .if2 .left) (t .result) (t .ensures) (c .if3 .taken)
 
 add-t22 : tie.Need-add-t22
-unfolding partOf
+unfolding tilePart
 add-t22 c =
     let c1 = c .before .before .before .before .before .before .before .before .before .before .before .before .before .before .before in
     let c2 = c1 .before .before .before .before in
@@ -83,7 +83,7 @@ add-t22 c =
     omega (arith, part-sized _ _ _ (r .result) (r .ensures) (c1 .if1 .left))
 
 add-t23 : tie.Need-add-t23
-unfolding partOf
+unfolding tilePart
 add-t23 c =
     let c1 = c .before .before .before .before .before .before .before .before .before in
     let c2 = c1 .before .before .before .before in
@@ -94,7 +94,7 @@ add-t23 c =
     omega (arith, part-sized _ _ _ (r .result) (r .ensures) (c3 .if1 .left), part-sized _ _ _ (s .result) (s .ensures) (c1 .if2 .left))
 
 add-t24 : tie.Need-add-t24
-unfolding partOf
+unfolding tilePart
 add-t24 c =
     let c1 = c .before .before .before in
     let c2 = c1 .before .before .before .before in

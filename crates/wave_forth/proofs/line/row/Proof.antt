@@ -7,7 +7,7 @@ use mir.Syntax.{w32}
 use mir.Val.{toZ}
 use Rattle.whole.specs.laws.Near.{Near, back, back-near, back-ok}
 use Rattle.whole.specs.Tab.{at}
-use Rattle.wave_forth.specs.Halves.{highAt}
+use Rattle.wave_forth.specs.Halves.{lineHigh}
 use Rattle.wave_forth.specs.laws.Halves.{high-step, low-step, high-near}
 use Rattle.wave_forth.specs.laws.Row.{from, Split, split-start, split-put, split-whole}
 use Rattle.wave_forth.proofs.line.row.Statement.{statement}
@@ -15,7 +15,7 @@ use Rattle.wave_forth.proofs.line.row.Tie as tie
 
 abbrev Inv-loop : tie.InvT-loop
 Inv-loop src dst₀ n s l h last g₀ j₀ dst g j =
-    (last ≡ n - 1) × (j ≤ last) × (toZ w32 g ≡ highAt n (from src s) (j - 1)) × Split n (from src s) l h j dst₀ dst
+    (last ≡ n - 1) × (j ≤ last) × (toZ w32 g ≡ lineHigh n (from src s) (j - 1)) × Split n (from src s) l h j dst₀ dst
 
 abbrev μ-loop : tie.MeasureT-loop
 μ-loop src dst₀ n s l h last g₀ j₀ dst g j = last - j
@@ -37,7 +37,7 @@ holds c =
 g-near : (s : tie.At-loop Inv-loop μ-loop) → Near 268435456 (toZ w32 (s .loop .g))
 g-near s = let p = s .before .before .before .before .before .pre .1 .1 in subst (Near 268435456) (sym (s .loop .inv .2)) (high-near _ _ (λ k. p .all _) _)
 
-v-is : (c : tie.After-high2 Inv-loop μ-loop) → c .high2 .result ≡ highAt (c .before .before .before .before .before .before .before .before .before .before .args .n) (from (c .before .before .before .before .before .before .before .before .before .before .args .src .now) (c .before .before .before .before .before .before .before .before .before .before .args .s)) (c .before .before .before .before .before .loop .j)
+v-is : (c : tie.After-high2 Inv-loop μ-loop) → c .high2 .result ≡ lineHigh (c .before .before .before .before .before .before .before .before .before .before .args .n) (from (c .before .before .before .before .before .before .before .before .before .before .args .src .now) (c .before .before .before .before .before .before .before .before .before .before .args .s)) (c .before .before .before .before .before .loop .j)
 v-is c =
     let s = c .before .before .before .before .before .before .before .before .before .before in
     let j = c .before .before .before .before .before .loop .j in
@@ -49,7 +49,7 @@ v-is c =
 v-near : (c : tie.After-high2 Inv-loop μ-loop) → Near 268435456 (c .high2 .result)
 v-near c = let p = c .before .before .before .before .before .before .before .before .before .before .pre .1 .1 in subst (Near 268435456) (sym (v-is c)) (high-near _ _ (λ k. p .all _) _)
 
-w-is : (c : tie.After-high3 Inv-loop μ-loop) → c .high3 .result ≡ highAt (c .before .before .before .before .before .before .before .before .before .before .args .n) (from (c .before .before .before .before .before .before .before .before .before .before .args .src .now) (c .before .before .before .before .before .before .before .before .before .before .args .s)) (c .before .before .before .before .before .loop .j)
+w-is : (c : tie.After-high3 Inv-loop μ-loop) → c .high3 .result ≡ lineHigh (c .before .before .before .before .before .before .before .before .before .before .args .n) (from (c .before .before .before .before .before .before .before .before .before .before .args .src .now) (c .before .before .before .before .before .before .before .before .before .before .args .s)) (c .before .before .before .before .before .loop .j)
 w-is c =
     let s = c .before .before .before .before .before .before .before .before .before .before in
     let j = c .before .before .before .before .before .loop .j in
@@ -70,7 +70,7 @@ again c =
     let e : j ≡ j + 1 - 1 = omega arith in (
       refl,
       omega arith,
-      v ∙ ap (highAt (s .args .n) x) e,
+      v ∙ ap (lineHigh (s .args .n) x) e,
       split-put (s .args .n) x (s .args .l) (s .args .h) j _ (c .before .before .before .before .before .before .before .loop .dst) _ _ (s .pre .1 .0) (omega arith) (omega arith) (omega arith)
           (back-ok w32 (c .low .result) (c .low .ok) ∙ low-step (s .args .n) x j (c .low .ensures) (back w32 (s .pre .1 .1 .all _) tt) (c .before .before .before .before .before .before .before .loop .inv .2) v) v (c .before .before .before .before .before .before .before .loop .inv .3),
     )

@@ -5,7 +5,7 @@ use native.Mathlib.Omega.{arith}
 use lib.ListN.{length-set}
 use mir.Syntax.{w32}
 use Rattle.whole.specs.laws.Near.{Near, back, back-near, back-ok}
-use Rattle.wave_forth.specs.Halves.{highAt}
+use Rattle.wave_forth.specs.Halves.{lineHigh}
 use Rattle.wave_forth.specs.laws.Halves.{high-step, low-step, high-near}
 use Rattle.wave_back.specs.laws.Pass.{two-start, two-put, two-whole}
 use Rattle.wave_forth.specs.laws.Column.{colOf, High, Turn, Room, room}
@@ -51,7 +51,7 @@ again c =
     let w = s .args .w in
     let src = s .args .src .now in
     let x = colOf w src k in
-    let u = back-ok w32 (c .before .before .before .before .before .before .high .result) (c .before .before .before .before .before .before .high .ok) ∙ g-is (c .before .before .before .before .before .before) ∙ ap (highAt n x) (s .pre .1 .1) in
+    let u = back-ok w32 (c .before .before .before .before .before .before .high .result) (c .before .before .before .before .before .before .high .ok) ∙ g-is (c .before .before .before .before .before .before) ∙ ap (lineHigh n x) (s .pre .1 .1) in
     let v = back-ok w32 (c .before .before .high2 .result) (c .before .before .high2 .ok) ∙ t-is (c .before .before) in (
       omega arith,
       two-put w _ _ _ _ k _ (c .before .before .before .before .before .before .before .before .before .before .before .loop .dst) _ _ (λ d. omega arith) (omega arith)
