@@ -1,7 +1,7 @@
 -- The demands are met: `demands`, from the theorems of session, headers, code, code_write, frame, frame_write and frame_readback.
 -- Assumes nothing.
 use Prim.Native.Nat.{ℕ, zero, suc, _*_, _≤_}
-use mathlib.Core.Path.{_≡_, refl, sym, ap, subst, subst⁻¹, _∙_}
+use mathlib.Core.Path.{_≡_, refl, ap, subst, subst⁻¹, _∙_}
 use mathlib.Core.Bool.{Bool, true, false}
 use mathlib.Core.List.{List, [], _∷_}
 use mathlib.Core.Logic.{_≢_}
@@ -14,10 +14,7 @@ use Rattle.whole.specs.laws.Among.{each, among-most}
 use Rattle.wire.specs.declared.Writing.{Writing}
 use Rattle.wire.specs.Wrote.{lengthSaid, outLeft, Wrote}
 use Rattle.session.specs.declared.Session.{Session}
-use Rattle.session.specs.declared.HeaderReading.{HeaderReading}
-use Rattle.session.specs.declared.HeaderReading.the-variants.{Taken}
-use Rattle.session.specs.Header.{recordOf, headerFault, recordAfter, headerNumber, headerRecord, headerReading}
-use Rattle.session.specs.laws.Header as HeaderLaws
+use Rattle.session.specs.Header.{recordOf}
 use Rattle.session.specs.laws.Numbers.{header-among}
 use Rattle.session.specs.laws.Cases as HeaderOnesLaws
 use Rattle.headers.specs.Headers.{HeadersWritten}
@@ -39,29 +36,13 @@ use Rattle.frame.specs.laws.Numbers.{frame-among, untouched, cleared}
 use Rattle.frame_write.specs.laws.Numbers as SendNumbers
 use Rattle.bounds.specs.laws.Refuses.{writer-refuses, writer-done}
 use Rattle.frame_readback.specs.laws.OurFrames.{our-own-frames}
-use Rattle.demands.specs.Calls.{ReadHeader, sessionAfter, ReadFrame, ReadComponent, WriteComponent, WriteHeaders, WriteFrame, sentBy}
+use Rattle.calls.specs.Calls.{ReadHeader, ReadFrame, ReadComponent, WriteComponent, WriteHeaders, WriteFrame, sentBy}
+use Rattle.calls.specs.laws.Calls.{header-number, header-taken, header-refused, taken-by}
 use Rattle.demands.specs.Demands.{firstFault, Untouched, Demand1, OurCalls, OurFrame, Sent, Demand2, Demand3, SmallNumbers, PaperCases, Demands}
 use Rattle.demands.specs.laws.Unique.{one-answer}
 use Rattle.demands.specs.laws.Edge.{one-answer-c}
 use Rattle.demands.specs.laws.ForC.{edge-demands}
 use Rattle.demands.specs.laws.Right.{record-right}
-
--- ---- the header call
-
-header-number : (c : ReadHeader) → headerNumber (c .answer) ≡ headerFault (c .session) (c .message)
-header-number c = ap headerNumber (c .promise) ∙ HeaderLaws.reading-number (c .session) (c .message)
-
--- a call whose answer is known leaves its record
-left-by : (c : ReadHeader) (h : HeaderReading) → headerReading (c .session) (c .message) ≡ h → sessionAfter c ≡ headerRecord h (c .session)
-left-by c h e = ap (λ (x : HeaderReading). headerRecord x (c .session)) (c .promise ∙ e)
-
-header-taken : (c : ReadHeader) → headerNumber (c .answer) ≡ 0 → sessionAfter c ≡ recordAfter (c .session) (c .message)
-unfolding headerRecord
-header-taken c k = left-by c _ (HeaderLaws.header-taken (c .session) (c .message) (sym (header-number c) ∙ k))
-
-header-refused : (c : ReadHeader) → headerNumber (c .answer) ≢ 0 → sessionAfter c ≡ c .session
-unfolding headerRecord
-header-refused c h = left-by c _ (HeaderLaws.header-refused (c .session) (c .message) (λ e. h (header-number c ∙ e)))
 
 -- ---- the frame call
 
@@ -115,15 +96,6 @@ read-from :
 read-from w c m b = rw (← m, ← b) (c .promise)
 
 -- ---- our own frames
-
--- a header call on a message that is taken from its record: the number, and the record after it
-taken-by :
-    (c : ReadHeader) (s t : Session) (m : List ℕ) → c .session ≡ s → c .message ≡ m → headerReading s m ≡ Taken t →
-    (headerNumber (c .answer) ≡ 0) × (sessionAfter c ≡ t)
-unfolding headerNumber headerRecord
-taken-by c s t m a b e =
-    let k : headerReading (c .session) (c .message) ≡ Taken t = rw (a, b) e in
-    (ap headerNumber (c .promise ∙ k), left-by c (Taken t) k)
 
 module _ (h : WriteHeaders) (one two three four : ReadHeader) (s : WriteFrame) (f : ReadFrame) (o : OurCalls h one two three four s f) where
   wrote : HeadersWritten (s .width) (s .height) (s .mode) (h .out) (h .out′) (h .answer)

@@ -26,7 +26,7 @@ use Rattle.frame_write.specs.FrameWrite.{pixelsGood, argFault, sendFault}
 use Rattle.frame_write.specs.laws.FrameWrite.{cleared}
 use Rattle.frame_readback.specs.laws.OurTiles.{Sendable}
 use Rattle.frame_readback.specs.laws.Grey.{grey, sixes, sendable-1, sendable-4}
-use Rattle.demands.specs.Calls.{ReadHeader, sessionAfter, ReadFrame, WriteHeaders, WriteFrame, sentBy}
+use Rattle.calls.specs.Calls.{ReadHeader, sessionAfter, ReadFrame, WriteHeaders, WriteFrame, sentBy}
 use Rattle.demands.specs.Demands.{OurCalls}
 
 abbrev zeros : List ℤ

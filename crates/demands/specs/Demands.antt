@@ -1,4 +1,4 @@
--- THE DEMANDS, on one page: over the calls (specs/Calls), and so over the very definitions that their promises cite. Each field is a
+-- THE DEMANDS, on one page: over the calls (calls/specs/Calls), and so over the very definitions that their promises cite. Each field is a
 -- sentence of the demands or of document 01; proofs/Demands proves `demands : Demands`. That no bytes can trap a call needs no sentence
 -- here: every function is proved, and none of the six has a `requires`.
 -- (01 is this project's scope document, 02 its change requests, 001 is MS-RDPRFX: README, "What 01 is".)
@@ -40,8 +40,8 @@ use Rattle.frame_write.specs.Encode.{pictureFrame}
 use Rattle.frame_write.specs.FrameWrite.{argFault, sendFault}
 use Rattle.frame_readback.specs.Own.{wordBack, tileNo}
 use Rattle.panel.specs.Edge.{ReadHeaderCall, ReadFrameCall, ReadComponentCall, WriteComponentCall, WriteHeadersCall, WriteFrameCall}
-use Rattle.demands.specs.Calls.{ReadHeader, sessionAfter, ReadFrame, ReadComponent, WriteComponent, WriteHeaders, WriteFrame, sentBy}
-use Rattle.demands.specs.Calls.{CReadHeader, CReadFrame, as-frame, CReadComponent, CWriteHeaders, CWriteFrame, OnOneRecord}
+use Rattle.calls.specs.Calls.{ReadHeader, sessionAfter, ReadFrame, ReadComponent, WriteComponent, WriteHeaders, WriteFrame, sentBy}
+use Rattle.calls.specs.Calls.{CReadHeader, CReadFrame, as-frame, CReadComponent, CWriteHeaders, CWriteFrame, OnOneRecord}
 
 -- ---- 1. "A frame is drawn whole, or refused by the first fault in document 01's order, with its number. After a refusal the picture and
 -- the session record are exactly what they were, and work memory holds what 01 says."

@@ -1,7 +1,7 @@
--- The calls for C are the panel's own: each promise gives back a call of specs/Calls, so the demands hold of it too. And each promise leaves one number,
+-- The calls for C are the panel's own: each promise gives back a call of calls/specs/Calls, so the demands hold of it too. And each promise leaves one number,
 -- one value and one content of every list (`OneAnswerC`).
 use Prim.Native.Nat.{ℕ}
-use mathlib.Core.Path.{_≡_, refl, sym, _∙_}
+use mathlib.Core.Path.{_≡_, sym, _∙_}
 use mathlib.Core.List.{List}
 use lib.IntN.{ℤ}
 use lib.ListN.{length}
@@ -9,7 +9,7 @@ use Rattle.whole.specs.Row.{_⨟_}
 use Rattle.wire.specs.Wrote.{writingNumber, writingLength, Wrote}
 use Rattle.wire.specs.laws.Wrote.{answerOf, answer-number, answer-length, answer-wrote}
 use Rattle.session.specs.declared.Session.{Session}
-use Rattle.session.specs.Header.{headerNumber, headerReading}
+use Rattle.session.specs.Header.{headerNumber}
 use Rattle.headers.specs.Headers.{headersOf, headersFault}
 use Rattle.code.specs.Read.{readingNumber, readingBits, reading}
 use Rattle.code.specs.laws.OneCode.{read-once}
@@ -19,14 +19,12 @@ use Rattle.frame.specs.laws.Glass.{one-frame}
 use Rattle.frame_write.specs.Encode.{pictureFrame}
 use Rattle.frame_write.specs.FrameWrite.{argFault, sendFault}
 use Rattle.panel.specs.Edge.{ReadFrameCall, WriterCall, WriteComponentCall, WriteFrameCall}
-use Rattle.demands.specs.Calls.{ReadHeader, sessionAfter, ReadComponent, WriteComponent, WriteHeaders, WriteFrame}
-use Rattle.demands.specs.Calls.{CReadHeader, CReadFrame, as-frame, CReadComponent, CWriteHeaders, CWriteFrame}
+use Rattle.calls.specs.Calls.{sessionAfter, ReadComponent, WriteComponent, WriteHeaders, WriteFrame}
+use Rattle.calls.specs.Calls.{CReadHeader, as-header, CReadFrame, as-frame, CReadComponent, CWriteHeaders, CWriteFrame}
 use Rattle.demands.specs.Demands.{OneAnswerC}
 
--- ---- each is a call of specs/Calls, so the demands hold of it; the number and the value that it hands out are that call's (for the frame call: `as-frame`)
-
-abbrev pub as-header : CReadHeader → ReadHeader
-as-header c = record { session = c .session; message = c .message; answer = headerReading (c .session) (c .message); promise = refl }
+-- ---- each is a call of calls/specs/Calls, so the demands hold of it; the number and the value that it hands out are that call's (`as-header` and `as-frame`
+-- stand there)
 
 pub header-is : (c : CReadHeader) → (c .number ≡ headerNumber (as-header c .answer)) × (c .session′ ≡ sessionAfter (as-header c))
 header-is c = (c .promise .number, c .promise .session)

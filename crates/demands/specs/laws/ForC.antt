@@ -4,9 +4,9 @@ use mathlib.Core.Path.{sym, ap, subst, _∙_}
 use mathlib.Core.List.{[], _∷_}
 use lib.ListN.{take, drop}
 use Rattle.whole.specs.Among.{Among, Other}
-use Rattle.demands.specs.Calls.{CReadHeader, CReadFrame, as-frame, CWriteHeaders, CWriteFrame}
+use Rattle.calls.specs.Calls.{CReadHeader, as-header, CReadFrame, as-frame, CWriteHeaders, CWriteFrame}
 use Rattle.demands.specs.Demands.{Demand1, OurCalls, Demand2, EdgeDemand1, OurCallsC, OurFrameC, EdgeDemand2, EdgeDemands}
-use Rattle.demands.specs.laws.Edge.{as-header, as-read, as-headers, headers-is, as-send, send-is}
+use Rattle.demands.specs.laws.Edge.{as-read, as-headers, headers-is, as-send, send-is}
 
 edge-1 : Demand1 → EdgeDemand1
 edge-1 d = record {

@@ -1,17 +1,14 @@
 -- Request Six over the calls: the proof of `RecordRight`, from the header call's laws and the frame call's promise.
 -- (01 is this project's scope document, 02 its change requests, 001 is MS-RDPRFX: README, "What 01 is".)
 use mathlib.Core.Path.{_≡_, sym, ap, subst, subst⁻¹, _∙_}
-use native.Mathlib.Omega.{arith}
-use Rattle.whole.specs.laws.Row.{stops}
 use Rattle.session.specs.declared.Session.{Session}
 use Rattle.session.specs.declared.HeaderReading.{HeaderReading}
 use Rattle.session.specs.Header.{Right, headerNumber, headerRecord, headerReading}
 use Rattle.session.specs.laws.Header.{right-at, reading-number}
 use Rattle.session.specs.laws.Right.{right-reading, wrong-ready, wrong-header, sync-any}
-use Rattle.frame.specs.Frame.{frameNumber, frameReadingNumber}
-use Rattle.frame.specs.laws.Frame.{call-unready}
-use Rattle.frame.specs.laws.Glass.{number-is}
-use Rattle.demands.specs.Calls.{ReadHeader, sessionAfter, ReadFrame, OnOneRecord, no-call, header, frame}
+use Rattle.frame.specs.Frame.{frameReadingNumber}
+use Rattle.calls.specs.Calls.{ReadHeader, sessionAfter, ReadFrame, OnOneRecord, no-call, header, frame}
+use Rattle.calls.specs.laws.Calls.{unready-frame}
 use Rattle.demands.specs.Demands.{RecordRight}
 
 right-after : (c : ReadHeader) → Right (c .session) → Right (sessionAfter c)
@@ -23,10 +20,7 @@ right-always s t (header c k) r = right-always _ t k (subst⁻¹ Right (c .promi
 right-always s t (frame c k) r = right-always _ t k (subst⁻¹ Right (c .promise .session) r)
 
 wrong-frame : (c : ReadFrame) → (Right (c .session) → ⊥) → frameReadingNumber (c .answer) ≡ 12
-unfolding frameNumber
-wrong-frame c w =
-    let e = call-unready (c .session) _ _ _ _ _ (wrong-ready (c .session) w) in
-    number-is _ _ _ _ _ _ _ _ _ _ _ _ _ (c .promise) ∙ sym (stops _ _ _ (λ z. omega (arith, e, z)) e)
+wrong-frame c w = unready-frame c (wrong-ready (c .session) w)
 
 pub record-right : RecordRight
 record-right = record {

@@ -15,7 +15,7 @@ use Rattle.frame.specs.Frame.{FrameRead}
 use Rattle.frame.specs.laws.Glass.{one-frame}
 use Rattle.frame_write.specs.FrameWrite.{FrameWritten}
 use Rattle.frame_write.specs.laws.FrameWrite.{frame-once}
-use Rattle.demands.specs.Calls.{ReadHeader, ReadFrame, ReadComponent, WriteComponent, WriteHeaders, WriteFrame}
+use Rattle.calls.specs.Calls.{ReadHeader, ReadFrame, ReadComponent, WriteComponent, WriteHeaders, WriteFrame}
 use Rattle.demands.specs.Demands.{OneAnswer}
 
 pub header-once : (c d : ReadHeader) → c .session ≡ d .session → c .message ≡ d .message → c .answer ≡ d .answer

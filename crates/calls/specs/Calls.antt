@@ -1,7 +1,7 @@
 -- The six calls as a customer sees them: what was given, what was answered, what lent memory holds afterwards (marked ′), and that the
 -- call's promise, which is its `ensures`, holds of them. Nothing else is known of a call. First the panel's own, then the same six for C.
 use Prim.Native.Nat.{ℕ}
-use mathlib.Core.Path.{_≡_}
+use mathlib.Core.Path.{_≡_, refl}
 use mathlib.Core.List.{List}
 use lib.IntN.{ℤ}
 use lib.ListN.{take}
@@ -106,6 +106,10 @@ pub record CReadHeader : Type 0 where
   pub session′ : Session
   pub number : ℕ
   pub promise : ReadHeaderCall session session′ message number
+
+-- the call of the panel that it is
+abbrev pub as-header : CReadHeader → ReadHeader
+as-header c = record { session = c .session; message = c .message; answer = headerReading (c .session) (c .message); promise = refl }
 
 -- xurbalenz_read_frame
 pub record CReadFrame : Type 0 where
