@@ -38,6 +38,7 @@ use Rattle.bounds.specs.laws.Refuses.{writer-refuses, writer-done}
 use Rattle.frame_readback.specs.laws.OurFrames.{our-own-frames}
 use Rattle.calls.specs.Calls.{ReadHeader, ReadFrame, ReadComponent, WriteComponent, WriteHeaders, WriteFrame, sentBy}
 use Rattle.calls.specs.laws.Calls.{header-number, header-taken, header-refused, taken-by}
+use Rattle.day.specs.laws.Days.{days}
 use Rattle.demands.specs.Demands.{firstFault, Untouched, Demand1, OurCalls, OurFrame, Sent, Demand2, Demand3, SmallNumbers, PaperCases, Demands}
 use Rattle.demands.specs.laws.Unique.{one-answer}
 use Rattle.demands.specs.laws.Edge.{one-answer-c}
@@ -212,6 +213,7 @@ demands = record {
   once-for-c = one-answer-c;
   for-c = edge-demands demand-1 demand-2;
   six = record-right;
+  fourteen = days;
   small = small-numbers;
   cases = paper;
 }

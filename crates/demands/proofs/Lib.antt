@@ -1,2 +1,3 @@
+pub mod DayInstance
 pub mod Demands
 pub mod Instance

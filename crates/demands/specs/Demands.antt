@@ -42,6 +42,7 @@ use Rattle.frame_readback.specs.Own.{wordBack, tileNo}
 use Rattle.panel.specs.Edge.{ReadHeaderCall, ReadFrameCall, ReadComponentCall, WriteComponentCall, WriteHeadersCall, WriteFrameCall}
 use Rattle.calls.specs.Calls.{ReadHeader, sessionAfter, ReadFrame, ReadComponent, WriteComponent, WriteHeaders, WriteFrame, sentBy}
 use Rattle.calls.specs.Calls.{CReadHeader, CReadFrame, as-frame, CReadComponent, CWriteHeaders, CWriteFrame, OnOneRecord}
+use Rattle.day.specs.Days.{Days}
 
 -- ---- 1. "A frame is drawn whole, or refused by the first fault in document 01's order, with its number. After a refusal the picture and
 -- the session record are exactly what they were, and work memory holds what 01 says."
@@ -310,5 +311,7 @@ pub record Demands : Type 0 where
   pub once-for-c : OneAnswerC
   pub for-c : EdgeDemands
   pub six : RecordRight
+  -- document 02, request Fourteen: the whole day at once
+  pub fourteen : Days
   pub small : SmallNumbers
   pub cases : PaperCases
