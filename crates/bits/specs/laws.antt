@@ -6,4 +6,5 @@ pub mod Here
 pub mod Lead
 pub mod Pen
 pub mod PenOnce
+pub mod Wide
 pub mod Word

@@ -117,13 +117,19 @@ pub fn put_bits(out: &mut [u8], p: Pen, k: usize, v: usize) -> Pen
     requires { ⌜ Ready (length (now out)) p k × (k ≤ 32) ⌝ }
     ensures { λ r. ⌜ Put (now (out .entry)) p (now (out .exit)) r (numBits k v) ⌝ }
 {
-    let mut q = p;
-    let mut left = k;
-    while 0 < left {
-        left -= 1;
-        q = put_bit(out, q, (v >> left) % 2);
+    let mut at = p.at;
+    let mut n = p.n + k;
+    let acc = (p.acc << k) + v % (1usize << k);
+    while 8 <= n {
+        n -= 8;
+        out[at] = ((acc >> n) % 256) as u8;
+        at += 1;
     }
-    q
+    Pen {
+        at: at,
+        acc: acc % (1usize << n),
+        n: n,
+    }
 }
 
 // Appends v ones.
@@ -147,6 +153,9 @@ pub fn put_gr(out: &mut [u8], p: Pen, k: usize, n: usize) -> Pen
 {
     let v = n >> k;
     let low = n % (1usize << k);
+    if v < 22 {
+        return put_bits(out, p, v + (k + 1), (((1usize << v) - 1) << (k + 1)) + low);
+    }
     let q = put_ones(out, p, v);
     put_bits(out, q, k + 1, low)
 }

@@ -8,7 +8,7 @@ use native.Mathlib.Numerals.{add-one}
 use native.Mathlib.Nat.{mul-assoc, pow-suc, pow-succ', div-div-eq-div-mul, mod-eq-of-lt}
 use lib.Dec.{eqb}
 use lib.Pow.{shl-lt}
-use Rattle.bits.specs.laws.Bit.{grow, length-numBits}
+use Rattle.bits.specs.laws.Bit.{grow}
 use lib.ListN.{replicate, replicate-append-replicate, length, take, drop, set, length-append, length-set}
 use lib.Seq.{drop-drop, take-suc-set, drop-set-lt}
 use Rattle.bits.specs.Bits.{odd, bitsOf, numBits}
@@ -65,7 +65,7 @@ put-fills out at acc n b hb hn ha hl =
       bits = ap (λ (l : List ℕ). bitsOf l ++ numBits 0 0) t ∙ ap (λ (l : List Bool). bitsOf (take at out ++ (x ∷ [])) ++ l) no-bits ∙ append-nil _ ∙ z;
     }
 
-later : (i j : ℕ) (a b : List ℕ) → i ≤ j → drop i a ≡ drop i b → drop j a ≡ drop j b
+pub later : (i j : ℕ) (a b : List ℕ) → i ≤ j → drop i a ≡ drop i b → drop j a ≡ drop j b
 later i j a b h e =
     let d : i + (j - i) ≡ j = omega arith in
     rw (← d, ← drop-drop (j - i) i a, ← drop-drop (j - i) i b, e)
@@ -83,46 +83,6 @@ put-more a b c p q r xs ys f g = record {
 
 pub put-none : (a : List ℕ) (p : Pen) (size : ℕ) (k : ℕ) → Ready size p k → Put a p a p []
 put-none a p size k h = record { few = h .few; small = h .small; place = omega arith; long = refl; rest = refl; bits = sym (append-nil (penBits a p)) }
-
--- ---- a number's bits, one at a time
-
--- D is written of the k bits of v, and `left` are still to come
-pub record Half (before : List ℕ) (p : Pen) (k v : ℕ) (after : List ℕ) (q : Pen) (left : ℕ) : Type 0 where
-  pub D : List Bool
-  pub put : Put before p after q D
-  pub all : D ++ numBits left v ≡ numBits k v
-
-bit-next : (left v : ℕ) → 0 < left → numBits left v ≡ odd (v / 2 ^ (left - 1) % 2) ∷ numBits (left - 1) v
-unfolding numBits
-bit-next zero v h = absurd (omega arith)
-bit-next (suc k) v h =
-    let s : suc k - 1 ≡ k = omega arith in
-    rw s (let e : v / 2 ^ k % 2 ≡ v / 2 ^ k % 2 % 2 = omega arith in ap (λ (r : ℕ). eqb r 1 ∷ numBits k v) e)
-
-module _ (before : List ℕ) (p : Pen) (k v : ℕ) where
-  pub half-none : Ready (length before) p k → Half before p k v before p k
-  half-none h = record { D = []; put = put-none before p (length before) k h; all = refl }
-
-  pub half-ready : (after : List ℕ) (q : Pen) (left : ℕ) → Ready (length before) p k → Half before p k v after q left → 0 < left → Ready (length after) q 1
-  half-ready after q left h w l = record {
-    few = w .put .few;
-    small = w .put .small;
-    room = omega (arith, h .room, w .put .place, w .put .long, ap length (w .all), length-append (w .D) (numBits left v), length-numBits left v, length-numBits k v);
-  }
-
-  pub half-more : (after last : List ℕ) (q r : Pen) (left : ℕ) → Half before p k v after q left → 0 < left → Put after q last r (odd (v / 2 ^ (left - 1) % 2) ∷ []) → Half before p k v last r (left - 1)
-  half-more after last q r left w l g = record {
-    D = w .D ++ (odd (v / 2 ^ (left - 1) % 2) ∷ []);
-    put = put-more before after last p q r (w .D) (odd (v / 2 ^ (left - 1) % 2) ∷ []) (w .put) g;
-    all = append-assoc (w .D) (odd (v / 2 ^ (left - 1) % 2) ∷ []) (numBits (left - 1) v) ∙ ap (λ (l : List Bool). w .D ++ l) (sym (bit-next left v l)) ∙ w .all;
-  }
-
-  pub half-all : (after : List ℕ) (q : Pen) (left : ℕ) → left ≡ 0 → Half before p k v after q left → Put before p after q (numBits k v)
-  unfolding numBits
-  half-all after q left z w = flat (w .D) (w .put) (w .all)
-    where
-      flat : (D : List Bool) → Put before p after q D → D ++ numBits left v ≡ numBits k v → Put before p after q (numBits k v)
-      flat D f a = let e : D ≡ numBits k v = sym (append-nil D) ∙ (rw z at a) in rw (← e) f
 
 -- room for what is still to come
 pub ready-after : (before after : List ℕ) (p q : Pen) (k m : ℕ) (bs : List Bool) → Ready (length before) p k → Put before p after q bs → length bs + m ≤ k → Ready (length after) q m
