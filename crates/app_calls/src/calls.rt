@@ -1,7 +1,23 @@
 // The calls of a recording on the public functions of `panel`, each with its line of text: 01's number, its values, the record after it, and a hash of the
-// lent memory. Lent lists hold 7 before a call, and lent output A5. What 01 says of lent memory ("untouched", "only zeros") shows in the line.
+// lent memory. Lent lists hold 7 before a call, and lent output A5. What 01 says of lent memory ("untouched", "only zeros") shows in the line. What each call
+// answers and leaves is the promise of the call inside (specs/Calls).
+ghost use mathlib.Core.Path.{_≡_};
+ghost use lib.Dec.{leb};
+ghost use mathlib.Core.Bool.{false};
+ghost use Rattle.whole.specs.Row.{_!_⨾_};
+ghost use lib.ListN.{length};
+ghost use Rattle.code_write.specs.Write.{bytesOf, writeFault};
+ghost use Rattle.headers.specs.Headers.{headersOf, headersFault};
+ghost use Rattle.app_calls.specs.Calls.{componentLeft, WriterSaid, headerLeft, heard, fourBack, fits, FrameMade};
 use bands::Quant;
 use session::Session;
+
+// The line of a frame call: a recording's; or a short one, with a comma in front of all but the first part; or words, with the call's count.
+pub enum Line {
+    Recorded,
+    Short(u64),
+    Told(u64),
+}
 
 fn both_are(a: &[i32], b: &[i32], v: i32) -> bool {
     if app_recording::lent::all_are(a, v) {
@@ -31,7 +47,7 @@ fn work_letter(one: u8, two: u8) -> u8 {
 
 // One header call: its number is said with the record after it.
 pub fn header_call(s: Session, message: &[u8]) -> Session
-    ensures { λ _. ⌜ Unit ⌝ }
+    ensures { λ r. ⌜ r ≡ headerLeft s (now (message .entry)) ⌝ }
 {
     let h = panel::read_header(s, message);
     let after = session::header_record(h, s);
@@ -41,7 +57,7 @@ pub fn header_call(s: Session, message: &[u8]) -> Session
 
 // One call of the component reader on a list lent.
 pub fn component_call(mode: u8, code: &[u8], list: &mut [i32])
-    ensures { λ _. ⌜ Unit ⌝ }
+    ensures { λ _. ⌜ now (list .exit) ≡ componentLeft mode (now (code .entry)) (now (list .entry)) ⌝ }
 {
     app_recording::lent::fill_list(list, 7);
     let r = panel::read_component(mode, code, list);
@@ -54,7 +70,7 @@ pub fn component_call(mode: u8, code: &[u8], list: &mut [i32])
 
 // One call of the component writer; the bytes that it wrote.
 pub fn writer_call(mode: u8, list: &[i32], out: &mut [u8]) -> usize
-    ensures { λ _. ⌜ Unit ⌝ }
+    ensures { λ r. ⌜ WriterSaid (writeFault mode (now (list .entry)) (length (now (out .entry)))) (bytesOf mode (now (list .entry))) (now (out .entry)) (now (out .exit)) r ⌝ }
 {
     app_recording::lent::fill_bytes(out, 0xA5);
     let w = panel::write_component(mode, list, out);
@@ -69,7 +85,7 @@ pub fn writer_call(mode: u8, list: &[i32], out: &mut [u8]) -> usize
 
 // One call of the header writer; the bytes that it wrote.
 pub fn headers_call(width: usize, height: usize, mode: u8, out: &mut [u8]) -> usize
-    ensures { λ _. ⌜ Unit ⌝ }
+    ensures { λ r. ⌜ WriterSaid (headersFault width height mode (length (now (out .entry)))) (headersOf width height mode) (now (out .entry)) (now (out .exit)) r ⌝ }
 {
     app_recording::lent::fill_bytes(out, 0xA5);
     let w = panel::write_headers(width, height, mode, out);
@@ -88,7 +104,9 @@ pub struct Heard {
     pub session: Session,
 }
 
-fn read_one(s: Session, message: &[u8]) -> Heard {
+fn read_one(s: Session, message: &[u8]) -> Heard
+    ensures { λ r. ⌜ r ≡ heard s (now (message .entry)) ⌝ }
+{
     let h = panel::read_header(s, message);
     let after = session::header_record(h, s);
     Heard {
@@ -108,7 +126,7 @@ pub struct Fourfold {
 
 // Four headers of our writer, each to a header call; 1 (cut) where they are not all there.
 pub fn headers_back(s: Session, out: &[u8]) -> Fourfold
-    ensures { λ _. ⌜ Unit ⌝ }
+    ensures { λ r. ⌜ r ≡ fourBack s (now (out .entry)) ⌝ }
 {
     if out.len() < 47 {
         return Fourfold {
@@ -135,7 +153,7 @@ pub fn headers_back(s: Session, out: &[u8]) -> Fourfold
 
 // The same with its line; the record after the last.
 pub fn headers_back_call(s: Session, out: &[u8]) -> Session
-    ensures { λ _. ⌜ Unit ⌝ }
+    ensures { λ r. ⌜ r ≡ fourBack s (now (out .entry)) .session ⌝ }
 {
     let f = headers_back(s, out);
     crate::lines::say_fourfold(f.one, f.two, f.three, f.four, f.session);
@@ -149,6 +167,21 @@ pub struct Lengths {
     pub three: usize,
 }
 
+// The line of a frame call that was made.
+fn say_line(l: Line, s: Session, number: u8, tiles: usize, letter: u8, picture: &[u16]) {
+    match l {
+        Line::Recorded => crate::lines::say_frame(
+            number,
+            tiles,
+            letter,
+            s,
+            app_recording::lent::hash_words(picture),
+        ),
+        Line::Short(before) => crate::lines::say_short_frame(before, number, tiles),
+        Line::Told(count) => app_text::lines::say_frame(count, number, tiles),
+    }
+}
+
 // The frame call, with its third list, a part of one of 8,192; false where more is asked for.
 fn frame_with_two(
     s: Session,
@@ -157,7 +190,10 @@ fn frame_with_two(
     y: &mut [i32],
     cb: &mut [i32],
     three: usize,
-) -> bool {
+    l: Line,
+) -> bool
+    ensures { λ r. ⌜ FrameMade (leb three 8192) s (now (message .entry)) (length (now (y .entry))) (length (now (cb .entry))) three (now (picture .entry)) (now (picture .exit)) r ⌝ }
+{
     let mut space = [7i32; 8192];
     let mut scratch = [7i32; 4096];
     let cr: &mut [i32] = &mut space;
@@ -166,12 +202,14 @@ fn frame_with_two(
     }
     let r = panel::read_frame(s, message, picture, y, cb, &mut cr[0..three], &mut scratch);
     let after = &cr[..];
-    crate::lines::say_frame(
+    let letter = work_letter(pair_letter(y, cb), pair_letter(&after[0..three], &scratch));
+    say_line(
+        l,
+        s,
         frame::call::frame_number(r),
         frame::call::frame_tiles(r),
-        work_letter(pair_letter(y, cb), pair_letter(&after[0..three], &scratch)),
-        s,
-        app_recording::lent::hash_words(picture),
+        letter,
+        picture,
     );
     true
 }
@@ -183,19 +221,22 @@ fn frame_with_one(
     picture: &mut [u16],
     y: &mut [i32],
     n: Lengths,
-) -> bool {
+    l: Line,
+) -> bool
+    ensures { λ r. ⌜ FrameMade (leb (n .two) 8192 ! false ⨾ leb (n .three) 8192) s (now (message .entry)) (length (now (y .entry))) (n .two) (n .three) (now (picture .entry)) (now (picture .exit)) r ⌝ }
+{
     let mut space = [7i32; 8192];
     let cb: &mut [i32] = &mut space;
     let two = n.two;
     if cb.len() < two {
         return false;
     }
-    frame_with_two(s, message, picture, y, &mut cb[0..two], n.three)
+    frame_with_two(s, message, picture, y, &mut cb[0..two], n.three, l)
 }
 
 // One frame call, on lists of these lengths; false where more is asked for than there is.
-pub fn frame_call(s: Session, message: &[u8], picture: &mut [u16], n: Lengths) -> bool
-    ensures { λ _. ⌜ Unit ⌝ }
+pub fn frame_call(s: Session, message: &[u8], picture: &mut [u16], n: Lengths, l: Line) -> bool
+    ensures { λ r. ⌜ FrameMade (fits (n .one) (n .two) (n .three)) s (now (message .entry)) (n .one) (n .two) (n .three) (now (picture .entry)) (now (picture .exit)) r ⌝ }
 {
     let mut space = [7i32; 8192];
     let y: &mut [i32] = &mut space;
@@ -203,7 +244,7 @@ pub fn frame_call(s: Session, message: &[u8], picture: &mut [u16], n: Lengths) -
     if y.len() < one {
         return false;
     }
-    frame_with_one(s, message, picture, &mut y[0..one], n)
+    frame_with_one(s, message, picture, &mut y[0..one], n, l)
 }
 
 // What the frame writer is asked for, beside memory.

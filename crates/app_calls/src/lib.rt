@@ -1,3 +1,7 @@
-// The panel's calls made for a recording, and the line that each answers (`calls`, `lines`). No customer links it.
+// The calls of the library made for a recording, each with the line that it answers (`calls`, `collected`, `capabilities`, `lines`), and a stream given to the
+// collector, whose parts go to their calls (`given`). No customer links it.
 pub mod calls;
+pub mod capabilities;
+pub mod collected;
+pub mod given;
 pub mod lines;

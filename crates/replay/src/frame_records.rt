@@ -3,6 +3,7 @@
 use crate::records::Desk;
 use app_calls::calls::Asked;
 use app_calls::calls::Lengths;
+use app_calls::calls::Line;
 use app_recording::read::Four;
 use app_recording::read::In;
 use bands::Quant;
@@ -13,7 +14,7 @@ fn framed(d: Desk, from: In, message: &[u8], picture: &mut [u16], n: Lengths) ->
     if picture.len() < words {
         return crate::records::bad(d);
     }
-    if app_calls::calls::frame_call(d.s, message, &mut picture[0..words], n) {
+    if app_calls::calls::frame_call(d.s, message, &mut picture[0..words], n, Line::Recorded) {
         return crate::records::going(d, from);
     }
     crate::records::bad(d)

@@ -1,13 +1,47 @@
 // Makes the calls of a recording (standard input) on the public functions of `panel`, and prints one line for each: 01's number, its values, the record, and a
 // hash of the lent memory. A record of the recording is a letter and little-endian numbers of four bytes, then bytes; lent lists hold 7 and lent output A5.
-// The records are in `records` and `frame_records`, the calls and their lines in `app_calls`; here is the loop.
+// The records are in `records`, `frame_records`, `collector_records` and `caps_records`, the calls and their lines in `app_calls`; here is the loop.
+mod caps_records;
+mod collector_records;
 mod frame_records;
 mod records;
 
 use crate::records::Desk;
 
-// One record of the recording, by its letter.
-fn record(
+// One record for the collector, by its letter.
+fn collector_record(
+    d: Desk,
+    letter: u8,
+    input: &mut [u8],
+    message: &mut [u8],
+    store: &mut [u8],
+    picture: &mut [u16],
+) -> Desk {
+    match letter {
+        b'k' => crate::collector_records::set_collector(d, input, store),
+        b'l' => crate::collector_records::set_store(d, input, store),
+        b't' => crate::collector_records::take(d, input, message, store),
+        b'r' => crate::collector_records::reset(d, store),
+        b'g' => crate::collector_records::give(d, input, message, store, picture),
+        _ => crate::records::bad(d),
+    }
+}
+
+// One record for capabilities, by its letter.
+fn caps_record(d: Desk, letter: u8, input: &mut [u8], message: &mut [u8], out: &mut [u8]) -> Desk {
+    match letter {
+        b'a' => crate::caps_records::read_caps(d, input, message),
+        b'b' => crate::caps_records::write_caps(d, input, out),
+        b'd' => crate::caps_records::read_ack_cap(d, input, message),
+        b'e' => crate::caps_records::write_ack_cap(d, input, out),
+        b'i' => crate::caps_records::read_ack(d, input, message),
+        b'j' => crate::caps_records::write_ack(d, input, out),
+        _ => crate::records::bad(d),
+    }
+}
+
+// One record of 01's calls, by its letter.
+fn base_record(
     d: Desk,
     letter: u8,
     input: &mut [u8],
@@ -28,7 +62,7 @@ fn record(
         b'F' => crate::frame_records::frame(d, input, message, picture),
         b'G' => crate::frame_records::frame_again(d, input, out, picture),
         b'Z' => crate::frame_records::frame_writer(d, input, message, out),
-        _ => crate::records::bad(d),
+        _ => caps_record(d, letter, input, message, out),
     }
 }
 
@@ -38,29 +72,36 @@ fn step(
     input: &mut [u8],
     message: &mut [u8],
     out: &mut [u8],
+    store: &mut [u8],
     picture: &mut [u16],
 ) -> Desk {
     let b = app_recording::read::next(input, d.from);
     let from = b.from;
+    let letter = b.value;
     if !from.whole {
         return crate::records::stopped(d);
     }
-    record(
-        crate::records::going(d, from),
-        b.value,
-        input,
-        message,
-        out,
-        picture,
-    )
+    let e = crate::records::going(d, from);
+    match letter {
+        b'k' | b'l' | b't' | b'r' | b'g' => {
+            collector_record(e, letter, input, message, store, picture)
+        }
+        _ => base_record(e, letter, input, message, out, picture),
+    }
 }
 
 // A proved loop ends, and nothing says that an input does: the turns are counted down from a number that no run uses up.
-fn run(input: &mut [u8], message: &mut [u8], out: &mut [u8], picture: &mut [u16]) {
+fn run(
+    input: &mut [u8],
+    message: &mut [u8],
+    out: &mut [u8],
+    store: &mut [u8],
+    picture: &mut [u16],
+) {
     let mut d = crate::records::fresh(app_recording::read::start());
     let mut turns = u64::MAX;
     while 0 < turns && d.go {
-        d = step(d, input, message, out, picture);
+        d = step(d, input, message, out, store, picture);
         turns -= 1;
     }
 }
@@ -70,15 +111,17 @@ fn run_in(
     input: &mut [u8],
     message: &mut [u8; 1048576],
     out: &mut [u8; 1048576],
+    store: &mut [u8; 1048576],
     picture: &mut [u16; 1048576],
 ) {
-    run(input, message, out, picture);
+    run(input, message, out, store, picture);
 }
 
 fn main() {
     let mut input = [0u8; 65536];
     let mut message = [0u8; 1048576];
     let mut out = [0u8; 1048576];
+    let mut store = [0u8; 1048576];
     let mut picture = [0u16; 1048576];
-    run_in(&mut input, &mut message, &mut out, &mut picture);
+    run_in(&mut input, &mut message, &mut out, &mut store, &mut picture);
 }

@@ -1,90 +1,184 @@
-// The records of a recording but for frames: a new case, the session record, a picture, and the calls on headers and components. A record is a letter and
+// The records of a recording but for frames, the collector and capabilities: a new case, the session record, a picture, and the calls on headers and
+// components. A record is a letter and
 // little-endian numbers of four bytes, then bytes. No section of document 01 is made true here: `replay` shows by these calls that the proved library does
 // what the recording says.
+ghost use mathlib.Core.Path.{_≡_};
+ghost use Rattle.replay.specs.Desk.{goingDesk, stoppedDesk, freshDesk, recordsDesk, writtenDesk, pictureDesk, storeDesk};
 use app_recording::read::In;
 use app_text::lines::OUT;
+use collect::Collector;
 use session::Session;
 
-// What goes on from record to record: the input, the session, the words of picture that are lent, the bytes last written, and whether it goes on.
+// What goes on from record to record: the input, the session's record and the collector's, the words of picture that are lent, the bytes last written, of the
+// store's memory the bytes that are lent and those that were filled, and whether it goes on.
 pub struct Desk {
     pub from: In,
     pub s: Session,
+    pub c: Collector,
     pub picture: usize,
     pub written: usize,
+    pub lent: usize,
+    pub filled: usize,
     pub go: bool,
 }
 
 // The next record.
-pub fn going(d: Desk, c: In) -> Desk {
+pub fn going(d: Desk, from: In) -> Desk
+    ensures { λ r. ⌜ r ≡ goingDesk d from ⌝ }
+{
     let s = d.s;
+    let c = d.c;
     Desk {
-        from: c,
+        from: from,
         s: s,
+        c: c,
         picture: d.picture,
         written: d.written,
+        lent: d.lent,
+        filled: d.filled,
         go: true,
     }
 }
 
 // No record more.
-pub fn stopped(d: Desk) -> Desk {
-    let c = d.from;
+pub fn stopped(d: Desk) -> Desk
+    ensures { λ r. ⌜ r ≡ stoppedDesk d ⌝ }
+{
+    let from = d.from;
     let s = d.s;
+    let c = d.c;
     Desk {
-        from: c,
+        from: from,
         s: s,
+        c: c,
         picture: d.picture,
         written: d.written,
+        lent: d.lent,
+        filled: d.filled,
         go: false,
     }
 }
 
 // The recording asks for too much, or is cut.
-pub fn bad(d: Desk) -> Desk {
+pub fn bad(d: Desk) -> Desk
+    ensures { λ r. ⌜ r ≡ stoppedDesk d ⌝ }
+{
     app_text::lines::say(OUT, b"bad recording\n");
     stopped(d)
 }
 
-// A new case: a fresh session, no picture, nothing written.
-pub fn fresh(c: In) -> Desk {
+// A new case: fresh records, no picture, nothing written, no store.
+pub fn fresh(from: In) -> Desk
+    ensures { λ r. ⌜ r ≡ freshDesk from ⌝ }
+{
     Desk {
-        from: c,
-        s: session::of_numbers(0, 0, 0, 0),
+        from: from,
+        s: Session {
+            headers: 0,
+            mode: 0,
+            width: 0,
+            height: 0,
+            columns: 0,
+            rows: 0,
+            words: 0,
+            glass: 0,
+        },
+        c: Collector {
+            held: 0,
+            end: 0,
+            head: 0,
+            refused: 0,
+            part: 0,
+            seen: 0,
+        },
         picture: 0,
         written: 0,
+        lent: 0,
+        filled: 0,
         go: true,
     }
 }
 
-fn with_session(d: Desk, c: In, s: Session) -> Desk {
+fn with_session(d: Desk, from: In, s: Session) -> Desk
+    ensures { λ r. ⌜ r ≡ recordsDesk d from s (d .c) ⌝ }
+{
+    let c = d.c;
     Desk {
-        from: c,
+        from: from,
         s: s,
+        c: c,
         picture: d.picture,
         written: d.written,
+        lent: d.lent,
+        filled: d.filled,
         go: true,
     }
 }
 
 // After a call that wrote n bytes.
-pub fn with_written(d: Desk, c: In, n: usize) -> Desk {
+pub fn with_written(d: Desk, from: In, n: usize) -> Desk
+    ensures { λ r. ⌜ r ≡ writtenDesk d from n ⌝ }
+{
     let s = d.s;
+    let c = d.c;
     Desk {
-        from: c,
+        from: from,
         s: s,
+        c: c,
         picture: d.picture,
         written: n,
+        lent: d.lent,
+        filled: d.filled,
         go: true,
     }
 }
 
-fn with_picture(d: Desk, c: In, n: usize) -> Desk {
+fn with_picture(d: Desk, from: In, n: usize) -> Desk
+    ensures { λ r. ⌜ r ≡ pictureDesk d from n ⌝ }
+{
     let s = d.s;
+    let c = d.c;
     Desk {
-        from: c,
+        from: from,
         s: s,
+        c: c,
         picture: n,
         written: d.written,
+        lent: d.lent,
+        filled: d.filled,
+        go: true,
+    }
+}
+
+// After calls through the collector.
+pub fn with_records(d: Desk, from: In, s: Session, c: Collector) -> Desk
+    ensures { λ r. ⌜ r ≡ recordsDesk d from s c ⌝ }
+{
+    Desk {
+        from: from,
+        s: s,
+        c: c,
+        picture: d.picture,
+        written: d.written,
+        lent: d.lent,
+        filled: d.filled,
+        go: true,
+    }
+}
+
+// With a store of so many bytes lent, of memory of which so many are filled.
+pub fn with_store(d: Desk, from: In, c: Collector, lent: usize, filled: usize) -> Desk
+    ensures { λ r. ⌜ r ≡ storeDesk d from c lent filled ⌝ }
+{
+    let s = d.s;
+    Desk {
+        from: from,
+        s: s,
+        c: c,
+        picture: d.picture,
+        written: d.written,
+        lent: lent,
+        filled: filled,
         go: true,
     }
 }
@@ -256,6 +350,5 @@ pub fn headers_again(d: Desk, out: &[u8]) -> Desk {
         return bad(d);
     }
     let s = app_calls::calls::headers_back_call(d.s, out);
-    let from = d.from;
-    with_session(d, from, s)
+    with_session(d, d.from, s)
 }

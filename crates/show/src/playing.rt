@@ -1,116 +1,109 @@
-// Makes the calls of a stream, one after the other, and says on standard error what each came to; specs/Play says what the picture shows then.
+// Reads a stream piece by piece and gives each to the collector; the parts that it hands on go to their calls, each with a line on standard error. Document 02,
+// request One. A block of a foreign type is said, and passed over by its blockLen; at any other refusal the stream ends. specs/Play says what the picture shows
+// then, whatever pieces the input gave.
 ghost use mathlib.Core.Path.{_≡_};
-ghost use Rattle.app_stream.specs.Split.{partOf};
-ghost use Rattle.show.specs.Play.{freshDesk, headerDesk, frameDesk, endDesk, deskAfter, frameShown, Stepped, Played};
-use app_stream::Call;
-use session::Session;
+ghost use Rattle.app_calls.specs.Given.{scene};
+ghost use Rattle.show.specs.Play.{foreignOf, anewDesk, settledDesk, Shown};
+use app_calls::calls::Lengths;
+use app_calls::given::Desk;
+use app_text::lines::ERR;
+use collect::Collector;
 
-// What goes on from call to call: the record, the place in the stream, the size that the last channels block gave, and the calls so far.
-pub struct Desk {
-    pub s: Session,
+// Where the desk stands, the place in the piece that was read and how many bytes it has, how many bytes are to be passed over, and whether it goes on.
+pub struct Turn {
+    pub d: Desk,
     pub at: usize,
-    pub width: u16,
-    pub height: u16,
-    pub headers: u64,
-    pub frames: u64,
+    pub n: usize,
+    pub skip: usize,
+    pub go: bool,
 }
 
-fn fresh() -> Desk
-    ensures { λ r. ⌜ r ≡ freshDesk ⌝ }
+fn begin(d: Desk) -> Turn
+    ensures { λ r. ⌜ r .d ≡ d ⌝ }
 {
-    Desk {
-        s: Session {
-            headers: 0,
-            mode: 0,
-            width: 0,
-            height: 0,
-            columns: 0,
-            rows: 0,
-            words: 0,
-            glass: 0,
-        },
+    Turn {
+        d: d,
         at: 0,
-        width: 0,
-        height: 0,
-        headers: 0,
-        frames: 0,
+        n: 0,
+        skip: 0,
+        go: true,
     }
 }
 
-fn after_header(d: Desk, s: Session, end: usize) -> Desk
-    ensures { λ r. ⌜ r ≡ headerDesk d s end ⌝ }
+// Reads at most so many bytes: how many came, 0 at the end of the input.
+fn read_piece(fd: i32, piece: &mut [u8], size: usize) -> usize {
+    if piece.len() < size {
+        return 0;
+    }
+    let part = &mut piece[0..size];
+    let got = libc::read(fd, part);
+    io::count(got, part)
+}
+
+// The next piece, where this one is at its end.
+fn fill(t: Turn, fd: i32, size: usize, piece: &mut [u8]) -> Turn
+    ensures { λ r. ⌜ r .d ≡ t .d ⌝ }
 {
-    if s.width == 0 {
-        return Desk {
-            s: s,
-            at: end,
-            width: d.width,
-            height: d.height,
-            headers: std::num::wrapping_add_u64(d.headers, 1),
-            frames: d.frames,
+    if t.at < t.n {
+        return t;
+    }
+    let d = t.d;
+    let n = read_piece(fd, piece, size);
+    Turn {
+        d: d,
+        at: 0,
+        n: n,
+        skip: t.skip,
+        go: n != 0,
+    }
+}
+
+// Past the bytes that are to be passed over, as far as they are there.
+fn pass_over(t: Turn) -> Turn
+    ensures { λ r. ⌜ r .d ≡ t .d ⌝ }
+{
+    if t.n < t.at {
+        return t;
+    }
+    let d = t.d;
+    let left = t.n - t.at;
+    if left < t.skip {
+        return Turn {
+            d: d,
+            at: t.n,
+            n: t.n,
+            skip: t.skip - left,
+            go: t.go,
         };
     }
-    Desk {
-        s: s,
-        at: end,
-        width: s.width,
-        height: s.height,
-        headers: std::num::wrapping_add_u64(d.headers, 1),
-        frames: d.frames,
+    Turn {
+        d: d,
+        at: t.at + t.skip,
+        n: t.n,
+        skip: 0,
+        go: t.go,
     }
 }
 
-// One header call; a refused one leaves the record as it was.
-fn header(d: Desk, input: &[u8], end: usize) -> Desk
-    ensures { λ r. ⌜ r ≡ deskAfter (now (input .entry)) d (Call.Header end) ⌝ }
+// Is this a head of a foreign type that can be passed over?
+fn foreign(c: Collector) -> bool
+    ensures { λ r. ⌜ r ≡ foreignOf c ⌝ }
 {
-    let s = d.s;
-    let count = std::num::wrapping_add_u64(d.headers, 1);
-    let h = panel::read_header(s, app_stream::message(input, d.at, end));
-    app_text::lines::say_header(count, session::header_number(h));
-    after_header(d, session::header_record(h, s), end)
-}
-
-fn after_frame(d: Desk, end: usize) -> Desk
-    ensures { λ r. ⌜ r ≡ frameDesk d end ⌝ }
-{
-    let s = d.s;
-    Desk {
-        s: s,
-        at: end,
-        width: d.width,
-        height: d.height,
-        headers: d.headers,
-        frames: std::num::wrapping_add_u64(d.frames, 1),
+    if c.refused != 3 {
+        return false;
     }
+    6 <= c.head / 65536
 }
 
-// One frame call; a refused one leaves the picture as it was.
-fn frame(d: Desk, input: &[u8], end: usize, picture: &mut [u16]) -> Desk
-    ensures { λ r. ⌜ (r ≡ frameDesk d end) × (now (picture .exit) ≡ frameShown (d .s) (partOf (now (input .entry)) (d .at) end) (now (picture .entry))) ⌝ }
-{
-    let count = std::num::wrapping_add_u64(d.frames, 1);
-    let m = app_stream::message(input, d.at, end);
-    let mut y = [0i32; 4096];
-    let mut cb = [0i32; 4096];
-    let mut cr = [0i32; 4096];
-    let mut scratch = [0i32; 4096];
-    let f = panel::read_frame(d.s, m, picture, &mut y, &mut cb, &mut cr, &mut scratch);
-    app_text::lines::say_frame(
-        count,
-        frame::call::frame_number(f),
-        frame::call::frame_tiles(f),
-    );
-    after_frame(d, end)
-}
-
-fn at_end(d: Desk, end: usize) -> Desk
-    ensures { λ r. ⌜ r ≡ endDesk d end ⌝ }
+// The collector anew.
+fn renewed(d: Desk) -> Desk
+    ensures { λ r. ⌜ r ≡ anewDesk d ⌝ }
 {
     let s = d.s;
     Desk {
         s: s,
-        at: end,
+        c: collect::reset(),
+        at: d.at,
         width: d.width,
         height: d.height,
         headers: d.headers,
@@ -118,26 +111,88 @@ fn at_end(d: Desk, end: usize) -> Desk
     }
 }
 
-// One call of the stream.
-fn step(d: Desk, input: &[u8], picture: &mut [u16]) -> Desk
-    ensures { λ r. ⌜ Stepped (now (input .entry)) (now (picture .entry)) (now (picture .exit)) d r ⌝ }
+// How many bytes of a block stand behind its head.
+fn behind(c: Collector) -> usize {
+    let size = c.head / 65536;
+    if size < 6 {
+        return 0;
+    }
+    size - 6
+}
+
+fn on_with(refused: u8, go: bool) -> bool {
+    if refused == 0 {
+        return go;
+    }
+    false
+}
+
+// After a piece that was given: a foreign block is said and passed over, any other refusal ends it.
+fn settle(t: Turn, e: Desk) -> Turn
+    ensures { λ r. ⌜ r .d ≡ settledDesk e ⌝ }
 {
-    match app_stream::call_at(input, d.at) {
-        Call::Header(end) => header(d, input, end),
-        Call::Frame(end) => frame(d, input, end, picture),
-        Call::End => at_end(d, input.len()),
+    let c = e.c;
+    let at = std::num::wrapping_add_usize(t.at, e.at);
+    if foreign(c) {
+        app_text::lines::say(ERR, b"block: ");
+        app_text::lines::say_refused(c.refused);
+        let d = renewed(e);
+        return Turn {
+            d: d,
+            at: at,
+            n: t.n,
+            skip: behind(c),
+            go: t.go,
+        };
+    }
+    Turn {
+        d: e,
+        at: at,
+        n: t.n,
+        skip: t.skip,
+        go: on_with(c.refused, t.go),
     }
 }
 
-// All calls of the stream: each takes at least a byte, so there are no more of them than bytes.
-pub fn run(input: &[u8], picture: &mut [u16]) -> Desk
-    ensures { λ r. ⌜ Played (now (input .entry)) (now (picture .entry)) (now (picture .exit)) r ⌝ }
+// The next bytes of the input, given to the collector.
+fn next_piece(
+    t: Turn,
+    fd: i32,
+    size: usize,
+    piece: &mut [u8],
+    store: &mut [u8],
+    picture: &mut [u16],
+) -> Turn
+    ensures { λ r. ⌜ Shown (scene (t .d) (now (store .entry)) (now (picture .entry))) (scene (r .d) (now (store .exit)) (now (picture .exit))) ⌝ }
 {
-    let mut d = fresh();
-    let mut turns = input.len();
-    while 0 < turns && d.at < input.len() {
-        d = step(d, input, picture);
+    let a = fill(t, fd, size, piece);
+    let b = pass_over(a);
+    let lists = Lengths {
+        one: 4096,
+        two: 4096,
+        three: 4096,
+    };
+    let bytes = app_calls::given::rest(app_text::loading::first(piece, b.n), b.at);
+    let e = app_calls::given::give(b.d, bytes, store, picture, lists, true);
+    settle(b, e)
+}
+
+// The whole input. A proved loop ends, and nothing says that an input does: the turns are counted down from a number that no run uses up.
+pub fn run(
+    d: Desk,
+    fd: i32,
+    size: usize,
+    piece: &mut [u8],
+    store: &mut [u8],
+    picture: &mut [u16],
+) -> Desk
+    ensures { λ r. ⌜ Shown (scene d (now (store .entry)) (now (picture .entry))) (scene r (now (store .exit)) (now (picture .exit))) ⌝ }
+{
+    let mut t = begin(d);
+    let mut turns = u64::MAX;
+    while 0 < turns && t.go {
+        t = next_piece(t, fd, size, piece, store, picture);
         turns -= 1;
     }
-    d
+    t.d
 }

@@ -1,18 +1,18 @@
 -- Laws of filled memory, in the forms that the code has.
 use Prim.Native.Nat.{ℕ, zero, suc, _+_, _≤_, _<_}
 use mathlib.Core.Path.{_≡_, refl, sym, ap, _∙_}
-use mathlib.Core.Bool.{true, false}
+use mathlib.Core.Bool.{Bool, true, false}
 use mathlib.Core.List.{List, [], _∷_}
 use native.Mathlib.Nat.{not-suc-le-zero, le-of-suc-le-suc}
 use native.Mathlib.Numerals.{add-one}
 use native.Mathlib.Omega.{arith}
 use lib.IntN.{ℤ, pos}
 use lib.ListN.{length, getD, take, replicate}
-use lib.Seq.{take-all}
+use lib.Seq.{take-all, ext-getD}
 use mir.Syntax.{w32}
 use mir.Val.{toZ, ofZ, SFits}
 use mir.Facts.{toZ-ofZ}
-use Rattle.app_recording.specs.Filled.{AllAre}
+use Rattle.app_recording.specs.Filled.{Pictured, AllAre}
 
 -- one number more that is v
 take-more : (v : ℤ) (l : List ℤ) (i : ℕ) → i < length l → take i l ≡ replicate i v → getD l i (pos 0) ≡ v → take (suc i) l ≡ replicate (suc i) v
@@ -47,3 +47,15 @@ all-of v l i h g f p = record {
   all = λ e. let k : i ≡ length l = omega arith in cc (take-all i l h, toZ-ofZ f);
   some = λ e q. let z : _≡_ {A = ℕ} 0 1 = cc in omega arith;
 }
+
+-- ---- one picture, and one answer, alone meet the promises
+
+pub pictured-once : (seed : ℕ) (before a b : List ℕ) → Pictured seed before a → Pictured seed before b → a ≡ b
+pictured-once seed before a b p q =
+    ext-getD 0 a b (p .long ∙ sym (q .long)) (λ i h. let k : i < length before = omega (arith, h, p .long) in p .each i k ∙ sym (q .each i k))
+
+pub all-are-once : (v : ℤ) (l : List ℤ) (r s : Bool) → AllAre v l r → AllAre v l s → r ≡ s
+all-are-once v l true true p q = refl
+all-are-once v l false false p q = refl
+all-are-once v l true false p q = absurd (q .some refl (p .all refl))
+all-are-once v l false true p q = absurd (p .some refl (q .all refl))

@@ -6,18 +6,23 @@ use Rattle.replay.proofs.run.Statement.{statement}
 use Rattle.replay.proofs.run.Tie as tie
 
 abbrev Inv-loop : tie.InvT-loop
-Inv-loop input₀ message₀ out₀ picture₀ d₀ turns₀ input message out picture d turns =
-    (length input ≡ length input₀) × (length message ≡ length message₀) × (length out ≡ length out₀) × (length picture ≡ length picture₀)
+Inv-loop input₀ message₀ out₀ store₀ picture₀ d₀ turns₀ input message out store picture d turns =
+    (length input ≡ length input₀)
+    × (length message ≡ length message₀)
+    × (length out ≡ length out₀)
+    × (length store ≡ length store₀)
+    × (length picture ≡ length picture₀)
 
 abbrev μ-loop : tie.MeasureT-loop
-μ-loop input₀ message₀ out₀ picture₀ d₀ turns₀ input message out picture d turns = turns
+μ-loop input₀ message₀ out₀ store₀ picture₀ d₀ turns₀ input message out store picture d turns = turns
 
 loop-again : tie.Need-loop-again Inv-loop μ-loop
-loop-again c = (search needs, search needs, search needs, search needs)
+loop-again c = (search needs, search needs, search needs, search needs, search needs)
 
 pub run-spec : {M : Type 1} → statement M
 run-spec =
     tie.close
-    (tie.spec Inv-loop μ-loop (λ c κs. tt) (λ c κs. tt) (λ c. (refl, refl, refl, refl)) (λ c κs. tt) (λ c. search needs) (λ c. search needs) loop-again
-    (λ c. search needs) (λ c. search needs) (λ c. search needs) (λ c. search needs) (λ c. tt)
-    (λ c. search needs) (λ c. search needs) (λ c. search needs) (λ c. search needs) (λ c. tt))
+    (tie.spec Inv-loop μ-loop (λ c κs. tt) (λ c κs. tt) (λ c. (refl, refl, refl, refl, refl)) (λ c κs. tt) (λ c. search needs)
+    (λ c. search needs) loop-again
+    (λ c. search needs) (λ c. search needs) (λ c. search needs) (λ c. search needs) (λ c. search needs) (λ c. tt)
+    (λ c. search needs) (λ c. search needs) (λ c. search needs) (λ c. search needs) (λ c. search needs) (λ c. tt))

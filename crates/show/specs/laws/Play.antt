@@ -1,106 +1,56 @@
--- The steps of the play.
-use Prim.Native.Nat.{ℕ, zero, suc, _-_, _≤_, _<_}
-use mathlib.Core.Path.{_≡_, refl, ap, sym, _∙_}
+-- The steps of a stream that is shown, in the forms that the code has.
+use Prim.Native.Nat.{ℕ, _/_}
+use mathlib.Core.Path.{_≡_, refl, ap, sym, subst, _∙_}
+use mathlib.Core.Bool.{Bool, true, false}
 use mathlib.Core.List.{List}
-use native.Mathlib.Omega.{arith}
-use lib.ListN.{length}
-use borrow.Author.Tests.{lt-ltb, le-ltb}
-use Rattle.whole.specs.laws.Row.{fails, passes}
-use Rattle.session.specs.declared.Session.{Session}
-use Rattle.frame.specs.Frame.{callFault, frameNumber, framePicture}
-use Rattle.session.specs.declared.HeaderReading.{HeaderReading}
-use Rattle.session.specs.Header.{headerReading, headerRecord}
-use Rattle.app_stream.specs.declared.Call.{Call}
-use Rattle.app_stream.specs.declared.Call.the-variants.{Header, Frame, End}
-use Rattle.app_stream.specs.Split.{callAt, partOf}
-use Rattle.show.specs.declared.playing.Desk.{Desk}
-use Rattle.show.specs.Play.{headerDesk, frameDesk, endDesk, frameShown, deskAfter, pictureAfter, Stepped, deskPlayed, picturePlayed}
+use borrow.Author.Tests.{eq-eqb, ne-eqb}
+use lib.Dec.{leb}
+use Rattle.whole.specs.Row.{_!_⨾_, _⇒_∣_}
+use Rattle.whole.specs.laws.Row.{fails, passes, case-yes, case-no}
+use Rattle.collect.specs.declared.Collector.{Collector}
+use Rattle.app_calls.specs.declared.given.Desk.{Desk}
+use Rattle.app_calls.specs.Given.{Scene, scene, givenTo}
+use Rattle.show.specs.Play.{full, foreignOf, anewDesk, settledDesk, Shown, none, more, anew}
 
--- no turn is left, or the stream is at its end
-pub desk-none : (m : List ℕ) (n : ℕ) (d : Desk) → n ≤ 0 → d ≡ deskPlayed m n d
-unfolding deskPlayed
-desk-none m zero d l = refl
-desk-none m (suc n) d l = absurd (omega arith)
+pub shown-on : (s t u : Scene) → Shown s t → Shown t u → Shown s u
+shown-on s t _ p (none _) = p
+shown-on s t _ p (more _ u piece q) = more s u piece (shown-on s t u p q)
+shown-on s t _ p (anew _ u q) = anew s u (shown-on s t u p q)
 
-pub desk-end : (m : List ℕ) (n : ℕ) (d : Desk) → length m ≤ d .at → d ≡ deskPlayed m n d
-unfolding deskPlayed
-desk-end m zero d l = refl
-desk-end m (suc n) d l = fails _ _ _ _ (le-ltb _ _ l) refl
+-- a piece that is given, and then settled
+pub next-is :
+    (bytes store store′ pic pic′ : List ℕ) (d a b e r : Desk)
+    → a ≡ d
+    → b ≡ a
+    → scene e store′ pic′ ≡ givenTo full bytes (scene b store pic)
+    → r ≡ settledDesk e
+    → Shown (scene d store pic) (scene r store′ pic′)
+unfolding _⇒_∣_
+next-is bytes store store′ pic pic′ d a b e r p q g f = go (foreignOf (e .c)) f
+  where
+    given : Shown (scene d store pic) (scene e store′ pic′)
+    given =
+        subst (Shown (scene d store pic)) (sym (g ∙ ap (λ (x : Desk). givenTo full bytes (scene x store pic)) (q ∙ p)))
+        (more (scene d store pic) (scene d store pic) bytes (none (scene d store pic)))
 
-pub desk-on :
-    (m : List ℕ) (n : ℕ) (d e : Desk)
-    → 0 < n
-    → d .at < length m
-    → e ≡ deskAfter m d (callAt m (d .at))
-    → deskPlayed m n d ≡ deskPlayed m (n - 1) e
-unfolding deskPlayed
-desk-on m zero d e z l f = absurd (omega arith)
-desk-on m (suc n) d e z l f =
-    let q : n ≡ suc n - 1 = omega arith in
-    sym (passes _ _ _ _ (lt-ltb _ _ l) (ap (λ (x : Desk). deskPlayed m n x) f)) ∙ ap (λ (j : ℕ). deskPlayed m j e) q
+    go : (t : Bool) → r ≡ (t ⇒ anewDesk e ∣ e) → Shown (scene d store pic) (scene r store′ pic′)
+    go true h = subst (λ (x : Desk). Shown (scene d store pic) (scene x store′ pic′)) (sym h) (anew (scene d store pic) (scene e store′ pic′) given)
+    go false h = subst (λ (x : Desk). Shown (scene d store pic) (scene x store′ pic′)) (sym h) given
 
-pub picture-none : (m : List ℕ) (n : ℕ) (d : Desk) (pic : List ℕ) → n ≤ 0 → pic ≡ picturePlayed m n d pic
-unfolding picturePlayed
-picture-none m zero d pic l = refl
-picture-none m (suc n) d pic l = absurd (omega arith)
+pub shown-start : (store pic : List ℕ) (d e : Desk) → e ≡ d → Shown (scene d store pic) (scene e store pic)
+shown-start store pic d e h = subst (λ (x : Desk). Shown (scene d store pic) (scene x store pic)) (sym h) (none (scene d store pic))
 
-pub picture-end : (m : List ℕ) (n : ℕ) (d : Desk) (pic : List ℕ) → length m ≤ d .at → pic ≡ picturePlayed m n d pic
-unfolding picturePlayed
-picture-end m zero d pic l = refl
-picture-end m (suc n) d pic l = fails _ _ _ _ (le-ltb _ _ l) refl
+-- a head that can be passed over, and the desk behind it
+pub foreign-not : (c : Collector) → (c .refused ≡ 3 → ⊥) → false ≡ foreignOf c
+unfolding foreignOf
+foreign-not c h = fails _ _ _ _ (ne-eqb (c .refused) 3 h) refl
 
-pub picture-on :
-    (m : List ℕ) (n : ℕ) (d e : Desk) (pic pic′ : List ℕ)
-    → 0 < n
-    → d .at < length m
-    → e ≡ deskAfter m d (callAt m (d .at))
-    → pic′ ≡ pictureAfter m d pic (callAt m (d .at))
-    → picturePlayed m n d pic ≡ picturePlayed m (n - 1) e pic′
-unfolding picturePlayed
-picture-on m zero d e pic pic′ z l f g = absurd (omega arith)
-picture-on m (suc n) d e pic pic′ z l f g =
-    let q : n ≡ suc n - 1 = omega arith in
-    sym (passes _ _ _ _ (lt-ltb _ _ l) (ap (λ (x : Desk). picturePlayed m n x pic′) f ∙ ap (λ (y : List ℕ). picturePlayed m n (deskAfter m d (callAt m (d .at))) y) g))
-    ∙ ap (λ (j : ℕ). picturePlayed m j e pic′) q
+pub foreign-is : (c : Collector) → c .refused ≡ 3 → leb 6 (c .head / 65536) ≡ foreignOf c
+unfolding foreignOf
+foreign-is c h = passes _ _ _ _ (eq-eqb (c .refused) 3 h) refl
 
--- the header call's answer is the desk's
-pub header-is :
-    (m x : List ℕ) (d r : Desk) (end : ℕ) (h : HeaderReading) (s : Session)
-    → r ≡ headerDesk d s end
-    → s ≡ headerRecord h (d .s)
-    → h ≡ headerReading (d .s) x
-    → x ≡ partOf m (d .at) end
-    → r ≡ deskAfter m d (Header end)
-unfolding deskAfter
-header-is m x d r end h s a b c e = cc
+pub settle-anew : (e d : Desk) (t : Bool) → d ≡ anewDesk e → t ≡ foreignOf (e .c) → t ≡ true → d ≡ settledDesk e
+settle-anew e d t h f k = case-yes _ _ _ _ (sym f ∙ k) h
 
--- four full work lists
-pub frame-is :
-    (m pic pic′ : List ℕ) (s : Session) (j k l n : ℕ) (x : List ℕ)
-    → pic′ ≡ framePicture (frameNumber (callFault s (length pic) j k l n) s x) s x pic
-    → j ≡ 4096
-    → k ≡ 4096
-    → l ≡ 4096
-    → n ≡ 4096
-    → x ≡ m
-    → pic′ ≡ frameShown s m pic
-unfolding frameShown
-frame-is m pic pic′ s j k l n x a b c e f g = cc
-
--- the three ways out of a step
-module _ (m pic : List ℕ) (d r : Desk) (k : Call) (is : k ≡ callAt m (d .at)) where
-  pub step-header : (end : ℕ) → k ≡ Header end → r ≡ deskAfter m d (Header end) → Stepped m pic pic d r
-  unfolding pictureAfter
-  step-header end e f =
-      record { desk = f ∙ ap (λ (x : Call). deskAfter m d x) (sym e ∙ is); picture = ap (λ (x : Call). pictureAfter m d pic x) (sym e ∙ is) }
-
-  pub step-frame :
-      (end : ℕ) (pic′ : List ℕ) → k ≡ Frame end → r ≡ frameDesk d end → pic′ ≡ frameShown (d .s) (partOf m (d .at) end) pic → Stepped m pic pic′ d r
-  unfolding deskAfter pictureAfter
-  step-frame end pic′ e f g =
-      record { desk = f ∙ ap (λ (x : Call). deskAfter m d x) (sym e ∙ is); picture = g ∙ ap (λ (x : Call). pictureAfter m d pic x) (sym e ∙ is) }
-
-  pub step-end : k ≡ End → r ≡ endDesk d (length m) → Stepped m pic pic d r
-  unfolding deskAfter pictureAfter
-  step-end e f =
-      record { desk = f ∙ ap (λ (x : Call). deskAfter m d x) (sym e ∙ is); picture = ap (λ (x : Call). pictureAfter m d pic x) (sym e ∙ is) }
+pub settle-same : (e : Desk) (t : Bool) → t ≡ foreignOf (e .c) → t ≡ false → e ≡ settledDesk e
+settle-same e t f k = case-no _ _ _ _ (sym f ∙ k) refl

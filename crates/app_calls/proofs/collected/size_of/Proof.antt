@@ -1,0 +1,46 @@
+-- Each way of the match is a row of `sizeOf`.
+use Rattle.app_calls.specs.Calls.{sizeOf}
+use borrow.Author.Needs.{needs}
+use Rattle.app_calls.proofs.collected.size_of.Statement.{statement}
+use Rattle.app_calls.proofs.collected.size_of.Tie as tie
+
+enum-told : tie.Need-enum-told
+enum-told c = search needs
+
+enum-known-answer : tie.Need-enum-known-answer
+enum-known-answer c = search needs
+
+enum-known-answer-2 : tie.Need-enum-known-answer-2
+enum-known-answer-2 c = search needs
+
+enum-told-2 : tie.Need-enum-told-2
+enum-told-2 c = search needs
+
+returns : tie.Need-returns
+unfolding sizeOf
+returns c = search needs
+
+returns-2 : tie.Need-returns-2
+unfolding sizeOf
+returns-2 c = search needs
+
+returns-3 : tie.Need-returns-3
+unfolding sizeOf
+returns-3 c = search needs
+
+returns-4 : tie.Need-returns-4
+unfolding sizeOf
+returns-4 c = search needs
+
+pub size-of-spec : {M : Type 1} → statement M
+size-of-spec =
+    tie.close
+    (tie.spec
+    enum-told
+    enum-known-answer
+    enum-known-answer-2
+    enum-told-2
+    returns
+    returns-2
+    returns-3
+    returns-4)
