@@ -44,7 +44,7 @@ static void constants(void)
     CHECK(strcmp(version, XURBALENZ_VERSION_TEXT) == 0);
     CHECK(XURBALENZ_RECORD_LAYOUT && sizeof session == 16 && xurbalenz_record_16() == 16);
     CHECK(XURBALENZ_TILES(70, 40) == 2 && XURBALENZ_TILES(64, 64) == 1 && XURBALENZ_TILES(4096, 2048) == 2048);
-    CHECK(XURBALENZ_FRAME_ROOM(1, 1) == 72 + 19 + 3 * 65535);
+    CHECK(XURBALENZ_FRAME_ROOM(1, 1) == 77 + 19 + 3 * 65535);
 }
 
 static void components(uint8_t mode)

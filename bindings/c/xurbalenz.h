@@ -68,12 +68,15 @@ extern "C" {
 #define XURBALENZ_TAIL 11    /* after the 4,096th value 8 or more bits remain, or one of them is 1 */
 #define XURBALENZ_ORDER 12   /* a known header that is not due, or a frame before all four headers */
 #define XURBALENZ_ROOM 13    /* the lent output is shorter than what is to be written, or the store than what is to be gathered */
+#define XURBALENZ_VERSION_NOT_TAKEN 14 /* settings of a version that this reader does not take */
+#define XURBALENZ_NO_SETTING 15        /* settings that have a version and nothing behind it */
 
 /* The word for a number, for a log line. A number that no call gives is "unknown". */
 static inline const char *xurbalenz_word(uint8_t number)
 {
     static const char *const words[] = {"done",  "cut",   "buffer", "kind",    "length", "field", "too big",
-                                        "quant", "place", "range",  "overrun", "tail",   "order", "room"};
+                                        "quant", "place", "range",  "overrun", "tail",   "order", "room",
+                                        "version not taken", "no setting"};
     return number < sizeof words / sizeof words[0] ? words[number] : "unknown";
 }
 
@@ -93,7 +96,9 @@ static inline const char *xurbalenz_says(uint8_t number)
                                             "a value with no place left for it",
                                             "more than filling follows the 4,096th value",
                                             "a header that is not due, or a frame before all four headers",
-                                            "the output or the store is shorter than what goes into it"};
+                                            "the output or the store is shorter than what goes into it",
+                                            "settings of a version that this reader does not take",
+                                            "settings that have a version and nothing behind it"};
     return number < sizeof sentences / sizeof sentences[0] ? sentences[number] : "a number that has no word here";
 }
 
@@ -113,10 +118,10 @@ static inline const char *xurbalenz_says(uint8_t number)
    6 (finest) to 15 (coarsest). Use: const uint8_t quant[10] = XURBALENZ_DEFAULT_QUANT; */
 #define XURBALENZ_DEFAULT_QUANT {6, 6, 6, 6, 7, 7, 8, 8, 8, 9}
 
-/* Tiles of a channel, and an output size with which xurbalenz_write_frame never answers 13: 72 bytes around the tiles, and for each tile a
+/* Tiles of a channel, and an output size with which xurbalenz_write_frame never answers 13: 77 bytes around the tiles, and for each tile a
    head of 19 and three codes of at most 65,535. Real frames are far smaller; on 13 nothing is lost, so start small and try again. */
 #define XURBALENZ_TILES(width, height) ((((size_t)(width) + 63) / 64) * (((size_t)(height) + 63) / 64))
-#define XURBALENZ_FRAME_ROOM(width, height) (72 + XURBALENZ_TILES(width, height) * (19 + 3 * (size_t)65535))
+#define XURBALENZ_FRAME_ROOM(width, height) (77 + XURBALENZ_TILES(width, height) * (19 + 3 * (size_t)65535))
 
 /* ---- the session record ---- */
 

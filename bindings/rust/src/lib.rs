@@ -360,14 +360,14 @@ pub const fn tiles(width: usize, height: usize) -> usize {
     width.div_ceil(64).saturating_mul(height.div_ceil(64))
 }
 
-/// Bytes with which a frame of this size (within 4,096 x 2,048) always has room: 72 around the tiles, and for each a head of 19 and three
+/// Bytes with which a frame of this size (within 4,096 x 2,048) always has room: 77 around the tiles, and for each a head of 19 and three
 /// codes of at most 65,535. Real frames are far shorter.
 ///
 /// ```
-/// assert_eq!((xurbalenz::tiles(70, 40), xurbalenz::frame_room(70, 40)), (2, 72 + 2 * (19 + 3 * 65_535)));
+/// assert_eq!((xurbalenz::tiles(70, 40), xurbalenz::frame_room(70, 40)), (2, 77 + 2 * (19 + 3 * 65_535)));
 /// ```
 pub const fn frame_room(width: usize, height: usize) -> usize {
-    tiles(width, height).saturating_mul(19 + 3 * MAX_COMPONENT).saturating_add(72)
+    tiles(width, height).saturating_mul(19 + 3 * MAX_COMPONENT).saturating_add(77)
 }
 
 /// Writes one frame over the whole channel into `out`: its length in bytes.

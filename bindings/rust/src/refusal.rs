@@ -52,6 +52,10 @@ pub enum Refusal {
     Order,
     /// 13: the lent output is shorter than what is to be written, or the store than what is to be gathered.
     Room,
+    /// 14: settings of a version that this reader does not take.
+    VersionNotTaken,
+    /// 15: settings that have a version and nothing behind it.
+    NoSetting,
     /// A number that this crate has no word for. The archive that this crate was written for never gives one: its answers are proved equal to
     /// definitions that have only the numbers above, and 0. A later archive might, and a refusal it is then too.
     Unknown(u8),
@@ -82,6 +86,8 @@ impl Refusal {
             11 => Refusal::Tail,
             12 => Refusal::Order,
             13 => Refusal::Room,
+            14 => Refusal::VersionNotTaken,
+            15 => Refusal::NoSetting,
             other => Refusal::Unknown(other),
         })
     }
@@ -102,6 +108,8 @@ impl Refusal {
             Refusal::Tail => 11,
             Refusal::Order => 12,
             Refusal::Room => 13,
+            Refusal::VersionNotTaken => 14,
+            Refusal::NoSetting => 15,
             Refusal::Unknown(number) => number,
         }
     }
@@ -122,6 +130,8 @@ impl Refusal {
             Refusal::Tail => ("tail", "more than filling follows the 4,096th value"),
             Refusal::Order => ("order", "a header that is not due, or a frame before all four headers"),
             Refusal::Room => ("room", "the output or the store is shorter than what goes into it"),
+            Refusal::VersionNotTaken => ("version not taken", "settings of a version that this reader does not take"),
+            Refusal::NoSetting => ("no setting", "settings that have a version and nothing behind it"),
             Refusal::Unknown(_) => ("unknown", "a number that has no word here"),
         }
     }

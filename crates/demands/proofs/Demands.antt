@@ -35,6 +35,7 @@ use Rattle.frame.specs.laws.Glass.{number-is, refused, accepted, shown-pixel, s
 use Rattle.frame.specs.laws.Numbers.{frame-among, untouched, cleared}
 use Rattle.frame_write.specs.laws.Numbers as SendNumbers
 use Rattle.bounds.specs.laws.Refuses.{writer-refuses, writer-done}
+use Rattle.frame_write.specs.laws.OneSet.{as-over}
 use Rattle.frame_readback.specs.laws.OurFrames.{our-own-frames}
 use Rattle.calls.specs.Calls.{ReadHeader, ReadFrame, ReadComponent, WriteComponent, WriteHeaders, WriteFrame, sentBy}
 use Rattle.calls.specs.laws.Calls.{header-number, header-taken, header-refused, taken-by}
@@ -143,7 +144,7 @@ small-numbers = record {
   read-component = λ c. subst⁻¹ (λ (n : ℕ). n ≤ 13) (component-number c) (among-most 13 (CodeNumbers.fault-among (c .mode) (length (c .list)) (c .bytes)) refl);
   write-component = λ c. subst⁻¹ (λ (n : ℕ). n ≤ 13) (c .promise .number) (among-most 13 (write-among (c .mode) (c .list) (length (c .out))) refl);
   write-headers = λ c. subst⁻¹ (λ (n : ℕ). n ≤ 13) (c .promise .number) (among-most 13 (headers-among (c .width) (c .height) (c .mode) (length (c .out))) refl);
-  write-frame = λ c. among-most 13 (SendNumbers.frame-written-among _ _ _ _ _ _ _ _ _ _ _ _ _ (c .promise)) refl;
+  write-frame = λ c. among-most 13 (SendNumbers.frame-written-among _ _ _ _ _ _ _ _ _ _ _ _ _ (as-over _ _ _ _ _ _ _ _ _ _ _ _ _ (c .promise))) refl;
 }
 
 -- ---- the demands
@@ -176,8 +177,8 @@ demand-2 = record {
   headers-sent = λ c. sent-by _ _ _ _ _ (c .promise);
   writer-refuses = λ c b. writer-refuses b (c .promise);
   writer-done = λ c b e l. writer-done b (c .promise) (sym e) l;
-  work-untouched = λ c e. SendNumbers.work-untouched _ _ _ _ _ _ _ _ _ _ _ _ _ (c .promise) e;
-  work-zeros = λ c o. SendNumbers.work-zeros _ _ _ _ _ _ _ _ _ _ _ _ _ (c .promise) o;
+  work-untouched = λ c e. SendNumbers.work-untouched _ _ _ _ _ _ _ _ _ _ _ _ _ (as-over _ _ _ _ _ _ _ _ _ _ _ _ _ (c .promise)) e;
+  work-zeros = λ c o. SendNumbers.work-zeros _ _ _ _ _ _ _ _ _ _ _ _ _ (as-over _ _ _ _ _ _ _ _ _ _ _ _ _ (c .promise)) o;
 }
 
 demand-3 : Demand3

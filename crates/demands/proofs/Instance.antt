@@ -1,7 +1,7 @@
 -- What demand 2 asks of our own calls (`OurCalls`) is met: one grey pixel, ten quantisers of 6, in both modes.
 -- Assumes nothing.
 use Prim.Native.Nat.{ℕ}
-use mathlib.Core.Path.{_≡_, refl, sym}
+use mathlib.Core.Path.{_≡_, refl, sym, _∙_}
 use mathlib.Core.Bool.{true}
 use mathlib.Core.List.{List, [], _∷_}
 use native.Mathlib.Omega.{arith}
@@ -23,7 +23,10 @@ use Rattle.headers.specs.Headers.{headersOf, headersFault}
 use Rattle.frame.specs.Frame.{callFault, frameNumber, framePicture, frameList, frameReading}
 use Rattle.frame_write.specs.Encode.{pictureFrame}
 use Rattle.frame_write.specs.FrameWrite.{pixelsGood, argFault, sendFault}
+use Rattle.quants.specs.Quants.{oneFor}
 use Rattle.frame_write.specs.laws.FrameWrite.{cleared}
+use Rattle.frame_write.specs.laws.OneSet.{one-refusals}
+use Rattle.frame_pieces.specs.Parts.{tilesNo}
 use Rattle.frame_readback.specs.laws.OurTiles.{Sendable}
 use Rattle.frame_readback.specs.laws.Grey.{grey, sixes, sendable-1, sendable-4}
 use Rattle.calls.specs.Calls.{ReadHeader, sessionAfter, ReadFrame, WriteHeaders, WriteFrame, sentBy}
@@ -57,7 +60,7 @@ drawn s m =
       promise = record { answer = refl; picture = refl; y-list = refl; cb-list = refl; cr-list = refl; tmp-list = refl };
     }
 
-module _ (mode : ℕ) (good : isMode mode ≡ true) (sendable : Sendable grey 1 1 mode sixes) where
+module _ (mode : ℕ) (good : isMode mode ≡ true) (sendable : Sendable grey 1 1 mode (oneFor sixes)) where
   headers-0 : 0 ≡ headersFault 1 1 mode 47
   unfolding headersFault sizeGood _!_⨾_
   headers-0 = rw good
@@ -71,7 +74,7 @@ module _ (mode : ℕ) (good : isMode mode ≡ true) (sendable : Sendable grey 1 
 
   sending-0 : 0 ≡ sendFault 0 1 1 mode sixes grey (length bytes)
   unfolding sendFault
-  sending-0 = goes-on _ _ _ (sym (sendable .none)) (passes _ _ _ _ (le-leb (length bytes) (length bytes) (omega arith)) refl)
+  sending-0 = goes-on _ _ _ (sym (sendable .none ∙ one-refusals grey 1 1 mode sixes (tilesNo 1 1) 0)) (passes _ _ _ _ (le-leb (length bytes) (length bytes) (omega arith)) refl)
 
   abbrev wrote-headers : WriteHeaders
   wrote-headers = record { width = 1; height = 1; mode = mode; out = replicate 47 0; out′ = written (headersOf 1 1 mode) (replicate 47 0); answer = Done (length (headersOf 1 1 mode)); promise = done _ _ _ _ _ headers-0 refl refl }
@@ -146,7 +149,7 @@ pub record Met (mode : ℕ) : Type 0 where
   pub calls : OurCalls headers one two three four frame glass
   pub in-mode : frame .mode ≡ mode
 
-met-in : (mode : ℕ) → isMode mode ≡ true → Sendable grey 1 1 mode sixes → Met mode
+met-in : (mode : ℕ) → isMode mode ≡ true → Sendable grey 1 1 mode (oneFor sixes) → Met mode
 met-in mode g s = record { headers = wrote-headers mode g s; one = one mode g s; two = two mode g s; three = three mode g s; four = four mode g s; frame = wrote-frame mode g s; glass = drawn _ _; calls = met mode g s; in-mode = refl }
 
 pub met-1 : Met 1

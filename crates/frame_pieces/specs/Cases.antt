@@ -2,7 +2,7 @@
 -- (01 is this project's scope document, 02 its change requests, 001 is MS-RDPRFX: README, "What 01 is".)
 use mathlib.Core.Path.{_≡_}
 use mathlib.Core.List.{[], _∷_}
-use Rattle.frame_layout.specs.Bytes.{quantBytes}
+use Rattle.quants.specs.Quants.{quantBytes}
 use Rattle.frame_pieces.specs.Parts.{tilesNo}
 
 pub record Cases : Type 0 where

@@ -2,20 +2,22 @@
 // codes. Blocks are opened with their lengths still 0, and "lengths are filled in afterwards inside the output".
 ghost use mathlib.Core.Path.{_≡_};
 ghost use Prim.Native.Nat.{_+_, _*_, _≤_, _<_};
-ghost use lib.ListN.{length, getD};
+ghost use lib.ListN.{length};
 ghost use Rattle.wire.specs.Le.{patch};
-ghost use Rattle.frame_layout.specs.Bytes.{beginOf, regionOf, propsOf, quantBytes, endOf};
-ghost use Rattle.frame_layout.specs.laws.ReadBack.{SetGood};
+ghost use Rattle.frame_layout.specs.Bytes.{beginOf, regionOf, propsOf, endOf};
+ghost use Rattle.bands.specs.Bands.{QuantGood};
+ghost use Rattle.quants.specs.Quants.{setsOf, chromaIndex};
 ghost use Rattle.frame_pieces.specs.Parts.{headOf, filled, setHeadOf, frontWith, closed, colsOf, tilesNo};
+use quants::Quants;
 
-// The first 19 bytes of a tile, its lengths still 0; quantiser indices 0.
-pub fn put_head(out: &mut [u8], at: usize, x: usize, y: usize)
+// The first 19 bytes of a tile, its lengths still 0; Y's quantiser index is 0, and chroma's as given.
+pub fn put_head(out: &mut [u8], at: usize, chroma: u8, x: usize, y: usize)
     requires { ⌜ at + 19 ≤ length (now out) ⌝ }
-    ensures { λ _. ⌜ now (out .exit) ≡ patch (now (out .entry)) at (headOf x y 0 0 0 0) ⌝ }
+    ensures { λ _. ⌜ now (out .exit) ≡ patch (now (out .entry)) at (headOf chroma x y 0 0 0 0) ⌝ }
 {
     wire::open_block(out, at, 0xCAC3);
-    wire::put_two8(out, at + 6, 0, 0);
-    wire::put8_at(out, at + 8, 0);
+    wire::put_two8(out, at + 6, 0, chroma);
+    wire::put8_at(out, at + 8, chroma);
     wire::put_two16(out, at + 9, x, y);
     wire::put_two16(out, at + 13, 0, 0);
     wire::put16_at(out, at + 17, 0);
@@ -65,46 +67,29 @@ fn props(et: usize) -> usize
     16465 + 1024 * et
 }
 
-// The head of the tileset with one quantiser set, its two lengths still 0.
-fn put_set(out: &mut [u8], et: usize, n: usize)
+// The head of the tileset with so many quantiser sets, its two lengths still 0.
+fn put_set(out: &mut [u8], et: usize, sets: u8, n: usize)
     requires { ⌜ (64 ≤ length (now out)) × (et < 16) ⌝ }
-    ensures { λ _. ⌜ now (out .exit) ≡ patch (now (out .entry)) 37 (setHeadOf et n 0 0) ⌝ }
+    ensures { λ _. ⌜ now (out .exit) ≡ patch (now (out .entry)) 37 (setHeadOf et sets n 0 0) ⌝ }
 {
     wire::open_block(out, 37, 0xCCC7);
     wire::put_two8(out, 43, 1, 0);
     wire::put_two16(out, 45, 0xCAC2, 0);
     wire::put16_at(out, 49, props(et));
-    wire::put_two8(out, 51, 1, 64);
+    wire::put_two8(out, 51, sets, 64);
     wire::put16_at(out, 53, n);
     wire::put32_at(out, 55, 0);
 }
 
-// Two values of a quantiser set in a byte, low half first.
-fn pack(q: &[u8], k: usize) -> u8
-    requires { ⌜ (length (now q) ≡ 10) × (k + 1 < 10) × SetGood (now q) ⌝ }
-    ensures { λ r. ⌜ r ≡ getD (now (q .entry)) k 0 + 16 * getD (now (q .entry)) (k + 1) 0 ⌝ }
-{
-    q[k] + 16 * q[k + 1]
-}
-
-fn put_quants(out: &mut [u8], q: &[u8])
-    requires { ⌜ (64 ≤ length (now out)) × (length (now q) ≡ 10) × SetGood (now q) ⌝ }
-    ensures { λ _. ⌜ now (out .exit) ≡ patch (now (out .entry)) 59 (quantBytes (now (q .entry))) ⌝ }
-{
-    wire::put_two8(out, 59, pack(q, 0), pack(q, 2));
-    wire::put_two8(out, 61, pack(q, 4), pack(q, 6));
-    wire::put8_at(out, 63, pack(q, 8));
-}
-
-// All that stands before the tiles: 64 bytes, the tileset's two lengths still 0.
-pub fn put_front(out: &mut [u8], q: &[u8], idx: usize, w: usize, h: usize, et: usize, n: usize)
-    requires { ⌜ (64 ≤ length (now out)) × (length (now q) ≡ 10) × (SetGood (now q)) × (et < 16) ⌝ }
-    ensures { λ _. ⌜ now (out .exit) ≡ patch (now (out .entry)) 0 (frontWith idx w h et (now (q .entry)) n 0 0) ⌝ }
+// All that stands before the tiles: 64 bytes, or 69 with two quantiser sets; the tileset's two lengths still 0.
+pub fn put_front(out: &mut [u8], q: Quants, idx: usize, w: usize, h: usize, et: usize, n: usize)
+    requires { ⌜ (64 + 5 * chromaIndex q ≤ length (now out)) × QuantGood (q .luma .v) × QuantGood (q .chroma .v) × (et < 16) ⌝ }
+    ensures { λ _. ⌜ now (out .exit) ≡ patch (now (out .entry)) 0 (frontWith idx w h et (setsOf q) n 0 0) ⌝ }
 {
     put_begin(out, idx);
     put_region(out, w, h);
-    put_set(out, et, n);
-    put_quants(out, q);
+    put_set(out, et, 1 + quants::chroma_index(q), n);
+    quants::put_sets(out, 59, q);
 }
 
 fn put_end(out: &mut [u8], at: usize)
@@ -116,14 +101,14 @@ fn put_end(out: &mut [u8], at: usize)
     wire::put32_at(out, at + 2, 8);
 }
 
-// The frame end behind the last tile, and the tileset's two lengths filled in.
-pub fn close_frame(out: &mut [u8], at: usize)
-    requires { ⌜ (64 ≤ at) × (at + 8 ≤ length (now out)) ⌝ }
-    ensures { λ _. ⌜ now (out .exit) ≡ closed (now (out .entry)) at ⌝ }
+// The frame end behind the last tile, and the tileset's two lengths filled in: its tiles stand from a place on.
+pub fn close_frame(out: &mut [u8], from: usize, at: usize)
+    requires { ⌜ (64 ≤ from) × (from ≤ at) × (at + 8 ≤ length (now out)) ⌝ }
+    ensures { λ _. ⌜ now (out .exit) ≡ closed (now (out .entry)) from at ⌝ }
 {
     put_end(out, at);
     wire::put32_at(out, 39, at - 37);
-    wire::put32_at(out, 55, at - 64);
+    wire::put32_at(out, 55, at - from);
 }
 
 // Tiles a row, or a column.

@@ -6,6 +6,8 @@ use mathlib.Core.List.{List}
 use lib.IntN.{ℤ}
 use lib.ListN.{length, getD}
 use Rattle.bands.specs.Bands.{summed, scaledBy}
+use Rattle.quants.specs.Quants.{quantFor}
+use Rattle.quants.specs.declared.Quants.{Quants}
 use Rattle.wave_back.specs.Tile.{tileBack}
 use Rattle.tile_back.specs.Word.{wordAt}
 use Rattle.frame_pieces.specs.Parts.{colsOf, tilesNo}
@@ -21,6 +23,11 @@ samplesBack p w h q k c = tileBack (scaledBy q (summed (listOf p w h q k c)))
 unfoldable pub wordBack : List ℕ → ℕ → ℕ → List ℕ → ℕ → ℕ → ℕ
 wordBack p w h q k i = wordAt (samplesBack p w h q k 0) (samplesBack p w h q k 1) (samplesBack p w h q k 2) i
 
+-- the same over luma's and chroma's quantisers, each component by its own
+unfoldable pub wordOver : List ℕ → ℕ → ℕ → Quants → ℕ → ℕ → ℕ
+wordOver p w h q k i =
+    wordAt (samplesBack p w h (quantFor q 0 .v) k 0) (samplesBack p w h (quantFor q 1 .v) k 1) (samplesBack p w h (quantFor q 2 .v) k 2) i
+
 -- the tile of a pixel: "all tiles row by row"
 unfoldable pub tileNo : ℕ → ℕ → ℕ → ℕ
 tileNo w px py = py / 64 * colsOf w + px / 64
@@ -30,5 +37,13 @@ pub record Shown (p : List ℕ) (w h : ℕ) (q pic pic′ : List ℕ) (r : Frame
   pub number : frameReadingNumber r ≡ 0
   pub tiles : frameReadingTiles r ≡ tilesNo w h
   pub word : (px py : ℕ) → px < w → py < h → getD pic′ (py * w + px) 0 ≡ wordBack p w h q (tileNo w px py) (64 * (py % 64) + px % 64)
+  pub past : (i : ℕ) → h * w ≤ i → getD pic′ i 0 ≡ getD pic i 0
+  pub long : length pic′ ≡ length pic
+
+-- the same of a frame over luma's and chroma's quantisers
+pub record ShownOver (p : List ℕ) (w h : ℕ) (q : Quants) (pic pic′ : List ℕ) (r : FrameReading) : Type 0 where
+  pub number : frameReadingNumber r ≡ 0
+  pub tiles : frameReadingTiles r ≡ tilesNo w h
+  pub word : (px py : ℕ) → px < w → py < h → getD pic′ (py * w + px) 0 ≡ wordOver p w h q (tileNo w px py) (64 * (py % 64) + px % 64)
   pub past : (i : ℕ) → h * w ≤ i → getD pic′ i 0 ≡ getD pic i 0
   pub long : length pic′ ≡ length pic

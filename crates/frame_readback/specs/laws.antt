@@ -2,3 +2,4 @@ pub mod Grey
 pub mod OurFrames
 pub mod OurTiles
 pub mod Own
+pub mod Request

@@ -23,7 +23,7 @@ tilePart p w h mode q k c = bytesOf mode (listOf p w h q k c)
 
 -- "one quantiser set": every index is 0
 unfoldable pub pictureTile : List ℕ → ℕ → ℕ → ℕ → List ℕ → ℕ → Tile
-pictureTile p w h mode q k = tileWith (k % colsOf w) (k / colsOf w) (tilePart p w h mode q k 0) (tilePart p w h mode q k 1) (tilePart p w h mode q k 2)
+pictureTile p w h mode q k = tileWith 0 (k % colsOf w) (k / colsOf w) (tilePart p w h mode q k 0) (tilePart p w h mode q k 1) (tilePart p w h mode q k 2)
 
 -- "one rectangle over the whole, frameIdx as given, flags 0 (region flags 1)": the frame's bytes
 unfoldable pub pictureFrame : ℕ → ℕ → ℕ → ℕ → List ℕ → List ℕ → List ℕ

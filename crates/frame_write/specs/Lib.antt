@@ -1,4 +1,5 @@
 pub mod Encode
 pub mod FrameWrite
 pub mod Job
+pub mod Sets
 pub mod laws

@@ -1,4 +1,5 @@
 pub mod Encode
 pub mod FrameWrite
 pub mod Numbers
+pub mod OneSet
 pub mod Put

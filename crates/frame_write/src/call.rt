@@ -2,13 +2,14 @@
 // "Frame writer's refusals in order: size or mode 5, quantiser 7, pixel or work list length 2, then per component in order 9 .. then 6, then 13."
 use crate::size::Job;
 use bands::Quant;
+use quants::Quants;
 use wire::Writing;
 ghost use mathlib.Core.Path.{_≡_};
 ghost use Prim.Native.Nat.{_+_, _*_, _≤_};
 ghost use lib.ListN.{length};
 ghost use Rattle.wire.specs.Wrote.{Wrote};
-ghost use Rattle.frame_write.specs.Encode.{pictureFrame};
-ghost use Rattle.frame_write.specs.FrameWrite.{pixelsGood, argFault, sendFault, FrameWritten};
+ghost use Rattle.frame_write.specs.FrameWrite.{pixelsGood, FrameWritten};
+ghost use Rattle.frame_write.specs.Sets.{goodSets, frameOver, argFaultOver, sendFaultOver, FrameWrittenOver};
 ghost use Rattle.frame_write.specs.Job.{JobReady};
 
 // Is the picture's length three bytes a pixel?
@@ -19,17 +20,29 @@ fn is_pixels(w: usize, h: usize, pixels: usize) -> bool
     pixels == 3 * (w * h)
 }
 
+// Are luma's quantisers good, and chroma's?
+fn is_good(q: Quants) -> bool
+    ensures { λ r. ⌜ r ≡ goodSets q ⌝ }
+{
+    let luma = q.luma;
+    let chroma = q.chroma;
+    if bands::is_good(luma) {
+        return bands::is_good(chroma);
+    }
+    false
+}
+
 // What is judged of the arguments alone: 5, 7, 2.
 fn arg_judge(
     w: usize,
     h: usize,
     mode: u8,
-    q: Quant,
+    q: Quants,
     pixels: usize,
     list: usize,
     scratch: usize,
 ) -> u8
-    ensures { λ r. ⌜ r ≡ argFault w h mode (q .v) pixels list scratch ⌝ }
+    ensures { λ r. ⌜ r ≡ argFaultOver w h mode q pixels list scratch ⌝ }
 {
     if !session::is_size(w, h) {
         return 5;
@@ -37,7 +50,7 @@ fn arg_judge(
     if !wire::is_mode(mode as usize) {
         return 5;
     }
-    if !bands::is_good(q) {
+    if !is_good(q) {
         return 7;
     }
     if !is_pixels(w, h, pixels) {
@@ -55,7 +68,7 @@ fn arg_judge(
 // What is left to refuse once the arguments are good: 9, 6, 13; then the frame is written.
 fn send(out: &mut [u8], list: &mut [i32], scratch: &mut [i32], pixels: &[u8], job: Job) -> Writing
     requires { ⌜ JobReady job (now pixels) (now list) (now scratch) ⌝ }
-    ensures { λ r. ⌜ Wrote (sendFault (job .index) (job .width) (job .height) (job .mode) (job .quant .v) (now (pixels .entry)) (length (now (out .entry)))) (pictureFrame (job .index) (job .width) (job .height) (job .mode) (job .quant .v) (now (pixels .entry))) (now (out .entry)) (now (out .exit)) r ⌝ }
+    ensures { λ r. ⌜ Wrote (sendFaultOver (job .index) (job .width) (job .height) (job .mode) (job .quants) (now (pixels .entry)) (length (now (out .entry)))) (frameOver (job .index) (job .width) (job .height) (job .mode) (job .quants) (now (pixels .entry))) (now (out .entry)) (now (out .exit)) r ⌝ }
 {
     let n = frame_pieces::tiles_no(job.width, job.height);
     let s = crate::size::tiles_size(job, pixels, n, list, scratch);
@@ -64,26 +77,28 @@ fn send(out: &mut [u8], list: &mut [i32], scratch: &mut [i32], pixels: &[u8], jo
     if number != 0 {
         return Writing::Refused(number);
     }
-    if out.len() < 72 + size {
+    let all = job.quants;
+    let around = 72 + 5 * quants::chroma_index(all) as usize;
+    if out.len() < around + size {
         return Writing::Refused(13);
     }
     let end = crate::put::put_frame(out, list, scratch, pixels, job, n);
     Writing::Done(end)
 }
 
-// The frame writer, for any input: three bytes a pixel, one quantiser set of ten values, two work lists.
-pub fn write_frame(
+// The frame writer, for any input: three bytes a pixel, ten quantisers for luma and ten for chroma, two work lists.
+pub fn write_frame_sets(
     width: usize,
     height: usize,
     mode: u8,
-    q: Quant,
+    q: Quants,
     index: u32,
     pixels: &[u8],
     list: &mut [i32],
     scratch: &mut [i32],
     out: &mut [u8],
 ) -> Writing
-    ensures { λ r. ⌜ FrameWritten width height mode (q .v) index (now (pixels .entry)) (now (list .entry)) (now (list .exit)) (now (scratch .entry)) (now (scratch .exit)) (now (out .entry)) (now (out .exit)) r ⌝ }
+    ensures { λ r. ⌜ FrameWrittenOver width height mode q index (now (pixels .entry)) (now (list .entry)) (now (list .exit)) (now (scratch .entry)) (now (scratch .exit)) (now (out .entry)) (now (out .exit)) r ⌝ }
 {
     let fault = arg_judge(
         width,
@@ -102,10 +117,28 @@ pub fn write_frame(
         height: height,
         mode: mode,
         index: index as usize,
-        quant: q,
+        quants: q,
     };
     let r = send(out, list, scratch, pixels, job);
     whole::clear(list);
     whole::clear(scratch);
     r
+}
+
+// The same with one quantiser set of ten values.
+pub fn write_frame(
+    width: usize,
+    height: usize,
+    mode: u8,
+    q: Quant,
+    index: u32,
+    pixels: &[u8],
+    list: &mut [i32],
+    scratch: &mut [i32],
+    out: &mut [u8],
+) -> Writing
+    ensures { λ r. ⌜ FrameWritten width height mode (q .v) index (now (pixels .entry)) (now (list .entry)) (now (list .exit)) (now (scratch .entry)) (now (scratch .exit)) (now (out .entry)) (now (out .exit)) r ⌝ }
+{
+    let both = Quants { luma: q, chroma: q };
+    write_frame_sets(width, height, mode, both, index, pixels, list, scratch, out)
 }

@@ -2,7 +2,8 @@
 // in afterwards inside the output". The sizing pass has refused before; here everything fits.
 use crate::size::Job;
 ghost use mathlib.Core.Path.{_≡_};
-ghost use Prim.Native.Nat.{_+_, _≤_, _<_};
+ghost use Prim.Native.Nat.{_+_, _*_, _≤_, _<_};
+ghost use Rattle.quants.specs.Quants.{chromaIndex};
 ghost use lib.ListN.{length};
 ghost use Rattle.wire.specs.Le.{patch, written};
 ghost use Rattle.frame_layout.specs.Bytes.{tileLen, tileOf, tilesOf};
@@ -40,7 +41,9 @@ fn put_tile(
     ensures { λ r. ⌜ (now (out .exit) ≡ patch (now (out .entry)) at (tileOf (tileIn job (now (pixels .entry)) k))) × (r ≡ at + tileLen (tileIn job (now (pixels .entry)) k)) ⌝ }
 {
     let cols = frame_pieces::cols_of(job.width);
-    frame_pieces::put_head(out, at, k % cols, k / cols);
+    let all = job.quants;
+    let chroma = quants::chroma_index(all);
+    frame_pieces::put_head(out, at, chroma, k % cols, k / cols);
     let a = at + 19;
     let b = put_part(out, a, list, scratch, pixels, job, k, 0);
     let c = put_part(out, b, list, scratch, pixels, job, k, 1);
@@ -80,21 +83,21 @@ pub fn put_frame(
     job: Job,
     n: usize,
 ) -> usize
-    requires { ⌜ JobReady job (now pixels) (now list) (now scratch) × (n ≡ jobTiles job) × (0 ≡ tilesStop job (now pixels) n) × (72 + length (tilesOf (tileIn job (now pixels)) n 0) ≤ length (now out)) ⌝ }
+    requires { ⌜ JobReady job (now pixels) (now list) (now scratch) × (n ≡ jobTiles job) × (0 ≡ tilesStop job (now pixels) n) × (72 + 5 * chromaIndex (job .quants) + length (tilesOf (tileIn job (now pixels)) n 0) ≤ length (now out)) ⌝ }
     ensures { λ r. ⌜ (now (out .exit) ≡ written (frameIn job (now (pixels .entry)) n) (now (out .entry))) × (r ≡ length (frameIn job (now (pixels .entry)) n)) ⌝ }
 {
-    let q = job.quant;
-    let v = q.v;
+    let all = job.quants;
+    let from = 64 + 5 * quants::chroma_index(all) as usize;
     frame_pieces::put_front(
         out,
-        &v,
+        all,
         job.index,
         job.width,
         job.height,
         job.mode as usize,
         n,
     );
-    let e = put_tiles(out, 64, list, scratch, pixels, job, n);
-    frame_pieces::close_frame(out, e);
+    let e = put_tiles(out, from, list, scratch, pixels, job, n);
+    frame_pieces::close_frame(out, from, e);
     e + 8
 }

@@ -1,7 +1,7 @@
 // The frame writer's sizing pass (document 01, last paragraph of "Colour"): "per component in order 9 (as the reader would judge) then 6",
 // and the size of all tiles, before a byte of the output is touched. One work list serves a component at a time.
-use bands::Quant;
 use code_write::call::Sized;
+use quants::Quants;
 ghost use mathlib.Core.Path.{_≡_};
 ghost use Prim.Native.Nat.{_<_};
 ghost use lib.ListN.{length};
@@ -14,7 +14,7 @@ pub struct Job {
     pub height: usize,
     pub mode: u8,
     pub index: usize,
-    pub quant: Quant,
+    pub quants: Quants,
 }
 
 // The list of component c of tile k.
@@ -23,7 +23,8 @@ pub fn load_part(job: Job, pixels: &[u8], k: usize, c: usize, list: &mut [i32], 
     ensures { λ _. ⌜ now (list .exit) ≡ listIn job (now (pixels .entry)) k c ⌝ }
 {
     let w = job.width;
-    let q = job.quant;
+    let all = job.quants;
+    let q = quants::quant_for(all, c);
     let cols = frame_pieces::cols_of(w);
     tile_forth::load_component(
         pixels,
@@ -51,8 +52,8 @@ fn part_size(
     ensures { λ r. ⌜ Sizes (partStop job (now (pixels .entry)) k c) (length (partIn job (now (pixels .entry)) k c)) r ⌝ }
 {
     load_part(job, pixels, k, c, list, scratch);
-    let q = job.quant;
-    let f = bands::judge(list, q);
+    let all = job.quants;
+    let f = bands::judge(list, quants::quant_for(all, c));
     if f != 0 {
         return Sized { number: f, size: 0 };
     }

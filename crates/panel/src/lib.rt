@@ -7,9 +7,11 @@ ghost use Rattle.code.specs.Read.{ComponentRead};
 ghost use Rattle.code_write.specs.Write.{ComponentWritten};
 ghost use Rattle.frame.specs.Frame.{FrameRead};
 ghost use Rattle.frame_write.specs.FrameWrite.{FrameWritten};
+ghost use Rattle.frame_write.specs.Sets.{FrameWrittenOver};
 use bands::Quant;
 use code::read::Reading;
 use frame::call::FrameReading;
+use quants::Quants;
 use session::HeaderReading;
 use session::Session;
 use wire::Writing;
@@ -76,4 +78,21 @@ pub fn write_frame(
     ensures { λ r. ⌜ FrameWritten width height mode (q .v) index (now (pixels .entry)) (now (list .entry)) (now (list .exit)) (now (scratch .entry)) (now (scratch .exit)) (now (out .entry)) (now (out .exit)) r ⌝ }
 {
     frame_write::call::write_frame(width, height, mode, q, index, pixels, list, scratch, out)
+}
+
+// The same with luma's and chroma's quantisers; where they are equal it writes what `write_frame` writes.
+pub fn write_frame_sets(
+    width: usize,
+    height: usize,
+    mode: u8,
+    q: Quants,
+    index: u32,
+    pixels: &[u8],
+    list: &mut [i32],
+    scratch: &mut [i32],
+    out: &mut [u8],
+) -> Writing
+    ensures { λ r. ⌜ FrameWrittenOver width height mode q index (now (pixels .entry)) (now (list .entry)) (now (list .exit)) (now (scratch .entry)) (now (scratch .exit)) (now (out .entry)) (now (out .exit)) r ⌝ }
+{
+    frame_write::call::write_frame_sets(width, height, mode, q, index, pixels, list, scratch, out)
 }

@@ -1,7 +1,8 @@
-// Sends a picture as a RemoteFX stream:  send [FILE] [-m 1|3] [-q Q0 .. Q9] [-i INDEX]
+// Sends a picture as a RemoteFX stream:  send [FILE] [-m 1|3] [-q Q0 .. Q9] [-i INDEX] [-s SETTINGS]
 // The picture, a binary PPM (P6, 255 the largest value, comments in its head allowed), comes from FILE or from standard input. The stream goes to standard
 // output: the four header blocks (47 bytes) and one frame. -m 3 is RLGR3 (so without -m), -m 1 RLGR1; -q takes ten quantisers from 6 to 15 in the order LL3, LH3,
-// HL3, HH3, LH2, HL2, HH2, LH1, HL1, HH1 (6 6 6 6 7 7 8 8 8 9 without); INDEX is the frame's (0 without). At most 1,048,576 pixels and 4,194,304 bytes of
+// HL3, HH3, LH2, HL2, HH2, LH1, HL1, HH1 (6 6 6 6 7 7 8 8 8 9 without); INDEX is the frame's (0 without). -s takes mode and
+// quantisers, luma's and chroma's, from a settings file instead of -m and -q. At most 1,048,576 pixels and 4,194,304 bytes of
 // stream. Where anything is wrong, a line on standard error says what, and nothing goes to standard output (the kit has no exit status).
 mod args;
 
@@ -9,6 +10,7 @@ use crate::args::Options;
 use app_pictures::ppm::Head;
 use app_text::lines::ERR;
 use libc::STDOUT_FILENO;
+use settings::read::Reading;
 
 // ---- lines on standard error
 
@@ -62,11 +64,13 @@ fn make_frame(o: Options, width: usize, height: usize, pixels: &[u8], out: &mut 
     let e = out.len();
     let mut list = [0i32; 4096];
     let mut scratch = [0i32; 4096];
-    let w = panel::write_frame(
+    let s = o.settings;
+    let q = s.quants;
+    let w = panel::write_frame_sets(
         width,
         height,
-        o.mode,
-        o.q,
+        s.mode,
+        q,
         o.index,
         pixels,
         &mut list,
@@ -81,7 +85,8 @@ fn make_frame(o: Options, width: usize, height: usize, pixels: &[u8], out: &mut 
 
 // Headers and frame, one behind the other; the size is the frame's.
 fn make(o: Options, width: usize, height: usize, pixels: &[u8], out: &mut [u8]) -> Made {
-    let w = panel::write_headers(width, height, o.mode, out);
+    let s = o.settings;
+    let w = panel::write_headers(width, height, s.mode, out);
     let number = wire::writing_number(w);
     if number != 0 {
         return Made {
@@ -154,16 +159,39 @@ fn send_in(o: Options, data: &mut [u8; 3146752], out: &mut [u8; 4194304]) {
     load_and_send(o, data, out);
 }
 
+// The settings of the arguments, or those of the file that -s names.
+fn settings_of(o: Options) -> Reading {
+    if o.kept == 0 {
+        let s = o.settings;
+        return Reading {
+            number: 0,
+            settings: s,
+        };
+    }
+    app_settings::load(o.kept)
+}
+
 fn main() {
     let mut data = [0u8; 3146752];
     let mut out = [0u8; 4194304];
     let o = crate::args::arguments();
     if o.good {
-        send_in(o, &mut data, &mut out);
+        let r = settings_of(o);
+        let s = r.settings;
+        if r.number == 0 {
+            let chosen = Options {
+                file: o.file,
+                kept: o.kept,
+                settings: s,
+                index: o.index,
+                good: true,
+            };
+            send_in(chosen, &mut data, &mut out);
+        }
         return;
     }
     app_text::lines::say(
         ERR,
-        b"usage: send [FILE] [-m 1|3] [-q Q0 Q1 Q2 Q3 Q4 Q5 Q6 Q7 Q8 Q9] [-i INDEX]\n",
+        b"usage: send [FILE] [-m 1|3] [-q Q0 Q1 Q2 Q3 Q4 Q5 Q6 Q7 Q8 Q9] [-i INDEX] [-s SETTINGS]\n",
     );
 }

@@ -14,7 +14,7 @@ use Rattle.code_write.specs.laws.Once.{write-once}
 use Rattle.frame.specs.Frame.{FrameRead}
 use Rattle.frame.specs.laws.Glass.{one-frame}
 use Rattle.frame_write.specs.FrameWrite.{FrameWritten}
-use Rattle.frame_write.specs.laws.FrameWrite.{frame-once}
+use Rattle.frame_write.specs.laws.OneSet.{frame-once}
 use Rattle.calls.specs.Calls.{ReadHeader, ReadFrame, ReadComponent, WriteComponent, WriteHeaders, WriteFrame}
 use Rattle.demands.specs.Demands.{OneAnswer}
 

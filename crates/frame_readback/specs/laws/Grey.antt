@@ -27,7 +27,10 @@ use Rattle.code_write.specs.Cases.{CodeSent}
 use Rattle.code_write.specs.laws.Cases.{write-cases}
 use Rattle.tile_forth.specs.TileForth.{componentOf, bytesAt, sampleAt, roundedOf}
 use Rattle.frame_pieces.specs.Parts.{colsOf, tilesNo}
-use Rattle.frame_write.specs.Encode.{listOf, partRefusal, tileRefusal, refusals, Picture}
+use Rattle.quants.specs.Quants.{oneFor}
+use Rattle.frame_write.specs.Encode.{listOf, partRefusal, tileRefusal, refusals}
+use Rattle.frame_write.specs.Sets.{PictureOver}
+use Rattle.frame_write.specs.laws.OneSet.{one-refusals}
 use Rattle.frame_write.specs.laws.Encode.{list-long}
 use Rattle.frame_readback.specs.laws.OurTiles.{Sendable}
 
@@ -45,8 +48,8 @@ same-at v (suc n) (suc i) h = same-at v n i (omega arith)
 pub quants : QuantGood sixes
 quants = record { low = λ i h. omega (arith, same-at 6 10 i h); high = λ i h. omega (arith, same-at 6 10 i h) }
 
-pub picture : Picture grey 1 1 sixes
-picture = record { wide = omega arith; wider = omega arith; high = omega arith; higher = omega arith; pixels = refl; quants = quants }
+pub picture : PictureOver grey 1 1 (oneFor sixes)
+picture = record { wide = omega arith; wider = omega arith; high = omega arith; higher = omega arith; pixels = refl; luma = quants; chroma = quants }
 
 -- ---- all zeros, said by bounds of 0
 
@@ -143,8 +146,20 @@ module _ (mode : ℕ) (s : CodeSent mode (0x00 ∷ 0x00 ∷ 0x00 ∷ []) (first 
       goes-on _ _ _ (sym (goes-on _ _ _ (sym (part-0 0 i (omega arith))) (goes-on _ _ _ (sym (part-0 1 i (omega arith))) (part-0 2 i (omega arith))))) (none-0 n (i + 1))
 
 -- what the read-back asks, met in both modes
-pub sendable-1 : Sendable grey 1 1 1 sixes
-sendable-1 = record { picture = picture; ten = refl; allowed = is-1; none = none-0 1 (write-cases .zeros .0) (tilesNo 1 1) 0 }
+pub sendable-1 : Sendable grey 1 1 1 (oneFor sixes)
+sendable-1 = record {
+  picture = picture;
+  luma = refl;
+  chroma = refl;
+  allowed = is-1;
+  none = none-0 1 (write-cases .zeros .0) (tilesNo 1 1) 0 ∙ sym (one-refusals grey 1 1 1 sixes (tilesNo 1 1) 0);
+}
 
-pub sendable-4 : Sendable grey 1 1 4 sixes
-sendable-4 = record { picture = picture; ten = refl; allowed = is-4; none = none-0 4 (write-cases .zeros .1) (tilesNo 1 1) 0 }
+pub sendable-4 : Sendable grey 1 1 4 (oneFor sixes)
+sendable-4 = record {
+  picture = picture;
+  luma = refl;
+  chroma = refl;
+  allowed = is-4;
+  none = none-0 4 (write-cases .zeros .1) (tilesNo 1 1) 0 ∙ sym (one-refusals grey 1 1 4 sixes (tilesNo 1 1) 0);
+}

@@ -18,11 +18,13 @@ use Rattle.wire.specs.Wrote.{writingNumber, writingLength}
 use Rattle.wire.specs.laws.Wrote.{wrote-bytes}
 use Rattle.wire.specs.declared.Writing.{Writing}
 use Rattle.whole.specs.Row.{_⇒_∣_}
-use Rattle.whole.specs.laws.Row.{passes, fails, both, held, goes-on, case-is}
-use Rattle.frame_layout.specs.Bytes.{Tile, quantBytes, tilesOf, frameOf, endOf}
+use Rattle.whole.specs.laws.Row.{passes, fails, both, held, goes-on, case-is, case-no}
+use Rattle.frame_layout.specs.Bytes.{Tile, setCount, tilesOf, frameOf, endOf}
+use Rattle.quants.specs.Quants.{quantFor, setsOf, chromaIndex, oneFor}
+use Rattle.quants.specs.declared.Quants.{Quants}
 use Rattle.frame_layout.specs.Reader.{sizeAt, setPlace, rectCount, setAt, frameTiles}
 use Rattle.frame_layout.specs.laws.Tiles.{listed}
-use Rattle.frame_layout.specs.laws.ReadBack.{front, sent-small, Taken}
+use Rattle.frame_layout.specs.laws.ReadBack.{sentSet, set-found, front, sent-small, Taken}
 use Rattle.frame_blocks.specs.Blocks.{rectsOf}
 use Rattle.bands.specs.Bands.{quantOf, summed, scaledBy}
 use Rattle.session.specs.declared.Session.{Session}
@@ -44,45 +46,53 @@ use Rattle.frame.specs.declared.call.FrameReading.{FrameReading}
 use Rattle.frame.specs.Frame.{full, callFault, early, frameNumber, frameReadingNumber, FrameRead}
 use Rattle.frame.specs.laws.Glass.{number-is, accepted, shown-pixel, shown-past, shown-length}
 use Rattle.frame_pieces.specs.Parts.{tileWith, colsOf, tilesNo}
-use Rattle.frame_write.specs.Encode.{tilePart, pictureTile, pictureFrame, refusals}
-use Rattle.frame_write.specs.FrameWrite.{argFault, sendFault, FrameWritten}
+use Rattle.frame_pieces.specs.laws.Parts.{count-is}
+use Rattle.frame_write.specs.Encode.{tilePart}
+use Rattle.frame_write.specs.FrameWrite.{FrameWritten}
+use Rattle.frame_write.specs.Sets.{tileOver, frameOver, refusalsOver, argFaultOver, sendFaultOver, FrameWrittenOver}
+use Rattle.frame_write.specs.laws.OneSet.{as-over}
 use Rattle.frame_write.specs.laws.FrameWrite.{args-good}
-use Rattle.frame_readback.specs.laws.OurTiles.{quant-back, PartTaken, Sendable, tile-taken, sent, our-frame}
-use Rattle.frame_readback.specs.Own.{samplesBack, wordBack, tileNo, Shown}
+use Rattle.frame_readback.specs.laws.OurTiles.{PartTaken, Sendable, luma-back, chroma-back, tens, tile-taken, sent, our-frame}
+use Rattle.frame_readback.specs.Own.{samplesBack, wordBack, wordOver, tileNo, Shown, ShownOver}
 use Rattle.frame_readback.specs.laws.Own.{last-found, tile-place, whole-region}
 
 -- ---- what the writer's 0 gives
 
-mode-of : (w h mode : ℕ) (q : List ℕ) (pixels list scratch : ℕ) → 0 ≡ argFault w h mode q pixels list scratch → (sizeGood w h ≡ true) × (isMode mode ≡ true)
-unfolding argFault
+mode-of : (w h mode : ℕ) (q : Quants) (pixels list scratch : ℕ) → 0 ≡ argFaultOver w h mode q pixels list scratch →
+    (sizeGood w h ≡ true) × (isMode mode ≡ true)
+unfolding argFaultOver
 mode-of w h mode q pixels list scratch e =
     let a = held (sizeGood w h) 5 _ 0 (λ z. omega arith) e in
     let b = held (isMode mode) 5 _ 0 (λ z. omega arith) (a .1) in
     (a .0, b .0)
 
-pub record Written (w h mode : ℕ) (q : List ℕ) (index : ℕ) (p out′ : List ℕ) (r : Writing) : Type 0 where
+pub record Written (w h mode : ℕ) (q : Quants) (index : ℕ) (p out′ : List ℕ) (r : Writing) : Type 0 where
   pub size : sizeGood w h ≡ true
   pub sendable : Sendable p w h mode q
-  pub bytes : take (writingLength r) out′ ≡ pictureFrame index w h mode q p
+  pub bytes : take (writingLength r) out′ ≡ frameOver index w h mode q p
 
 pub written-is :
-    (w h mode : ℕ) (q : List ℕ) (index : ℕ) (p : List ℕ) (list list′ scratch scratch′ : List ℤ) (out out′ : List ℕ) (r : Writing) → length q ≡ 10 →
-    FrameWritten w h mode q index p list list′ scratch scratch′ out out′ r → writingNumber r ≡ 0 → Written w h mode q index p out′ r
-unfolding sendFault
-written-is w h mode q index p list list′ scratch scratch′ out out′ r ten f e =
-    let a = both (argFault w h mode q (length p) (length list) (length scratch)) _ (sym e ∙ f .wrote .number) in
-    let b = both (refusals p w h mode q (tilesNo w h) 0) _ (a .1) in
+    (w h mode : ℕ) (q : Quants) (index : ℕ) (p : List ℕ) (list list′ scratch scratch′ : List ℤ) (out out′ : List ℕ) (r : Writing)
+    → length (q .luma .v) ≡ 10
+    → length (q .chroma .v) ≡ 10
+    → FrameWrittenOver w h mode q index p list list′ scratch scratch′ out out′ r
+    → writingNumber r ≡ 0
+    → Written w h mode q index p out′ r
+unfolding sendFaultOver
+written-is w h mode q index p list list′ scratch scratch′ out out′ r luma chroma f e =
+    let a = both (argFaultOver w h mode q (length p) (length list) (length scratch)) _ (sym e ∙ f .wrote .number) in
+    let b = both (refusalsOver p w h mode q (tilesNo w h) 0) _ (a .1) in
     let g = args-good w h mode q p (length list) (length scratch) (a .0) in
     let m = mode-of w h mode q (length p) (length list) (length scratch) (a .0) in
     record {
       size = m .0;
-      sendable = record { picture = g .picture; ten = ten; allowed = m .1; none = b .0 };
-      bytes = wrote-bytes _ (pictureFrame index w h mode q p) out out′ r (f .wrote) e;
+      sendable = record { picture = g .picture; luma = luma; chroma = chroma; allowed = m .1; none = b .0 };
+      bytes = wrote-bytes _ (frameOver index w h mode q p) out out′ r (f .wrote) e;
     }
 
 -- ---- the tile of a pixel
 
-module _ (p : List ℕ) (w h mode : ℕ) (q : List ℕ) (px py : ℕ) (in-w : px < w) (in-h : py < h) where
+module _ (p : List ℕ) (w h mode : ℕ) (q : Quants) (px py : ℕ) (in-w : px < w) (in-h : py < h) where
   col-in : px / 64 < colsOf w
   unfolding colsOf
   col-in = omega arith
@@ -91,14 +101,14 @@ module _ (p : List ℕ) (w h mode : ℕ) (q : List ℕ) (px py : ℕ) (in-w : px
   unfolding colsOf
   row-in-h = omega arith
 
-  here : inTile (pictureTile p w h mode q (tileNo w px py)) px py ≡ true
-  unfolding inTile pictureTile tileWith tileNo
+  here : inTile (tileOver p w h mode q (tileNo w px py)) px py ≡ true
+  unfolding inTile tileOver tileWith tileNo
   here =
       let e = tile-place (colsOf w) (px / 64) (py / 64) col-in in
       sym (passes _ _ _ _ (eq-eqb (px / 64) ((py / 64 * colsOf w + px / 64) % colsOf w) (sym (e .0))) (sym (eq-eqb (py / 64) ((py / 64 * colsOf w + px / 64) / colsOf w) (sym (e .1)))))
 
-  other : (j : ℕ) → (j ≡ tileNo w px py → ⊥) → inTile (pictureTile p w h mode q j) px py ≡ false
-  unfolding inTile pictureTile tileWith tileNo
+  other : (j : ℕ) → (j ≡ tileNo w px py → ⊥) → inTile (tileOver p w h mode q j) px py ≡ false
+  unfolding inTile tileOver tileWith tileNo
   other j ne =
       ⊎-elim
       (λ (a : eqb (px / 64) (j % colsOf w) ≡ true).
@@ -110,8 +120,8 @@ module _ (p : List ℕ) (w h mode : ℕ) (q : List ℕ) (px py : ℕ) (in-w : px
   unfolding tileNo tilesNo
   among = omega (arith, row-in (py / 64) (colsOf h) (colsOf w) row-in-h, col-in, mul-comm (colsOf w) (colsOf h))
 
-  pub its-tile : lastTile (listed (pictureTile p w h mode q) (tilesNo w h) 0) px py ≡ found (pictureTile p w h mode q (tileNo w px py))
-  its-tile = last-found (pictureTile p w h mode q) px py (tileNo w px py) here other (tilesNo w h) 0 (omega arith) among
+  pub its-tile : lastTile (listed (tileOver p w h mode q) (tilesNo w h) 0) px py ≡ found (tileOver p w h mode q (tileNo w px py))
+  its-tile = last-found (tileOver p w h mode q) px py (tileNo w px py) here other (tilesNo w h) 0 (omega arith) among
 
   pub tile-among : tileNo w px py < tilesNo w h
   tile-among = omega (arith, among)
@@ -122,31 +132,39 @@ judges : (mode : ℕ) (set code : List ℕ) → judged mode set code ≡ compone
 unfolding judged
 judges mode set code = refl
 
-module _ (p : List ℕ) (w h mode : ℕ) (q : List ℕ) (index : ℕ) (s : Sendable p w h mode q) where
+module _ (p : List ℕ) (w h mode : ℕ) (q : Quants) (index : ℕ) (s : Sendable p w h mode q) where
   abbrev pub m : List ℕ
-  m = pictureFrame index w h mode q p
+  m = frameOver index w h mode q p
 
-  taken : Taken judged w h mode (tilesNo w h) (pictureTile p w h mode q) m
+  taken : Taken judged w h mode (tilesNo w h) (tileOver p w h mode q) m
   taken = our-frame p w h mode q s judged (judges mode) index
 
-  set-is : setAt m (setPlace m) 0 ≡ quantBytes q
-  unfolding pictureFrame frameOf setAt setPlace sizeAt quantBytes
-  set-is =
+  set-is : (j : ℕ) → j < setCount (setsOf q) → setAt m (setPlace m) j ≡ sentSet (setsOf q) j
+  unfolding frameOver frameOf setPlace sizeAt
+  set-is j l =
       let t = sent p w h mode q s judged (judges mode) in
-      let D = tilesOf (pictureTile p w h mode q) (tilesNo w h) 0 in
-      let f = front index w h mode q (tilesNo w h) (length D) (D ++ endOf) (t .wide) (t .high) (t .mode) (omega (arith, t .few)) (sent-small judged w h mode q (tilesNo w h) (pictureTile p w h mode q) t) in
-      rw (f .region .1 .0) (ap (take 5) (f .quants))
+      let D = tilesOf (tileOver p w h mode q) (tilesNo w h) 0 in
+      let f = front index w h mode (setsOf q) (tilesNo w h) (length D) (D ++ endOf) (t .wide) (t .high) (t .mode) (omega (arith, t .few))
+      (sent-small judged w h mode (setsOf q) (tilesNo w h) (tileOver p w h mode q) t) (t .sets .tens) in
+      rw (f .region .1 .0) (set-found m (setsOf q) (D ++ endOf) j (t .sets .tens) l (f .quants))
 
-  part-back : (zs : List ℤ) → PartTaken mode q zs → samplesOf mode (quantOf (setAt m (setPlace m) 0)) (bytesOf mode zs) ≡ tileBack (scaledBy q (summed zs))
-  part-back zs t =
-      ap (λ (v : List ℕ). samplesOf mode (quantOf v) (bytesOf mode zs)) set-is
-      ∙ ap (λ (v : List ℕ). samplesOf mode v (bytesOf mode zs)) (quant-back q (s .ten) (s .picture .quants)) ∙ t .samples
+  part-back : (j : ℕ) (v : List ℕ) (zs : List ℤ) → j < setCount (setsOf q) → quantOf (sentSet (setsOf q) j) ≡ v → PartTaken mode v zs →
+      samplesOf mode (quantOf (setAt m (setPlace m) j)) (bytesOf mode zs) ≡ tileBack (scaledBy v (summed zs))
+  part-back j v zs l e t =
+      ap (λ (x : List ℕ). samplesOf mode (quantOf x) (bytesOf mode zs)) (set-is j l)
+      ∙ ap (λ (x : List ℕ). samplesOf mode x (bytesOf mode zs)) e ∙ t .samples
 
-  word-back : (k i : ℕ) → k < tilesNo w h → tileWord mode (setAt m (setPlace m)) (pictureTile p w h mode q k) i ≡ wordBack p w h q k i
-  unfolding tileWord planeOf indexOf codePart pictureTile tileWith tilePart wordBack samplesBack
+  word-back : (k i : ℕ) → k < tilesNo w h → tileWord mode (setAt m (setPlace m)) (tileOver p w h mode q k) i ≡ wordOver p w h q k i
+  unfolding tileWord planeOf indexOf codePart tileOver tileWith tilePart wordOver samplesBack quantFor _⇒_∣_
   word-back k i l =
       let t = tile-taken p w h mode q s k l in
-      rw (part-back _ (t .y), part-back _ (t .cb), part-back _ (t .cr)) refl
+      let n = count-is q (s .luma) (s .chroma) in
+      let z = tens p w h mode q s in
+      rw (
+        part-back 0 _ _ (omega arith) (luma-back q z) (t .y),
+        part-back (chromaIndex q) _ _ (omega arith) (chroma-back q z) (t .cb),
+        part-back (chromaIndex q) _ _ (omega arith) (chroma-back q z) (t .cr),
+      ) refl
 
   region : (px py : ℕ) → px < w → py < h → inRegion (rectsOf m 14) (rectCount m 14) px py ≡ true
   unfolding rectsOf
@@ -154,7 +172,7 @@ module _ (p : List ℕ) (w h mode : ℕ) (q : List ℕ) (index : ℕ) (s : Senda
 
   shown-word : (px py old : ℕ) → px < w → py < h →
       (inRegion (rectsOf m 14) (rectCount m 14) px py ⇒ wordIn (tileWord mode (setAt m (setPlace m))) px py (lastTile (frameTiles m) px py) old ∣ old)
-      ≡ wordBack p w h q (tileNo w px py) (64 * (py % 64) + px % 64)
+      ≡ wordOver p w h q (tileNo w px py) (64 * (py % 64) + px % 64)
   unfolding wordIn
   shown-word px py old a b =
       case-is _ _ _ _ (region px py a b) refl
@@ -176,7 +194,7 @@ module _ (p : List ℕ) (w h mode : ℕ) (q : List ℕ) (index : ℕ) (s : Senda
     unfolding frameNumber
     number-0 = number-is (recordOf 4 w h mode) m pic y cb cr tmp pic′ y′ cb′ cr′ tmp′ r done ∙ sym (goes-on _ _ _ (sym call-fine) (taken .fault))
 
-    pub shown : Shown p w h q pic pic′ r
+    pub shown : ShownOver p w h q pic pic′ r
     shown = record {
       number = number-0;
       tiles = accepted (recordOf 4 w h mode) m pic y cb cr tmp pic′ y′ cb′ cr′ tmp′ r done number-0 .counted ∙ taken .count;
@@ -189,6 +207,27 @@ module _ (p : List ℕ) (w h mode : ℕ) (q : List ℕ) (index : ℕ) (s : Senda
 -- record at all, answer 0 and end in (4, w, h, mode); and the frame call on our frame, with that record, work lists of 4,096 and a picture long
 -- enough, answers 0, reports the number of tiles and shows at every place of the channel the word that decoding gives for the rounded
 -- coefficients of the given pixels; nothing else changes.
+-- Over both sets, each component by its own:
+pub our-own-frames-over :
+    (s₀ : Session) (w h mode : ℕ) (ho ho′ : List ℕ) (hr : Writing) → HeadersWritten w h mode ho ho′ hr → writingNumber hr ≡ 0 →
+    (q : Quants) (index : ℕ) (p : List ℕ) (list list′ scratch scratch′ : List ℤ) (out out′ : List ℕ) (r : Writing) →
+    length (q .luma .v) ≡ 10 → length (q .chroma .v) ≡ 10 →
+    FrameWrittenOver w h mode q index p list list′ scratch scratch′ out out′ r → writingNumber r ≡ 0 →
+    (pic : List ℕ) (y cb cr tmp : List ℤ) (pic′ : List ℕ) (y′ cb′ cr′ tmp′ : List ℤ) (answer : FrameReading) →
+    length y ≡ 4096 → length cb ≡ 4096 → length cr ≡ 4096 → length tmp ≡ 4096 → h * w ≤ length pic →
+    FrameRead (recordOf 4 w h mode) (take (writingLength r) out′) pic y cb cr tmp pic′ y′ cb′ cr′ tmp′ answer →
+    AllTaken s₀ w h mode (take (writingLength hr) ho′) × ShownOver p w h q pic pic′ answer
+our-own-frames-over s₀ w h mode ho ho′ hr hw e q index p list list′ scratch scratch′ out out′ r luma chroma fw f
+    pic y cb cr tmp pic′ y′ cb′ cr′ tmp′ answer ly lb lr lt room done =
+    let u = written-is w h mode q index p list list′ scratch scratch′ out out′ r luma chroma fw f in
+    let d = subst (λ (x : List ℕ). FrameRead (recordOf 4 w h mode) x pic y cb cr tmp pic′ y′ cb′ cr′ tmp′ answer) (u .bytes) done in
+    (our-headers s₀ w h mode ho ho′ hr hw e, shown p w h mode q index (u .sendable) (u .size) pic y cb cr tmp pic′ y′ cb′ cr′ tmp′ answer ly lb lr lt room d)
+
+-- with one set for both it is what 01 says
+one-shown : (p : List ℕ) (w h : ℕ) (q pic pic′ : List ℕ) (r : FrameReading) → ShownOver p w h (oneFor q) pic pic′ r → Shown p w h q pic pic′ r
+unfolding wordOver wordBack quantFor _⇒_∣_
+one-shown p w h q pic pic′ r s = record { number = s .number; tiles = s .tiles; word = s .word; past = s .past; long = s .long }
+
 pub our-own-frames :
     (s₀ : Session) (w h mode : ℕ) (ho ho′ : List ℕ) (hr : Writing) → HeadersWritten w h mode ho ho′ hr → writingNumber hr ≡ 0 →
     (q : List ℕ) (index : ℕ) (p : List ℕ) (list list′ scratch scratch′ : List ℤ) (out out′ : List ℕ) (r : Writing) → length q ≡ 10 →
@@ -199,6 +238,6 @@ pub our-own-frames :
     AllTaken s₀ w h mode (take (writingLength hr) ho′) × Shown p w h q pic pic′ answer
 our-own-frames s₀ w h mode ho ho′ hr hw e q index p list list′ scratch scratch′ out out′ r ten fw f
     pic y cb cr tmp pic′ y′ cb′ cr′ tmp′ answer ly lb lr lt room done =
-    let u = written-is w h mode q index p list list′ scratch scratch′ out out′ r ten fw f in
-    let d = subst (λ (x : List ℕ). FrameRead (recordOf 4 w h mode) x pic y cb cr tmp pic′ y′ cb′ cr′ tmp′ answer) (u .bytes) done in
-    (our-headers s₀ w h mode ho ho′ hr hw e, shown p w h mode q index (u .sendable) (u .size) pic y cb cr tmp pic′ y′ cb′ cr′ tmp′ answer ly lb lr lt room d)
+    let both = our-own-frames-over s₀ w h mode ho ho′ hr hw e (oneFor q) index p list list′ scratch scratch′ out out′ r ten ten
+    (as-over w h mode q index p list list′ scratch scratch′ out out′ r fw) f pic y cb cr tmp pic′ y′ cb′ cr′ tmp′ answer ly lb lr lt room done in
+    (both .0, one-shown p w h q pic pic′ answer (both .1))

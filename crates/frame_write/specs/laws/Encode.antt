@@ -2,20 +2,21 @@
 -- Assumes nothing.
 use Prim.Native.Nat.{ℕ, zero, suc, _+_, _*_, _-_, _/_, _%_, _≤_, _<_}
 use mathlib.Core.Path.{_≡_, refl, ap, sym, _∙_, subst}
-use mathlib.Core.Bool.{true}
+use mathlib.Core.Bool.{Bool, true, false}
 use mathlib.Core.List.{List}
 use native.Mathlib.Omega.{arith}
 use native.Mathlib.Decide.{decLt}
 use native.Mathlib.Nat.{div-lt-iff-lt-mul, mod-lt, mul-comm, sub-zero, add-zero}
 use borrow.Author.Tests.{leb-true, eq-eqb, ne-eqb}
+use lib.Dec.{eqb}
 use lib.IntN.{ℤ, pos, natAbs}
 use lib.ListN.{length, getD, length-append, List·getD-eq-default}
-use Rattle.whole.specs.Row.{_⨟_}
+use Rattle.whole.specs.Row.{_⇒_∣_, _⨟_}
 use Rattle.whole.specs.laws.Row.{held, both, stops, goes-on, passes, case-yes, case-no, case-is, case-not}
 use Rattle.whole.specs.Tab.{at}
 use Rattle.frame_layout.specs.Bytes.{tileLen, tileOf, tilesOf}
 use Rattle.frame_layout.specs.laws.Here.{tile-length}
-use Rattle.bands.specs.Bands.{coefficientsFault, rangeFault, allIn}
+use Rattle.bands.specs.Bands.{QuantGood, coefficientsFault, rangeFault, allIn}
 use Rattle.bands.specs.laws.Range.{all-each}
 use Rattle.code_write.specs.Write.{bytesOf, allInRange, codeFault, Measures}
 use Rattle.code_write.specs.laws.Write.{is-range}
@@ -23,7 +24,10 @@ use Rattle.code_write.specs.declared.call.Sized.{Sized}
 use Rattle.frame_pieces.specs.Parts.{colsOf, tilesNo}
 use Rattle.frame_pieces.specs.laws.Parts.{tile-parts, tiles-step-length, few-tiles}
 use Rattle.tile_forth.specs.laws.TileForth.{rounded-of-length}
-use Rattle.frame_write.specs.Encode.{listOf, tilePart, pictureTile, partRefusal, tileRefusal, refusals}
+use Rattle.frame_write.specs.Encode.{listOf, tilePart, partRefusal}
+use Rattle.frame_write.specs.Sets.{listOver, partOver, stopOver, tileOver, tileRefusalOver, refusalsOver}
+use Rattle.quants.specs.Quants.{quantFor, chromaIndex}
+use Rattle.quants.specs.declared.Quants.{Quants}
 use Rattle.frame_write.specs.Job.{Sizes}
 
 -- ---- what the sizing pass says, by the two cases: it refuses, or it does not
@@ -58,6 +62,15 @@ unfolding tilesNo colsOf
 few w h a b = few-tiles ((w + 63) / 64) ((h + 63) / 64) w h (omega arith) (omega arith) a b
 
 -- ---- a component
+
+-- either set is good
+pub for-good : (q : Quants) (c : ℕ) → QuantGood (q .luma .v) → QuantGood (q .chroma .v) → QuantGood (quantFor q c .v)
+unfolding quantFor _⇒_∣_
+for-good q c l k = by (eqb c 0)
+  where
+    by : (t : Bool) → QuantGood ((t ⇒ q .luma ∣ q .chroma) .v)
+    by true = l
+    by false = k
 
 pub list-long : (p : List ℕ) (w h : ℕ) (q : List ℕ) (k c : ℕ) → length (listOf p w h q k c) ≡ 4096
 unfolding listOf
@@ -113,39 +126,39 @@ module _ (a b c x y z n : ℕ) (r : Sized) (mr : Sizes a x r) where
     third-of es t mt h =
         sizes-none _ _ _ (goes-on _ _ _ (sym (mr .number) ∙ er) (goes-on _ _ _ (sym (ms .number) ∙ es) (mt .number))) h (size-none _ _ _ mt h)
 
-module _ (p : List ℕ) (w h mode : ℕ) (q : List ℕ) where
-  pub tile-long : (k : ℕ) → tileLen (pictureTile p w h mode q k) ≡ 19 + length (tilePart p w h mode q k 0) + length (tilePart p w h mode q k 1) + length (tilePart p w h mode q k 2)
-  unfolding pictureTile
-  tile-long k = tile-parts (k % colsOf w) (k / colsOf w) (tilePart p w h mode q k 0) (tilePart p w h mode q k 1) (tilePart p w h mode q k 2)
+module _ (p : List ℕ) (w h mode : ℕ) (q : Quants) where
+  pub tile-long : (k : ℕ) → tileLen (tileOver p w h mode q k) ≡ 19 + length (partOver p w h mode q k 0) + length (partOver p w h mode q k 1) + length (partOver p w h mode q k 2)
+  unfolding tileOver
+  tile-long k = tile-parts (chromaIndex q) (k % colsOf w) (k / colsOf w) (partOver p w h mode q k 0) (partOver p w h mode q k 1) (partOver p w h mode q k 2)
 
   module _ (k : ℕ) (r s t : Sized)
-      (mr : Sizes (partRefusal mode q (listOf p w h q k 0)) (length (tilePart p w h mode q k 0)) r) (er : r .number ≡ 0)
-      (ms : Sizes (partRefusal mode q (listOf p w h q k 1)) (length (tilePart p w h mode q k 1)) s) (es : s .number ≡ 0)
-      (mt : Sizes (partRefusal mode q (listOf p w h q k 2)) (length (tilePart p w h mode q k 2)) t) (et : t .number ≡ 0) where
-    pub tile-sized : (n : ℕ) → n ≡ 19 + r .size + s .size + t .size → Sizes (tileRefusal p w h mode q k) (tileLen (pictureTile p w h mode q k)) (record { number = 0; size = n })
-    unfolding tileRefusal
+      (mr : Sizes (stopOver p w h mode q k 0) (length (partOver p w h mode q k 0)) r) (er : r .number ≡ 0)
+      (ms : Sizes (stopOver p w h mode q k 1) (length (partOver p w h mode q k 1)) s) (es : s .number ≡ 0)
+      (mt : Sizes (stopOver p w h mode q k 2) (length (partOver p w h mode q k 2)) t) (et : t .number ≡ 0) where
+    pub tile-sized : (n : ℕ) → n ≡ 19 + r .size + s .size + t .size → Sizes (tileRefusalOver p w h mode q k) (tileLen (tileOver p w h mode q k)) (record { number = 0; size = n })
+    unfolding tileRefusalOver
     tile-sized n e =
         sizes-done _ _ _ (goes-on _ _ _ (sym (mr .number) ∙ er) (goes-on _ _ _ (sym (ms .number) ∙ es) (sym et ∙ mt .number))) refl
         (omega (arith, tile-long k, size-done _ _ _ mr er, size-done _ _ _ ms es, size-done _ _ _ mt et))
 
-  tile-small : (k : ℕ) → 0 ≡ tileRefusal p w h mode q k → tileLen (pictureTile p w h mode q k) ≤ 196624
-  unfolding tileRefusal tilePart
+  tile-small : (k : ℕ) → 0 ≡ tileRefusalOver p w h mode q k → tileLen (tileOver p w h mode q k) ≤ 196624
+  unfolding tileRefusalOver tilePart
   tile-small k e =
       let a = both _ _ e in
       let b = both _ _ (a .1) in
-      let x = part-small mode q (listOf p w h q k 0) (a .0) in
-      let y = part-small mode q (listOf p w h q k 1) (b .0) in
-      let z = part-small mode q (listOf p w h q k 2) (b .1) in
+      let x = part-small mode (quantFor q 0 .v) (listOver p w h q k 0) (a .0) in
+      let y = part-small mode (quantFor q 1 .v) (listOver p w h q k 1) (b .0) in
+      let z = part-small mode (quantFor q 2 .v) (listOver p w h q k 2) (b .1) in
       omega (arith, tile-long k)
 
   -- a tile that is among those not refused is not refused
-  pub not-refused : (n i d : ℕ) → 0 ≡ refusals p w h mode q n i → d < n → 0 ≡ tileRefusal p w h mode q (i + d)
-  unfolding refusals
+  pub not-refused : (n i d : ℕ) → 0 ≡ refusalsOver p w h mode q n i → d < n → 0 ≡ tileRefusalOver p w h mode q (i + d)
+  unfolding refusalsOver
   not-refused zero i d e l = absurd (omega arith)
-  not-refused (suc n) i zero e l = subst (λ (j : ℕ). 0 ≡ tileRefusal p w h mode q j) (sym (add-zero i)) (both _ _ e .0)
+  not-refused (suc n) i zero e l = subst (λ (j : ℕ). 0 ≡ tileRefusalOver p w h mode q j) (sym (add-zero i)) (both _ _ e .0)
   not-refused (suc n) i (suc d) e l =
       let s : i + 1 + d ≡ i + suc d = omega arith in
-      subst (λ (j : ℕ). 0 ≡ tileRefusal p w h mode q j) s (not-refused n (i + 1) d (both _ _ e .1) (omega arith))
+      subst (λ (j : ℕ). 0 ≡ tileRefusalOver p w h mode q j) s (not-refused n (i + 1) d (both _ _ e .1) (omega arith))
 
 -- a part that is sized and not refused
 pub part-sized : (mode : ℕ) (q : List ℕ) (zs : List ℤ) (s : Sized) → Sizes (partRefusal mode q zs) (length (bytesOf mode zs)) s → s .number ≡ 0 → s .size ≤ 65535
@@ -153,57 +166,57 @@ part-sized mode q zs s m e = let a = size-done _ _ _ m e in let b = part-small m
 
 -- ---- the sizing loop: what is left to refuse, and the bytes so far
 
-pub record Sizing (p : List ℕ) (w h mode : ℕ) (q : List ℕ) (n i total : ℕ) : Type 0 where
-  pub rest : refusals p w h mode q n 0 ≡ refusals p w h mode q (n - i) i
-  pub sum : total + length (tilesOf (pictureTile p w h mode q) (n - i) i) ≡ length (tilesOf (pictureTile p w h mode q) n 0)
+pub record Sizing (p : List ℕ) (w h mode : ℕ) (q : Quants) (n i total : ℕ) : Type 0 where
+  pub rest : refusalsOver p w h mode q n 0 ≡ refusalsOver p w h mode q (n - i) i
+  pub sum : total + length (tilesOf (tileOver p w h mode q) (n - i) i) ≡ length (tilesOf (tileOver p w h mode q) n 0)
   pub small : total ≤ i * 196624
 
 left : (n i : ℕ) → i < n → n - i ≡ suc (n - (i + 1))
 left n i l = omega arith
 
-module _ (p : List ℕ) (w h mode : ℕ) (q : List ℕ) where
+module _ (p : List ℕ) (w h mode : ℕ) (q : Quants) where
   pub sizing-start : (n : ℕ) → Sizing p w h mode q n 0 0
   sizing-start n = record { rest = rw sub-zero; sum = rw sub-zero (omega arith); small = omega arith }
 
-  refusals-step : (n i : ℕ) → i < n → refusals p w h mode q (n - i) i ≡ (tileRefusal p w h mode q i ⨟ refusals p w h mode q (n - (i + 1)) (i + 1))
-  unfolding refusals
+  refusals-step : (n i : ℕ) → i < n → refusalsOver p w h mode q (n - i) i ≡ (tileRefusalOver p w h mode q i ⨟ refusalsOver p w h mode q (n - (i + 1)) (i + 1))
+  unfolding refusalsOver
   refusals-step n i l = rw (left n i l)
 
-  module _ (n i total : ℕ) (r : Sized) (l : i < n) (s : Sizing p w h mode q n i total) (m : Sizes (tileRefusal p w h mode q i) (tileLen (pictureTile p w h mode q i)) r) where
-    pub sizing-stops : (r .number ≡ 0 → ⊥) → Sizes (refusals p w h mode q n 0) (length (tilesOf (pictureTile p w h mode q) n 0)) r
+  module _ (n i total : ℕ) (r : Sized) (l : i < n) (s : Sizing p w h mode q n i total) (m : Sizes (tileRefusalOver p w h mode q i) (tileLen (tileOver p w h mode q i)) r) where
+    pub sizing-stops : (r .number ≡ 0 → ⊥) → Sizes (refusalsOver p w h mode q n 0) (length (tilesOf (tileOver p w h mode q) n 0)) r
     sizing-stops f = sizes-none _ _ _ (stops _ _ _ (λ e. f (m .number ∙ e)) (m .number) ∙ sym (s .rest ∙ refusals-step n i l)) f (size-none _ _ _ m f)
 
     pub sizing-next : r .number ≡ 0 → Sizing p w h mode q n (i + 1) (total + r .size) × (total + r .size ≤ (i + 1) * 196624)
     sizing-next e =
         let k = size-done _ _ _ m e in
         let t = tile-small p w h mode q i (sym e ∙ m .number) in
-        let u = tiles-step-length (pictureTile p w h mode q) n i l in
+        let u = tiles-step-length (tileOver p w h mode q) n i l in
         let a = s .sum in
         let b = s .small in
         let c : total + r .size ≤ (i + 1) * 196624 = omega arith in
         (record { rest = s .rest ∙ (refusals-step n i l ∙ sym (goes-on _ _ _ (sym (m .number) ∙ e) refl)); sum = omega arith; small = c }, c)
 
-  pub sizing-ends : (n i total : ℕ) → n ≤ i → Sizing p w h mode q n i total → Sizes (refusals p w h mode q n 0) (length (tilesOf (pictureTile p w h mode q) n 0)) (record { number = 0; size = total })
-  unfolding refusals tilesOf
+  pub sizing-ends : (n i total : ℕ) → n ≤ i → Sizing p w h mode q n i total → Sizes (refusalsOver p w h mode q n 0) (length (tilesOf (tileOver p w h mode q) n 0)) (record { number = 0; size = total })
+  unfolding refusalsOver tilesOf
   sizing-ends n i total l s =
       let z : n - i ≡ 0 = omega arith in
-      sizes-done _ _ _ (sym (s .rest ∙ ap (λ (k : ℕ). refusals p w h mode q k i) z)) refl
-      (omega (arith, subst (λ (k : ℕ). total + length (tilesOf (pictureTile p w h mode q) k i) ≡ length (tilesOf (pictureTile p w h mode q) n 0)) z (s .sum)))
+      sizes-done _ _ _ (sym (s .rest ∙ ap (λ (k : ℕ). refusalsOver p w h mode q k i) z)) refl
+      (omega (arith, subst (λ (k : ℕ). total + length (tilesOf (tileOver p w h mode q) k i) ≡ length (tilesOf (tileOver p w h mode q) n 0)) z (s .sum)))
 
   -- the bytes of tiles that are not refused
-  refusals-small : (n i : ℕ) → 0 ≡ refusals p w h mode q n i → length (tilesOf (pictureTile p w h mode q) n i) ≤ n * 196624
-  unfolding refusals tilesOf
+  refusals-small : (n i : ℕ) → 0 ≡ refusalsOver p w h mode q n i → length (tilesOf (tileOver p w h mode q) n i) ≤ n * 196624
+  unfolding refusalsOver tilesOf
   refusals-small zero i e = omega arith
   refusals-small (suc n) i e =
       let b = both _ _ e in
       let s = tile-small p w h mode q i (b .0) in
       let more = refusals-small n (i + 1) (b .1) in
-      let t = tile-length (pictureTile p w h mode q i) in
-      let a = length-append (tileOf (pictureTile p w h mode q i)) (tilesOf (pictureTile p w h mode q) n (i + 1)) in
+      let t = tile-length (tileOver p w h mode q i) in
+      let a = length-append (tileOf (tileOver p w h mode q i)) (tilesOf (tileOver p w h mode q) n (i + 1)) in
       omega arith
 
-  pub sized-small : (n : ℕ) (s : Sized) → n ≤ 2048 → Sizes (refusals p w h mode q n 0) (length (tilesOf (pictureTile p w h mode q) n 0)) s → s .number ≡ 0 →
-      (s .size ≡ length (tilesOf (pictureTile p w h mode q) n 0)) × (s .size ≤ 402685952)
+  pub sized-small : (n : ℕ) (s : Sized) → n ≤ 2048 → Sizes (refusalsOver p w h mode q n 0) (length (tilesOf (tileOver p w h mode q) n 0)) s → s .number ≡ 0 →
+      (s .size ≡ length (tilesOf (tileOver p w h mode q) n 0)) × (s .size ≤ 402685952)
   sized-small n s l m e =
       let a = size-done _ _ _ m e in
       let b = refusals-small n 0 (sym e ∙ m .number) in

@@ -12,8 +12,9 @@ use Rattle.whole.specs.laws.Among.{numbers, each, among-then, among-all, among-
 use Rattle.wire.specs.Wrote.{writingNumber}
 use Rattle.wire.specs.declared.Writing.{Writing}
 use Rattle.bands.specs.Bands.{rangeFault, sumsFault, scaleFault, coefficientsFault}
-use Rattle.frame_write.specs.Encode.{partRefusal, tileRefusal, refusals}
-use Rattle.frame_write.specs.FrameWrite.{argFault, sendFault, FrameWritten}
+use Rattle.quants.specs.declared.Quants.{Quants}
+use Rattle.frame_write.specs.Encode.{partRefusal}
+use Rattle.frame_write.specs.Sets.{tileRefusalOver, refusalsOver, argFaultOver, sendFaultOver, FrameWrittenOver}
 use Rattle.frame_write.specs.laws.FrameWrite.{untouched, cleared}
 
 -- what is judged of the arguments, and after them
@@ -23,28 +24,28 @@ argNumbers = 5 ∷ 7 ∷ 2 ∷ []
 abbrev pub sendNumbers : List ℕ
 sendNumbers = 0 ∷ 9 ∷ 6 ∷ 13 ∷ []
 
-pub arg-among : (w h mode : ℕ) (q : List ℕ) (pixels list scratch : ℕ) → Among (0 ∷ argNumbers) (argFault w h mode q pixels list scratch)
-unfolding argFault among
-arg-among w h mode q pixels list scratch = search numbers depth 9
+pub arg-among : (w h mode : ℕ) (q : Quants) (pixels list scratch : ℕ) → Among (0 ∷ argNumbers) (argFaultOver w h mode q pixels list scratch)
+unfolding argFaultOver among
+arg-among w h mode q pixels list scratch = search numbers depth 10
 
 part-among : (mode : ℕ) (q : List ℕ) (zs : List ℤ) → Among sendNumbers (partRefusal mode q zs)
 unfolding partRefusal coefficientsFault rangeFault sumsFault scaleFault among
 part-among mode q zs = search numbers depth 9
 
-tiles-among : (p : List ℕ) (w h mode : ℕ) (q : List ℕ) (n i : ℕ) → Among sendNumbers (refusals p w h mode q n i)
-unfolding refusals tileRefusal among
+tiles-among : (p : List ℕ) (w h mode : ℕ) (q : Quants) (n i : ℕ) → Among sendNumbers (refusalsOver p w h mode q n i)
+unfolding refusalsOver tileRefusalOver among
 tiles-among p w h mode q zero i = search numbers
 tiles-among p w h mode q (suc n) i =
-    among-then _ _ (among-then _ _ (part-among mode q _) (among-then _ _ (part-among mode q _) (part-among mode q _))) (tiles-among p w h mode q n (i + 1))
+    among-then _ _ (among-then _ _ (part-among mode _ _) (among-then _ _ (part-among mode _ _) (part-among mode _ _))) (tiles-among p w h mode q n (i + 1))
 
-pub send-among : (index w h mode : ℕ) (q p : List ℕ) (room : ℕ) → Among sendNumbers (sendFault index w h mode q p room)
-unfolding sendFault among
+pub send-among : (index w h mode : ℕ) (q : Quants) (p : List ℕ) (room : ℕ) → Among sendNumbers (sendFaultOver index w h mode q p room)
+unfolding sendFaultOver among
 send-among index w h mode q p room = search (numbers, tiles-among)
 
-module _ (w h mode : ℕ) (q : List ℕ) (index : ℕ) (p : List ℕ) (list list′ scratch scratch′ : List ℤ) (out out′ : List ℕ) (r : Writing)
-    (x : FrameWritten w h mode q index p list list′ scratch scratch′ out out′ r) where
+module _ (w h mode : ℕ) (q : Quants) (index : ℕ) (p : List ℕ) (list list′ scratch scratch′ : List ℤ) (out out′ : List ℕ) (r : Writing)
+    (x : FrameWrittenOver w h mode q index p list list′ scratch scratch′ out out′ r) where
   arguments : ℕ
-  arguments = argFault w h mode q (length p) (length list) (length scratch)
+  arguments = argFaultOver w h mode q (length p) (length list) (length scratch)
 
   -- which numbers the call answers
   pub frame-written-among : Among (5 ∷ 7 ∷ 2 ∷ sendNumbers) (writingNumber r)

@@ -3,7 +3,7 @@ use mathlib.Core.Path.{refl, sym, _∙_}
 use borrow.Author.Tests.{not-true, not-false, eq-eqb, ne-eqb}
 use Rattle.whole.specs.laws.Row.{passes, fails}
 use Rattle.session.specs.laws.Header.{allowed}
-use Rattle.frame_write.specs.FrameWrite.{argFault}
+use Rattle.frame_write.specs.Sets.{argFaultOver}
 use borrow.Author.Needs.{needs}
 use Rattle.frame_write.proofs.call.arg_judge.Statement.{statement}
 use Rattle.frame_write.proofs.call.arg_judge.Tie as tie
@@ -12,14 +12,14 @@ is-size-requires : tie.Need-is-size-requires
 is-size-requires c κs = search needs
 
 returns : tie.Need-returns
-unfolding argFault
+unfolding argFaultOver
 returns c = fails _ _ _ _ (sym (c .before .is-size .ensures) ∙ not-true (c .before .is-size .result) (c .if1 .taken)) refl
 
 is-mode-requires : tie.Need-is-mode-requires
 is-mode-requires c κs = search needs
 
 returns-2 : tie.Need-returns-2
-unfolding argFault
+unfolding argFaultOver
 returns-2 c =
     let p = c .before .before .before in
     passes _ _ _ _ (sym (p .is-size .ensures) ∙ not-false (p .is-size .result) (c .before .before .if1 .left))
@@ -29,7 +29,7 @@ is-good-requires : tie.Need-is-good-requires
 is-good-requires c κs = search needs
 
 returns-3 : tie.Need-returns-3
-unfolding argFault
+unfolding argFaultOver
 returns-3 c =
     let p = c .before .before .before in
     let q = p .before in
@@ -49,7 +49,7 @@ is-pixels-requires c κs =
     (k .most-w, k .most-h)
 
 returns-4 : tie.Need-returns-4
-unfolding argFault
+unfolding argFaultOver
 returns-4 c =
     let p = c .before .before .before in
     let q = p .before in
@@ -62,7 +62,7 @@ returns-4 c =
     (fails _ _ _ _ (sym (c .before .is-pixels .ensures) ∙ not-true (c .before .is-pixels .result) (c .if4 .taken)) refl)))
 
 returns-5 : tie.Need-returns-5
-unfolding argFault
+unfolding argFaultOver
 returns-5 c =
     let p = c .before .before .before in
     let q = p .before in
@@ -78,7 +78,7 @@ returns-5 c =
     (fails _ _ _ _ (ne-eqb (a .list) 4096 (c .if5 .taken)) refl))))
 
 returns-6 : tie.Need-returns-6
-unfolding argFault
+unfolding argFaultOver
 returns-6 c =
     let p = c .before .before .before in
     let q = p .before in
@@ -95,7 +95,7 @@ returns-6 c =
     (passes _ _ _ _ (eq-eqb (a .list) 4096 (c .before .if5 .left)) (fails _ _ _ _ (ne-eqb (a .scratch) 4096 (c .if6 .taken)) refl)))))
 
 returns-7 : tie.Need-returns-7
-unfolding argFault
+unfolding argFaultOver
 returns-7 c =
     let p = c .before .before .before in
     let q = p .before in

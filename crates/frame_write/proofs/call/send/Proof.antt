@@ -1,5 +1,6 @@
 -- `send` meets its contract: one law for each way out (`send-stop`, `send-room`, `send-done`). Assumes nothing.
-use mathlib.Core.Path.{sym, _∙_}
+use mathlib.Core.Path.{_≡_, sym, _∙_}
+use lib.ListN.{length}
 use native.Mathlib.Omega.{arith}
 use denote.Ref.{now}
 use Rattle.frame_write.specs.laws.Encode.{sized-small}
@@ -7,6 +8,9 @@ use Rattle.frame_write.specs.laws.FrameWrite.{still-good, send-stop, sen
 use borrow.Author.Needs.{needs}
 use Rattle.frame_write.proofs.call.send.Statement.{statement}
 use Rattle.frame_write.proofs.call.send.Tie as tie
+
+ten : (s : tie.Start) → (length (s .args .job .quants .luma .v) ≡ 10) × (length (s .args .job .quants .chroma .v) ≡ 10)
+ten s = search needs
 
 tiles-no-requires : tie.Need-tiles-no-requires
 tiles-no-requires c κs = (c .before .before .pre .picture .wider, c .before .before .pre .picture .higher)
@@ -29,12 +33,13 @@ returns c =
     let j = a .job in
     let n = c2 .tiles-no in
     let s = c1 .tiles-size in
-    send-stop (j .index) (j .width) (j .height) (j .mode) (j .quant .v) (now (a .pixels)) (now (a .out)) (n .result) (n .ensures .0) (s .result) (s .ensures)
+    send-stop (j .index) (j .width) (j .height) (j .mode) (j .quants) (now (a .pixels)) (now (a .out)) (n .result) (n .ensures .0) (s .result) (s .ensures)
     (c .if1 .taken)
 
 add-if2 : tie.Need-add-if2
 add-if2 c =
-    let c1 = c .before .before .before in
+    let e = c .before .before in
+    let c1 = e .before .before .before in
     let c2 = c1 .before .before .before in
     let c3 = c2 .before .before .before in
     let a = c3 .args in
@@ -43,8 +48,9 @@ add-if2 c =
     let s = c1 .tiles-size in
     omega (
       arith,
-      sized-small (now (a .pixels)) (j .width) (j .height) (j .mode) (j .quant .v) (n .result) (s .result) (n .ensures .1) (s .ensures)
-          (c .if1 .left) .1,
+      sized-small (now (a .pixels)) (j .width) (j .height) (j .mode) (j .quants) (n .result) (s .result) (n .ensures .1) (s .ensures)
+          (e .if1 .left) .1,
+      c .chroma-index .ensures .1,
     )
 
 same-length-3 : tie.Need-same-length-3
@@ -55,7 +61,8 @@ same-length-4 c = search needs
 
 returns-2 : tie.Need-returns-2
 returns-2 c =
-    let c1 = c .before in
+    let i = c .before .chroma-index in
+    let c1 = c .before .before .before in
     let c2 = c1 .before .before .before in
     let c3 = c2 .before .before .before in
     let c4 = c3 .before .before .before in
@@ -63,13 +70,14 @@ returns-2 c =
     let j = a .job in
     let n = c3 .tiles-no in
     let s = c2 .tiles-size in
-    send-room (j .index) (j .width) (j .height) (j .mode) (j .quant .v) (now (a .pixels)) (now (a .out)) (n .result) (n .ensures .0) (s .result) (s .ensures)
-    (c1 .if1 .left) (c .if2 .taken)
+    send-room (j .index) (j .width) (j .height) (j .mode) (j .quants) (now (a .pixels)) (now (a .out)) (n .result) (n .ensures .0) (s .result) (s .ensures)
+    (ten c4 .0) (ten c4 .1) (c1 .if1 .left) (omega (arith, c .if2 .taken, i .ensures .0))
 
 put-frame-requires : tie.Need-put-frame-requires
 put-frame-requires c κs =
     let c1 = c .before .before .before in
-    let c2 = c1 .before in
+    let i = c1 .before .chroma-index in
+    let c2 = c1 .before .before .before in
     let c3 = c2 .before .before .before in
     let c4 = c3 .before .before .before in
     let b = c4 .before .before .before in
@@ -77,12 +85,12 @@ put-frame-requires c κs =
     let n = c4 .tiles-no in
     let s = c3 .tiles-size in
     let k = s .kept .1 .1 .1 in
-    let t = sized-small (now (b .args .pixels)) (j .width) (j .height) (j .mode) (j .quant .v) (n .result) (s .result) (n .ensures .1) (s .ensures)
+    let t = sized-small (now (b .args .pixels)) (j .width) (j .height) (j .mode) (j .quants) (n .result) (s .result) (n .ensures .1) (s .ensures)
     (c2 .if1 .left) in (
       still-good (b .pre) (k .0) (k .1 .0),
       n .ensures .0,
       sym (c2 .if1 .left) ∙ s .ensures .number,
-      omega (arith, t .0, c1 .if2 .left),
+      omega (arith, t .0, c1 .if2 .left, i .ensures .0),
     )
 
 same-length-5 : tie.Need-same-length-5
@@ -91,20 +99,21 @@ same-length-5 c = c .before .before .before .before .put-frame .kept .0
 same-length-6 : tie.Need-same-length-6
 same-length-6 c =
     let c1 = c .before .before .before .before in
-    let c2 = c1 .before .before .before .before .before .before .before .before in
+    let c2 = c1 .before .before .before .before .before .before .before .before .before .before in
     c1 .put-frame .kept .1 .0 ∙ c2 .tiles-size .kept .1 .1 .1 .0
 
 same-length-7 : tie.Need-same-length-7
 same-length-7 c =
     let c1 = c .before .before .before .before in
-    let c2 = c1 .before .before .before .before .before .before .before .before in
+    let c2 = c1 .before .before .before .before .before .before .before .before .before .before in
     c1 .put-frame .kept .1 .1 .0 ∙ c2 .tiles-size .kept .1 .1 .1 .1 .0
 
 returns-3 : tie.Need-returns-3
 returns-3 c =
     let c1 = c .before .before .before .before in
     let c2 = c1 .before .before .before .before in
-    let c3 = c2 .before in
+    let i = c2 .before .chroma-index in
+    let c3 = c2 .before .before .before in
     let c4 = c3 .before .before .before in
     let c5 = c4 .before .before .before in
     let c6 = c5 .before .before .before in
@@ -113,8 +122,8 @@ returns-3 c =
     let n = c5 .tiles-no in
     let s = c4 .tiles-size in
     let p = c1 .put-frame .ensures in
-    send-done (j .index) (j .width) (j .height) (j .mode) (j .quant .v) (now (a .pixels)) (now (a .out)) (n .result) (n .ensures .0) (s .result) (s .ensures)
-    (c3 .if1 .left) (c2 .if2 .left) _ _ (p .0) (p .1)
+    send-done (j .index) (j .width) (j .height) (j .mode) (j .quants) (now (a .pixels)) (now (a .out)) (n .result) (n .ensures .0) (s .result) (s .ensures)
+    (ten c6 .0) (ten c6 .1) (c3 .if1 .left) (omega (arith, c2 .if2 .left, i .ensures .0)) _ _ (p .0) (p .1)
 
 pub send-spec : {M : Type 1} → statement M
 send-spec =
@@ -125,6 +134,10 @@ send-spec =
     same-length
     same-length-2
     returns
+    (λ c κs. search needs)
+    (λ c. search needs)
+    (λ c. omega (arith, c .chroma-index .ensures .1))
+    (λ c. omega (arith, c .chroma-index .ensures .1))
     add-if2
     same-length-3
     same-length-4

@@ -3,48 +3,45 @@ use mathlib.Core.Path.{_≡_, _∙_}
 use native.Mathlib.Omega.{arith}
 use lib.ListN.{length}
 use denote.Ref.{now}
-use Rattle.frame_pieces.specs.laws.Parts.{frame-put}
+use Rattle.quants.specs.Quants.{setsOf}
+use Rattle.frame_pieces.specs.laws.Parts.{frame-put, count-is, tens-of}
 use Rattle.frame_write.specs.Job.{tileIn}
-use Rattle.frame_write.specs.laws.Put.{good-is}
 use borrow.Author.Needs.{needs}
 use Rattle.frame_write.proofs.put.put_frame.Statement.{statement}
 use Rattle.frame_write.proofs.put.put_frame.Tie as tie
 
-slice-aggregate-put-front : tie.Need-slice-aggregate-put-front
-slice-aggregate-put-front c = search needs
-
-cast-put-front : tie.Need-cast-put-front
-cast-put-front c = search needs
+ten : (s : tie.Start) → (length (s .args .job .quants .luma .v) ≡ 10) × (length (s .args .job .quants .chroma .v) ≡ 10)
+ten s = search needs
 
 put-front-requires : tie.Need-put-front-requires
 put-front-requires c κs =
-    let s = c .before .before .before .before .before .before .before in
-    let v = s .args .job .quant .v in
-    let t : length v ≡ 10 = search needs in
-    (omega (arith, s .pre .3), t, good-is v t (s .pre .0 .picture .quants), s .pre .0 .small)
+    let s = c .before .before .before .before .before .before in
+    let g = s .pre .0 .picture in
+    (omega (arith, s .pre .3), g .luma, g .chroma, s .pre .0 .small)
 
 put-tiles-requires : tie.Need-put-tiles-requires
 put-tiles-requires c κs =
-    let s = c .before .before .before .before .before .before .before .before .before .before .before .before .before in
-    (s .pre .0, s .pre .1, s .pre .2, omega (arith, s .pre .3, c .before .before .before .before .before .put-front .kept .0))
+    let f = c .before .before .before .before .before in
+    let i = f .before .before .before .chroma-index in
+    let s = c .before .before .before .before .before .before .before .before .before .before .before .before in
+    (s .pre .0, s .pre .1, s .pre .2, omega (arith, s .pre .3, f .put-front .kept .0, i .ensures .0))
 
 close-frame-requires : tie.Need-close-frame-requires
 close-frame-requires c κs =
-    let c1 = c .before .before .before .before .before in
-    let c2 = c1 .before .before .before .before .before .before in
-    let s = c2 .before .before .before .before .before .before .before .before in
-    let t = c1 .put-tiles in
-    (omega (arith, t .ensures .1), omega (arith, s .pre .3, c2 .put-front .kept .0, t .kept .0, t .ensures .1))
-
-add-result : tie.Need-add-result
-add-result c = search needs
+    let t = c .before .before .before .before .before in
+    let f = t .before .before .before .before .before .before in
+    let i = f .before .before .before .chroma-index in
+    let s = f .before .before .before .before .before .before .before in (
+      omega arith,
+      omega (arith, t .put-tiles .ensures .1),
+      omega (arith, s .pre .3, f .put-front .kept .0, t .put-tiles .kept .0, t .put-tiles .ensures .1, i .ensures .0),
+    )
 
 same-length : tie.Need-same-length
 same-length c =
-    let c1 = c .before .before in
-    let c2 = c1 .before .before .before .before .before .before in
-    let c3 = c2 .before .before .before .before .before .before in
-    c1 .close-frame .kept .0 ∙ (c2 .put-tiles .kept .0 ∙ c3 .put-front .kept .0)
+    let e = c .before .before in
+    let t = e .before .before .before .before .before .before in
+    e .close-frame .kept .0 ∙ (t .put-tiles .kept .0 ∙ t .before .before .before .before .before .before .put-front .kept .0)
 
 same-length-2 : tie.Need-same-length-2
 same-length-2 c = c .before .before .before .before .before .before .before .before .put-tiles .kept .1 .1 .0
@@ -54,26 +51,32 @@ same-length-3 c = c .before .before .before .before .before .before .before .bef
 
 returns : tie.Need-returns
 returns c =
-    let c1 = c .before .before in
-    let c2 = c1 .before .before .before .before .before .before in
-    let c3 = c2 .before .before .before .before .before .before in
-    let s = c3 .before .before .before .before .before .before .before .before in
+    let e = c .before .before in
+    let t = e .before .before .before .before .before .before in
+    let f = t .before .before .before .before .before .before in
+    let i = f .before .before .before .chroma-index in
+    let s = f .before .before .before .before .before .before .before in
     let a = s .args in
     let j = a .job in
-    let t = c2 .put-tiles .ensures in
-    frame-put (now (a .out)) _ _ _ (j .quant .v) (j .index) (j .width) (j .height) (j .mode) (a .n) _ (tileIn j (now (a .pixels)))
-    (c3 .put-front .ensures) (t .0) (t .1) (c1 .close-frame .ensures)
+    let l = ten s in
+    let n = count-is (j .quants) (l .0) (l .1) in
+    frame-put (j .index) (j .width) (j .height) (j .mode) (setsOf (j .quants)) (a .n) (tens-of (j .quants) (l .0) (l .1)) (now (a .out)) _ _ _ _ _
+    (tileIn j (now (a .pixels))) (omega (arith, n, i .ensures .0)) (f .put-front .ensures) (t .put-tiles .ensures .0) (t .put-tiles .ensures .1)
+    (e .close-frame .ensures)
 
 pub put-frame-spec : {M : Type 1} → statement M
 put-frame-spec =
     tie.close
     (tie.spec
-    slice-aggregate-put-front
-    cast-put-front
+    (λ c κs. search needs)
+    (λ c. search needs)
+    (λ c. omega (arith, c .chroma-index .ensures .1))
+    (λ c. omega (arith, c .chroma-index .ensures .1))
+    (λ c. search needs)
     put-front-requires
     put-tiles-requires
     close-frame-requires
-    add-result
+    (λ c. search needs)
     same-length
     same-length-2
     same-length-3

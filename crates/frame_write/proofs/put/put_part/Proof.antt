@@ -9,6 +9,7 @@ use lib.ListN.{length}
 use denote.Ref.{now}
 use Rattle.wire.specs.Le.{patch}
 use Rattle.code_write.specs.Write.{bytesOf, allInRange}
+use Rattle.quants.specs.Quants.{quantFor}
 use Rattle.frame_write.specs.Encode.{tilePart}
 use Rattle.frame_write.specs.Job.{listIn}
 use Rattle.frame_write.specs.laws.Encode.{part-range}
@@ -27,7 +28,7 @@ put-component-requires c κs =
     let j = a .job in
     let e = sym (c .before .before .before .before .load-part .ensures) in (
       omega (arith, c .before .before .before .before .load-part .kept .1 .1 .1 .1 .0, s .pre .0 .first),
-      subst (λ (l : List ℤ). allInRange l ≡ true) e (part-range (j .mode) (j .quant .v) (listIn j (now (a .pixels)) (a .k) (a .c)) (s .pre .2)),
+      subst (λ (l : List ℤ). allInRange l ≡ true) e (part-range (j .mode) (quantFor (j .quants) (a .c) .v) (listIn j (now (a .pixels)) (a .k) (a .c)) (s .pre .2)),
       subst (λ (l : List ℤ). a .at + length (bytesOf (j .mode) l) ≤ length (now (a .out))) e (s .pre .3),
     )
 

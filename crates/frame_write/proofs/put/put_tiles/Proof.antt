@@ -30,7 +30,7 @@ put-tile-requires c κs =
     let t = c .before .before .before .loop-test .taken in (
       still-good (s .pre .0) (l .inv .2) (l .inv .3),
       omega (arith, t, s .pre .1),
-      one-fine (now (a .pixels)) (j .width) (j .height) (j .mode) (j .quant .v) (a .n) (l .i) (s .pre .2) t,
+      one-fine (now (a .pixels)) (j .width) (j .height) (j .mode) (j .quants) (a .n) (l .i) (s .pre .2) t,
       front-fits (tileIn j (now (a .pixels))) (a .n) (l .i) (a .from) _ _ _ t (l .inv .4) (omega (arith, s .pre .3, l .inv .1)),
     )
 

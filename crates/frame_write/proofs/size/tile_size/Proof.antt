@@ -3,7 +3,8 @@
 use mathlib.Core.Path.{refl, _∙_}
 use native.Mathlib.Omega.{arith}
 use denote.Ref.{now}
-use Rattle.frame_write.specs.Encode.{tilePart, tileRefusal}
+use Rattle.frame_write.specs.Encode.{tilePart}
+use Rattle.frame_write.specs.Sets.{tileRefusalOver}
 use Rattle.frame_write.specs.laws.Encode.{part-sized, first-of, second-of, third-of, tile-sized}
 use Rattle.frame_write.specs.laws.FrameWrite.{still-good}
 use borrow.Author.Needs.{needs}
@@ -20,7 +21,7 @@ same-length-2 : tie.Need-same-length-2
 same-length-2 c = search needs
 
 returns : tie.Need-returns
-unfolding tileRefusal
+unfolding tileRefusalOver
 returns c = let r = c .before .before .before .before .part-size in first-of _ _ _ _ 0 0 _ (r .result) (r .ensures) (c .if1 .taken)
 
 part-size-requires-2 : tie.Need-part-size-requires-2
@@ -37,7 +38,7 @@ same-length-4 : tie.Need-same-length-4
 same-length-4 c = search needs
 
 returns-2 : tie.Need-returns-2
-unfolding tileRefusal
+unfolding tileRefusalOver
 returns-2 c =
     let c1 = c .before .before .before .before in
     let c2 = c1 .before .before .before in
@@ -62,7 +63,7 @@ same-length-6 : tie.Need-same-length-6
 same-length-6 c = search needs
 
 returns-3 : tie.Need-returns-3
-unfolding tileRefusal
+unfolding tileRefusalOver
 returns-3 c =
     let c1 = c .before .before .before .before in
     let c2 = c1 .before .before .before in
@@ -129,7 +130,7 @@ returns-4 c =
     let r = c6 .part-size in
     let s = c4 .part-size2 in
     let t = c2 .part-size3 in
-    tile-sized (now (a .pixels)) (j .width) (j .height) (j .mode) (j .quant .v) (a .k) (r .result) (s .result) (t .result)
+    tile-sized (now (a .pixels)) (j .width) (j .height) (j .mode) (j .quants) (a .k) (r .result) (s .result) (t .result)
     (r .ensures) (c5 .if1 .left) (s .ensures) (c3 .if2 .left) (t .ensures) (c1 .if3 .left) _ refl
 
 pub tile-size-spec : {M : Type 1} → statement M

@@ -13,7 +13,7 @@ use Rattle.frame_write.proofs.size.tiles_size.Tie as tie
 abbrev Inv-loop : tie.InvT-loop
 Inv-loop job pixels n list₀ scratch₀ total₀ i₀ list scratch total i =
     (i ≤ n) × (length list ≡ length list₀) × (length scratch ≡ length scratch₀) ×
-    Sizing pixels (job .width) (job .height) (job .mode) (job .quant .v) n i total
+    Sizing pixels (job .width) (job .height) (job .mode) (job .quants) n i total
 
 abbrev μ-loop : tie.MeasureT-loop
 μ-loop job pixels n list₀ scratch₀ total₀ i₀ list scratch total i = n - i
@@ -47,7 +47,7 @@ returns c =
     let j = a .job in
     let l = c3 .loop in
     let t = c1 .tile-size in
-    sizing-stops (now (a .pixels)) (j .width) (j .height) (j .mode) (j .quant .v) (a .n) (l .i) (l .total) (t .result) (c2 .loop-test .taken) (l .inv .3)
+    sizing-stops (now (a .pixels)) (j .width) (j .height) (j .mode) (j .quants) (a .n) (l .i) (l .total) (t .result) (c2 .loop-test .taken) (l .inv .3)
     (t .ensures) (c .if1 .taken)
 
 add-total : tie.Need-add-total Inv-loop μ-loop
@@ -62,7 +62,7 @@ add-total c =
     let l = c4 .loop in
     let t = c2 .tile-size in
     let g = s .pre .0 .picture in
-    let m = sizing-next (now (a .pixels)) (j .width) (j .height) (j .mode) (j .quant .v) (a .n) (l .i) (l .total) (t .result) (c3 .loop-test .taken)
+    let m = sizing-next (now (a .pixels)) (j .width) (j .height) (j .mode) (j .quants) (a .n) (l .i) (l .total) (t .result) (c3 .loop-test .taken)
     (l .inv .3) (t .ensures) (c1 .if1 .left) in
     omega (arith, m .1, c3 .loop-test .taken, few (j .width) (j .height) (g .wider) (g .higher), s .pre .1)
 
@@ -86,7 +86,7 @@ loop-again c =
       omega (arith, c3 .loop-test .taken),
       t .kept .1 .1 .1 .0 ∙ l .inv .1,
       t .kept .1 .1 .1 .1 .0 ∙ l .inv .2,
-      sizing-next (now (a .pixels)) (j .width) (j .height) (j .mode) (j .quant .v) (a .n) (l .i) (l .total) (t .result) (c3 .loop-test .taken) (l .inv .3)
+      sizing-next (now (a .pixels)) (j .width) (j .height) (j .mode) (j .quants) (a .n) (l .i) (l .total) (t .result) (c3 .loop-test .taken) (l .inv .3)
           (t .ensures) (c1 .if1 .left) .0,
     )
 
@@ -101,7 +101,7 @@ returns-2 c =
     let a = c .before .before .before .args in
     let j = a .job in
     let l = c .before .loop in
-    sizing-ends (now (a .pixels)) (j .width) (j .height) (j .mode) (j .quant .v) (a .n) (l .i) (l .total) (omega (arith, c .loop-test .left)) (l .inv .3)
+    sizing-ends (now (a .pixels)) (j .width) (j .height) (j .mode) (j .quants) (a .n) (l .i) (l .total) (omega (arith, c .loop-test .left)) (l .inv .3)
 
 pub tiles-size-spec : {M : Type 1} → statement M
 tiles-size-spec =

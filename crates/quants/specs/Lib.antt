@@ -1,0 +1,2 @@
+pub mod Quants
+pub mod laws

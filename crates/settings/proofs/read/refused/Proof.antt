@@ -1,0 +1,10 @@
+-- `settings::read::refused` meets its contract. Assumes nothing.
+use borrow.Author.Needs.{needs}
+use Rattle.settings.proofs.read.refused.Statement.{statement}
+use Rattle.settings.proofs.read.refused.Tie as tie
+
+returns : tie.Need-returns
+returns c = rw (c .no-settings .ensures)
+
+pub refused-spec : {M : Type 1} → statement M
+refused-spec = tie.close (tie.spec (λ c κs. search needs) returns)

@@ -1,0 +1,5 @@
+pub mod Cases
+pub mod Edge
+pub mod Request
+pub mod Settings
+pub mod laws
