@@ -1,7 +1,7 @@
 -- The demands are met: `demands`, from the theorems of session, headers, code, code_write, frame, frame_write and frame_readback.
 -- Assumes nothing.
 use Prim.Native.Nat.{ℕ, zero, suc, _*_, _≤_}
-use mathlib.Core.Path.{_≡_, refl, ap, subst, subst⁻¹, _∙_}
+use mathlib.Core.Path.{_≡_, refl, ap, subst, subst⁻¹, _∙_, sym}
 use mathlib.Core.Bool.{Bool, true, false}
 use mathlib.Core.List.{List, [], _∷_}
 use mathlib.Core.Logic.{_≢_}
@@ -176,7 +176,7 @@ demand-2 = record {
   frame-sent = λ c. sent-by _ _ _ _ _ (c .promise .wrote);
   headers-sent = λ c. sent-by _ _ _ _ _ (c .promise);
   writer-refuses = λ c b. writer-refuses b (c .promise);
-  writer-done = λ c b e l. writer-done b (c .promise) (sym e) l;
+  writer-done = λ c b e ten l. writer-done b (c .promise) (sym e) ten l;
   work-untouched = λ c e. SendNumbers.work-untouched _ _ _ _ _ _ _ _ _ _ _ _ _ (as-over _ _ _ _ _ _ _ _ _ _ _ _ _ (c .promise)) e;
   work-zeros = λ c o. SendNumbers.work-zeros _ _ _ _ _ _ _ _ _ _ _ _ _ (as-over _ _ _ _ _ _ _ _ _ _ _ _ _ (c .promise)) o;
 }

@@ -154,7 +154,7 @@ pub record Demand2 : Type 0 where
   -- The frame writer never refuses a picture: 9 and 6 do not happen, whatever its bytes; and given good arguments and this much room it is written
   pub writer-refuses : (c : WriteFrame) → ((i : ℕ) → getD (c .pixels) i 0 < 256) → Among (0 ∷ 5 ∷ 7 ∷ 2 ∷ 13 ∷ []) (writingNumber (c .answer))
   pub writer-done : (c : WriteFrame) → ((i : ℕ) → getD (c .pixels) i 0 < 256) →
-      argFault (c .width) (c .height) (c .mode) (c .quant) (length (c .pixels)) (length (c .list)) (length (c .scratch)) ≡ 0 →
+      argFault (c .width) (c .height) (c .mode) (c .quant) (length (c .pixels)) (length (c .list)) (length (c .scratch)) ≡ 0 → length (c .quant) ≡ 10 →
       72 + 194911 * tilesNo (c .width) (c .height) ≤ length (c .out) → writingNumber (c .answer) ≡ 0
   -- "The frame writer's work lists are untouched on 5, 7 and 2 and hold only zeros after every other answer."
   pub work-untouched : (c : WriteFrame) → Among (5 ∷ 7 ∷ 2 ∷ []) (writingNumber (c .answer)) → (c .list′ ≡ c .list) × (c .scratch′ ≡ c .scratch)
