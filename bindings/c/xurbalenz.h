@@ -27,12 +27,15 @@
  *  - No global state, no allocation, no input or output, no locks: calls on different memory may run at the same time. One record, picture
  *    or list belongs to one call at a time.
  *  - A frame is read twice, once to judge it and once to draw it, so a bad last tile costs the time of judging those before it.
+ *    What a call costs at most goes by its bytes and tiles, never by what the bytes say: on x86-64 some 6 instructions for a byte of a header or of
+ *    the collector's; for a frame some 35 for each bit of code (each bit is read twice) and 350,000 for each tile, and twice that for a tile whatever
+ *    the region's rectangles are (up to 256): docs/BENCH.md has the frames made to cost.
  *
  * WHAT THE ARCHIVE NEEDS
  *  - Any x86-64 processor (SSE2 and nothing newer) and the System V calling convention, as on Linux. It is position independent: programs and
  *    shared objects may hold it.
  *  - memcpy and memset, and nothing else, of a C library.
- *  - 1,024 bytes of stack (XURBALENZ_STACK), whatever the input: no function calls itself. Measured were 984 for a frame read and 697 for one
+ *  - 1,536 bytes of stack (XURBALENZ_STACK), whatever the input: no function calls itself. Measured were 1,144 for a frame read and 697 for one
  *    written (bindings/c/stack.c). A dynamic linker that looks them up at their first call takes more of its own then.
  *
  * The numbers, and the rules behind every sentence here, are the project's requirements; docs/PROMISES.md names the theorem for each.
@@ -112,7 +115,7 @@ static inline const char *xurbalenz_says(uint8_t number)
 #define XURBALENZ_MAX_HEIGHT 2048      /* and 1 to 2,048 high */
 #define XURBALENZ_HEADERS_SIZE 47      /* the four header blocks: 12, 10, 12 and 13 bytes */
 #define XURBALENZ_MAX_COMPONENT 65535u /* bytes in a component's code: an output of this size always has room for one */
-#define XURBALENZ_STACK 1024           /* bytes of stack with which every call runs, its arguments counted in */
+#define XURBALENZ_STACK 1536           /* bytes of stack with which every call runs, its arguments counted in */
 
 /* The ten quantisers that servers commonly send, in a set's own order: LL3, LH3, HL3, HH3, LH2, HL2, HH2, LH1, HL1, HH1. Each value is
    6 (finest) to 15 (coarsest). Use: const uint8_t quant[10] = XURBALENZ_DEFAULT_QUANT; */
