@@ -151,12 +151,17 @@ fn cases<'a>(cs: &'a [Component], fs: &'a [Frame]) -> Vec<Case<'a>> {
         let size = Size { width: WIDTH, height: HEIGHT, mode: f.mode };
         let mut s = session(f.mode);
         let picture = || vec![0u16; WIDTH * HEIGHT];
-        let (mut p, mut q, mut r) = (picture(), picture(), picture());
-        let (mut k, mut l, mut n) = (Lists::new(), Lists::new(), Lists::new());
+        let (mut p, mut q, mut r, mut u) = (picture(), picture(), picture(), picture());
+        let (mut k, mut l, mut n, mut v) = (Lists::new(), Lists::new(), Lists::new(), Lists::new());
+        // the same frame with its rectangle of width 0: all but colour and drawing
+        let mut undrawn = f.bytes.clone();
+        undrawn[29..31].fill(0);
+        let mut t = session(f.mode);
         all.push((format!("read frame, {} screen, RLGR{}", f.name, if f.mode == 1 { 1 } else { 3 }), vec![
             ("plain", Box::new(move || { black_box(plain::read_frame(size, &f.bytes, &mut p, &mut k)); })),
             ("rattle", Box::new(move || { black_box(read_frame(&mut s, &f.bytes, &mut q, &mut l)); })),
             ("one-pass", Box::new(move || { black_box(plain::read_frame_shadow(size, &f.bytes, &mut r, &mut n)); })),
+            ("undrawn", Box::new(move || { black_box(read_frame(&mut t, &undrawn, &mut u, &mut v)); })),
         ]));
     }
     for f in fs {

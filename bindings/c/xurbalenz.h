@@ -27,9 +27,10 @@
  *  - No global state, no allocation, no input or output, no locks: calls on different memory may run at the same time. One record, picture
  *    or list belongs to one call at a time.
  *  - A frame is read twice, once to judge it and once to draw it, so a bad last tile costs the time of judging those before it.
- *    What a call costs at most goes by its bytes and tiles, never by what the bytes say: on x86-64 some 6 instructions for a byte of a header or of
- *    the collector's; for a frame some 35 for each bit of code (each bit is read twice) and 350,000 for each tile, and twice that for a tile whatever
- *    the region's rectangles are (up to 256): docs/BENCH.md has the frames made to cost.
+ *    What a call costs goes by its bytes and tiles, and hardly by what the region's rectangles say. On x86-64 a tile of zeros takes some 350,000
+ *    instructions, one of a picture some 760,000, one of noise at the finest quantisers some 2.4 million; with the worst 256 rectangles that we could
+ *    make at most 400,000 more. A frame has at most 2,048 tiles. A header, or a block given to the collector, takes a few hundred and less than one
+ *    for each of its bytes (docs/BENCH.md).
  *
  * WHAT THE ARCHIVE NEEDS
  *  - Any x86-64 processor (SSE2 and nothing newer) and the System V calling convention, as on Linux. It is position independent: programs and
