@@ -1,5 +1,5 @@
 // The arguments of a program: options of one letter, `-x`, each with so many values behind it, and a file. A program names its options by four letters, each
-// with the number of its values; the letter 0 is the file's. What the arguments are is the outside's, of which no contract can speak.
+// with the number of its values (0 where it has fewer); the letter 0 is the file's. What the arguments are is the outside's, of which no contract can speak.
 ghost use Prim.Native.Nat.{_≤_};
 
 // The arguments of one kind: where the last of them stands (of an option its first value), 0 where there is none; how many there are; whether the values of
@@ -43,11 +43,14 @@ fn letter_of(options: [u8; 8], i: usize) -> u8 {
     text[1]
 }
 
-// How many arguments an option takes up, itself among them.
+// How many arguments an option takes up, itself among them; a file is one.
 fn span_of(options: [u8; 8], letter: u8) -> usize
     ensures { λ r. ⌜ (1 ≤ r) × (r ≤ 256) ⌝ }
 {
     if letter == b'-' {
+        return 1;
+    }
+    if letter == 0 {
         return 1;
     }
     1 + values_of(options, letter) as usize
