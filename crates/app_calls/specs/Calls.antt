@@ -6,16 +6,19 @@ use mathlib.Core.List.{List}
 use lib.Dec.{leb}
 use lib.IntN.{ℤ, pos}
 use lib.ListN.{length, take, drop, replicate}
-use Rattle.whole.specs.Row.{_!_⨾_, _⇒_∣_}
+use Rattle.whole.specs.Row.{_!_⨾_, _⇒_∣_, _⨟_}
 use Rattle.wire.specs.Wrote.{lengthSaid, outLeft}
 use Rattle.session.specs.Header.{headerNumber, headerRecord, headerReading}
 use Rattle.session.specs.declared.Session.{Session}
 use Rattle.code.specs.Read.{readInto}
 use Rattle.frame.specs.Frame.{callFault, frameNumber, framePicture}
+use Rattle.frame_write.specs.Encode.{pictureFrame}
+use Rattle.frame_write.specs.FrameWrite.{argFault, sendFault}
 use Rattle.collect.specs.Collect.{state, collectOf}
 use Rattle.collect.specs.declared.Collector.{Collector}
 use Rattle.collect.specs.declared.Collected.{Collected}
 use Rattle.collect.specs.declared.Collected.the-variants.{More, Header, Frame, Refused}
+use Rattle.app_calls.specs.declared.calls.Asked.{Asked}
 use Rattle.app_calls.specs.declared.calls.Heard.{Heard}
 use Rattle.app_calls.specs.declared.calls.Fourfold.{Fourfold}
 
@@ -88,6 +91,27 @@ fits one two three =
 pub record FrameMade (made : Bool) (s : Session) (m : List ℕ) (one two three : ℕ) (pic pic′ : List ℕ) (r : Bool) : Type 0 where
   pub answer : r ≡ made
   pub picture : pic′ ≡ (made ⇒ frameMade s m one two three pic ∣ pic)
+
+-- ---- the frame writer, on an output of A5 and with two lists of these lengths
+
+unfoldable pub pairFits : ℕ → ℕ → Bool
+pairFits one two =
+    leb one 8192 ! false ⨾
+    leb two 8192
+
+-- its first fault, and its bytes
+abbrev pub sentFault : Asked → List ℕ → ℕ → ℕ → ℕ → ℕ
+sentFault a pixels one two room =
+    argFault (a .width) (a .height) (a .mode) (a .q .v) (length pixels) one two ⨟
+    sendFault (a .index) (a .width) (a .height) (a .mode) (a .q .v) pixels room
+
+abbrev pub sentBytes : Asked → List ℕ → List ℕ
+sentBytes a pixels = pictureFrame (a .index) (a .width) (a .height) (a .mode) (a .q .v) pixels
+
+-- the bytes that it says it wrote, and the output after it; where the call is not made, a count beyond any output, and nothing changes
+pub record FrameSent (made : Bool) (fault : ℕ) (bytes out out′ : List ℕ) (n : ℕ) : Type 0 where
+  pub long : n ≡ (made ⇒ lengthSaid fault bytes ∣ 18446744073709551615)
+  pub left : out′ ≡ (made ⇒ outLeft fault bytes (blank out) ∣ out)
 
 -- ---- a hand-over to the collector
 

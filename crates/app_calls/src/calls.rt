@@ -8,7 +8,7 @@ ghost use Rattle.whole.specs.Row.{_!_⨾_};
 ghost use lib.ListN.{length};
 ghost use Rattle.code_write.specs.Write.{bytesOf, writeFault};
 ghost use Rattle.headers.specs.Headers.{headersOf, headersFault};
-ghost use Rattle.app_calls.specs.Calls.{componentLeft, WriterSaid, headerLeft, heard, fourBack, fits, FrameMade};
+ghost use Rattle.app_calls.specs.Calls.{componentLeft, WriterSaid, headerLeft, heard, fourBack, fits, FrameMade, pairFits, sentFault, sentBytes, FrameSent};
 use bands::Quant;
 use session::Session;
 
@@ -256,13 +256,16 @@ pub struct Asked {
     pub q: Quant,
 }
 
-// The frame writer, with its second list, a part of one of 8,192; a count of bytes beyond any output where more is asked for.
-fn writer_with_one(a: Asked, pixels: &[u8], list: &mut [i32], two: usize, out: &mut [u8]) -> usize {
+// The frame writer on an output of A5, with its second list, a part of one of 8,192; a count of bytes beyond any output, and nothing filled, where more is asked for.
+fn writer_with_one(a: Asked, pixels: &[u8], list: &mut [i32], two: usize, out: &mut [u8]) -> usize
+    ensures { λ r. ⌜ FrameSent (leb two 8192) (sentFault a (now (pixels .entry)) (length (now (list .entry))) two (length (now (out .entry)))) (sentBytes a (now (pixels .entry))) (now (out .entry)) (now (out .exit)) r ⌝ }
+{
     let mut space = [7i32; 8192];
     let scratch: &mut [i32] = &mut space;
     if scratch.len() < two {
         return usize::MAX;
     }
+    app_recording::lent::fill_bytes(out, 0xA5);
     let q = a.q;
     let w = panel::write_frame(
         a.width,
@@ -288,13 +291,12 @@ fn writer_with_one(a: Asked, pixels: &[u8], list: &mut [i32], two: usize, out: &
 
 // One call of the frame writer, on lists of these lengths; the bytes that it wrote.
 pub fn frame_writer_call(a: Asked, pixels: &[u8], one: usize, two: usize, out: &mut [u8]) -> usize
-    ensures { λ _. ⌜ Unit ⌝ }
+    ensures { λ r. ⌜ FrameSent (pairFits one two) (sentFault a (now (pixels .entry)) one two (length (now (out .entry)))) (sentBytes a (now (pixels .entry))) (now (out .entry)) (now (out .exit)) r ⌝ }
 {
     let mut space = [7i32; 8192];
     let list: &mut [i32] = &mut space;
     if list.len() < one {
         return usize::MAX;
     }
-    app_recording::lent::fill_bytes(out, 0xA5);
     writer_with_one(a, pixels, &mut list[0..one], two, out)
 }

@@ -30,17 +30,11 @@ allInRange (z ∷ zs) = leb (natAbs z) 32767 ! false ⨾ allInRange zs
 
 -- of a component by itself: "9 (as the reader would judge) then 6", which is given over "65,535 bytes in a component"
 unfoldable pub codeFault : ℕ → List ℤ → ℕ
-codeFault mode zs =
-    allInRange zs ! 9 ⨾
-    leb (length (bytesOf mode zs)) 65535 ! 6 ⨾
-    0
+codeFault mode zs = allInRange zs ! 9 ⨾ leb (length (bytesOf mode zs)) 65535 ! 6 ⨾ 0
 
 -- "Component calls first refuse a mode that is neither of the two (5)." Then 2: the "component list is not 4,096 numbers"
 unfoldable pub askFault : ℕ → ℕ → ℕ
-askFault mode n =
-    isMode mode ! 5 ⨾
-    eqb n 4096 ! 2 ⨾
-    0
+askFault mode n = isMode mode ! 5 ⨾ eqb n 4096 ! 2 ⨾ 0
 
 -- 13: "the lent output is shorter than what is to be written"
 unfoldable pub writeFault : ℕ → List ℤ → ℕ → ℕ

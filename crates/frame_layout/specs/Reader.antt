@@ -37,10 +37,7 @@ leastHead kind least m at =
 
 -- "Blocks marked * go on with codecId 1 and channelId: .. 0"
 unfoldable pub codecJudge : ℕ → ℕ → ℕ
-codecJudge codec channel =
-    eqb codec 1 ! 5 ⨾
-    eqb channel 0 ! 5 ⨾
-    0
+codecJudge codec channel = eqb codec 1 ! 5 ⨾ eqb channel 0 ! 5 ⨾ 0
 
 unfoldable pub codecFault : List ℕ → ℕ → ℕ
 codecFault m at = codecJudge (getD m (at + 6) 0) (getD m (at + 7) 0)
@@ -62,10 +59,7 @@ regionJudge flags n size =
 
 -- "A region's type and tilesets fields come last of it (5)"
 unfoldable pub lastJudge : ℕ → ℕ → ℕ
-lastJudge type sets =
-    eqb type 0xCAC1 ! 5 ⨾
-    eqb sets 1 ! 5 ⨾
-    0
+lastJudge type sets = eqb type 0xCAC1 ! 5 ⨾ eqb sets 1 ! 5 ⨾ 0
 
 -- n, the number of rectangles; they stand from place 11 of the block on, 8 bytes each
 unfoldable pub rectCount : List ℕ → ℕ → ℕ
@@ -100,11 +94,7 @@ setJudge et size subtype idx props q side n bytes =
 
 -- a byte of two quantisers: each 6 to 15 (7)
 unfoldable pub halvesFault : ℕ → ℕ
-halvesFault b =
-    leb 6 (b % 16) ! 7 ⨾
-    leb 6 (b / 16) ! 7 ⨾
-    leb (b / 16) 15 ! 7 ⨾
-    0
+halvesFault b = leb 6 (b % 16) ! 7 ⨾ leb 6 (b / 16) ! 7 ⨾ leb (b / 16) 15 ! 7 ⨾ 0
 
 -- k bytes of quantisers
 unfoldable pub quantsFault : List ℕ → ℕ → ℕ → ℕ

@@ -1,6 +1,6 @@
 -- Laws of the calls that are made for a recording, in the forms that the code has.
 use Prim.Native.Nat.{ℕ, _≤_, _<_}
-use mathlib.Core.Path.{_≡_, refl, ap, sym, _∙_}
+use mathlib.Core.Path.{_≡_, refl, ap, sym, subst, _∙_}
 use mathlib.Core.Bool.{Bool, true, false}
 use mathlib.Core.List.{List}
 use lib.Dec.{leb}
@@ -19,6 +19,7 @@ use Rattle.code.specs.declared.read.Reading.{Reading}
 use Rattle.code.specs.Read.{readInto, ComponentRead}
 use Rattle.code_write.specs.Write.{ComponentWritten, bytesOf, writeFault}
 use Rattle.frame.specs.Frame.{callFault, frameNumber, framePicture}
+use Rattle.frame_write.specs.FrameWrite.{FrameWritten}
 use Rattle.collect.specs.Collect.{HandOver, state, said, collectOf}
 use Rattle.collect.specs.declared.Collector.{Collector}
 use Rattle.collect.specs.declared.Took.{Took}
@@ -28,6 +29,8 @@ use Rattle.caps.specs.Ack.{ackOf, ackFault}
 use Rattle.caps.specs.declared.Caps.{Caps}
 use Rattle.caps.specs.declared.Ack.{Ack}
 use Rattle.app_calls.specs.Calls.{componentLeft, WriterMade, WriterSaid, headerLeft, heard, between, fourBack, frameMade, fits, FrameMade, Taken}
+use Rattle.app_calls.specs.Calls.{pairFits, sentFault, sentBytes, FrameSent}
+use Rattle.app_calls.specs.declared.calls.Asked.{Asked}
 use Rattle.app_calls.specs.declared.calls.Heard.{Heard}
 use Rattle.app_calls.specs.declared.calls.Fourfold.{Fourfold}
 
@@ -152,6 +155,40 @@ module _ (s : Session) (m : List ℕ) (pic : List ℕ) where
         picture = p .picture ∙ (ap (λ (x : ℕ). inner ⇒ frameMade s m x two three pic ∣ pic) e
             ∙ ap (λ (b : Bool). b ⇒ frameMade s m one two three pic ∣ pic) t);
       }
+
+-- ---- the frame writer
+
+module _ (bytes out : List ℕ) where
+  not-sent : (made : Bool) (fault : ℕ) → made ≡ false → FrameSent made fault bytes out out 18446744073709551615
+  not-sent made fault e = record { long = case-no _ _ _ _ e refl; left = case-no _ _ _ _ e refl }
+
+  pub pair-not : (fault two : ℕ) → 8192 < two → FrameSent (leb two 8192) fault bytes out out 18446744073709551615
+  pair-not fault two h = not-sent _ fault (lt-leb two 8192 h)
+
+  pub list-not : (fault one two : ℕ) → 8192 < one → FrameSent (pairFits one two) fault bytes out out 18446744073709551615
+  unfolding pairFits
+  list-not fault one two h = not-sent _ fault (sym (fails _ _ _ _ (lt-leb one 8192 h) refl))
+
+  pub pair-sent :
+      (fault one two n : ℕ) (out′ : List ℕ) → one ≤ 8192 → FrameSent (leb two 8192) fault bytes out out′ n → FrameSent (pairFits one two) fault bytes out out′ n
+  unfolding pairFits
+  pair-sent fault one two n out′ h p = subst (λ (b : Bool). FrameSent b fault bytes out out′ n) (passes _ _ _ _ (le-leb one 8192 h) refl) p
+
+-- x is the output as it was filled, k how long the second list is
+pub frame-sent :
+    (a : Asked) (pixels : List ℕ) (list list′ scratch scratch′ : List ℤ) (out x out′ : List ℕ) (two n : ℕ) (w : Writing) →
+    two ≤ 8192 → length scratch ≡ two → x ≡ replicate (length out) 0xA5 →
+    FrameWritten (a .width) (a .height) (a .mode) (a .q .v) (a .index) pixels list list′ scratch scratch′ x out′ w → n ≡ writingLength w →
+    FrameSent (leb two 8192) (sentFault a pixels (length list) two (length out)) (sentBytes a pixels) out out′ n
+frame-sent a pixels list list′ scratch scratch′ out x out′ two n w h k f p e =
+    let q = wrote (sentFault a pixels (length list) (length scratch)) (sentBytes a pixels) out x out′ w f (p .wrote) n e in
+    let t : leb two 8192 ≡ true = le-leb two 8192 h in
+    let u : sentFault a pixels (length list) (length scratch) (length out) ≡ sentFault a pixels (length list) two (length out)
+    = ap (λ (j : ℕ). sentFault a pixels (length list) j (length out)) k in
+    record {
+      long = case-yes _ _ _ _ t (q .long ∙ ap (λ (f : ℕ). lengthSaid f (sentBytes a pixels)) u);
+      left = case-yes _ _ _ _ t (q .left ∙ ap (λ (f : ℕ). outLeft f (sentBytes a pixels) (replicate (length out) 0xA5)) u);
+    }
 
 -- ---- a hand-over to the collector
 
