@@ -169,12 +169,7 @@ module _ (bytes out : List ℕ) where
   unfolding pairFits
   list-not fault one two h = not-sent _ fault (sym (fails _ _ _ _ (lt-leb one 8192 h) refl))
 
-  pub pair-sent :
-      (fault one two n : ℕ) (out′ : List ℕ) → one ≤ 8192 → FrameSent (leb two 8192) fault bytes out out′ n → FrameSent (pairFits one two) fault bytes out out′ n
-  unfolding pairFits
-  pair-sent fault one two n out′ h p = subst (λ (b : Bool). FrameSent b fault bytes out out′ n) (passes _ _ _ _ (le-leb one 8192 h) refl) p
-
--- x is the output as it was filled, k how long the second list is
+-- x is the output as it was filled
 pub frame-sent :
     (a : Asked) (pixels : List ℕ) (list list′ scratch scratch′ : List ℤ) (out x out′ : List ℕ) (two n : ℕ) (w : Writing) →
     two ≤ 8192 → length scratch ≡ two → x ≡ replicate (length out) 0xA5 →
@@ -189,6 +184,17 @@ frame-sent a pixels list list′ scratch scratch′ out x out′ two n w h k f p
       long = case-yes _ _ _ _ t (q .long ∙ ap (λ (f : ℕ). lengthSaid f (sentBytes a pixels)) u);
       left = case-yes _ _ _ _ t (q .left ∙ ap (λ (f : ℕ). outLeft f (sentBytes a pixels) (replicate (length out) 0xA5)) u);
     }
+
+-- with the first list, which is k long
+pub list-sent :
+    (a : Asked) (pixels out out′ : List ℕ) (k one two n : ℕ) → one ≤ 8192 → k ≡ one →
+    FrameSent (leb two 8192) (sentFault a pixels k two (length out)) (sentBytes a pixels) out out′ n →
+    FrameSent (pairFits one two) (sentFault a pixels one two (length out)) (sentBytes a pixels) out out′ n
+unfolding pairFits
+list-sent a pixels out out′ k one two n h e p =
+    let t : leb two 8192 ≡ (leb one 8192 ! false ⨾ leb two 8192) = passes _ _ _ _ (le-leb one 8192 h) refl in
+    subst (λ (b : Bool). FrameSent b (sentFault a pixels one two (length out)) (sentBytes a pixels) out out′ n) t
+    (subst (λ (j : ℕ). FrameSent (leb two 8192) (sentFault a pixels j two (length out)) (sentBytes a pixels) out out′ n) e p)
 
 -- ---- a hand-over to the collector
 
