@@ -13,7 +13,7 @@ use Rattle.wire.specs.Le.{le16, le32}
 use Rattle.whole.specs.Row.{_⇒_∣_}
 use Rattle.whole.specs.laws.Row.{passes, fails, case-no, stops}
 use Rattle.session.specs.declared.Session.{Session}
-use Rattle.session.specs.Header.{Right, made, ready, due, headJudge, headerFault, recordAfter, headerRecord, headerReading}
+use Rattle.session.specs.Header.{Right, made, ready, due, headJudge, headerFault, keptGlass, recordAfter, headerRecord, headerReading}
 use Rattle.session.specs.laws.Header.{right-at, made-good, ready-good}
 
 -- ---- after every call
@@ -26,7 +26,7 @@ either false x y p q = q
 -- whatever the record was before, a taken header leaves one that is right
 pub right-record : (s : Session) (m : List ℕ) → Right (recordAfter s m)
 unfolding recordAfter
-right-record s m = either _ _ _ (right-at 1 0 0 0) (either _ _ _ (right-at 2 _ _ _) (either _ _ _ (right-at 3 _ _ _) (right-at 4 _ _ _)))
+right-record s m = either _ _ _ (right-at _ 1 0 0 0) (either _ _ _ (right-at _ 2 _ _ _) (either _ _ _ (right-at _ 3 _ _ _) (right-at _ 4 _ _ _)))
 
 by-fault : (s : Session) (m : List ℕ) (b : Bool) → eqb (headerFault s m) 0 ≡ b → Right s → Right (headerRecord (headerReading s m) s)
 unfolding headerReading headerRecord _⇒_∣_
@@ -62,7 +62,7 @@ wrong-header s m w some least most =
     (fails _ _ _ _ (wrong-due s t w (λ e. omega (arith, e, least))) refl)) in
     sym (passes _ _ _ _ (le-leb 6 (length m) some) (stops _ _ _ (λ z. omega (arith, judged, z)) judged))
 
--- a sync is answered the same, whatever the record
-pub sync-any : (s t : Session) (m : List ℕ) → le16 m 0 ≡ 0xCCC0 → headerReading s m ≡ headerReading t m
+-- a sync is answered the same, whatever the record, but for the glass, which is kept: of records whose glass is the same after it, the same
+pub sync-any : (s t : Session) (m : List ℕ) → keptGlass (s .glass) ≡ keptGlass (t .glass) → le16 m 0 ≡ 0xCCC0 → headerReading s m ≡ headerReading t m
 unfolding headerReading headerFault headJudge due recordAfter _⇒_∣_
-sync-any s t m e = rw e
+sync-any s t m k e = rw (e, k)
