@@ -9,7 +9,7 @@ use native.Mathlib.Omega.{arith}
 use native.Mathlib.Nat.{mul-comm, mul-le-mul-right}
 use lib.ListN.{length}
 use lib.Dec.{leb, eqb}
-use borrow.Author.Tests.{leb-true, le-leb, eqb-true, eqb-false, le-ltb, eq-eqb, ne-eqb}
+use borrow.Author.Tests.{leb-true, le-leb, lt-leb, eqb-true, eqb-false, le-ltb, eq-eqb, ne-eqb}
 use Rattle.whole.specs.Row.{_!_⨾_, _⇒_∣_}
 use Rattle.wire.specs.Le.{le16, le32}
 use Rattle.wire.specs.Mode.{isMode}
@@ -155,6 +155,10 @@ made-good s e =
 pub kept-glass : (g : ℕ) → g ≤ 1 → keptGlass g ≡ g
 unfolding keptGlass _⇒_∣_
 kept-glass g l = rw (le-leb g 1 l)
+
+pub other-glass : (g : ℕ) → 1 < g → keptGlass g ≡ 0
+unfolding keptGlass _⇒_∣_
+other-glass g l = rw (lt-leb g 1 l)
 
 kept-by : (g : ℕ) (b : Bool) → leb g 1 ≡ b → keptGlass g ≤ 1
 unfolding keptGlass _⇒_∣_
