@@ -110,8 +110,9 @@ static XurbalenzSession bent(XurbalenzSession s, size_t at, int by)
     return s;
 }
 
-/* A record in which columns, rows, words or the glass is off by one is 12 in both calls, and takes a good sync; what stands behind the glass is
-   not judged. The session is ready; out gets our headers, and our frame behind them. */
+/* A record in which columns, rows or words is off by one, or the glass is neither 0 nor 1, is 12 in both calls, and takes a good sync; a glass of 1 is
+   kept, and refuses a picture of 16-bit words; what stands behind the glass is not judged. The session is ready; out gets our headers, and our frame
+   behind them. */
 static void records(uint8_t mode)
 {
     static const uint8_t quant[10] = XURBALENZ_DEFAULT_QUANT;
@@ -130,16 +131,22 @@ static void records(uint8_t mode)
     CHECK(xurbalenz_read_header(&three, out + 34, 13) == XURBALENZ_DONE && three.headers == 4 && three.words == 2800);
     for (i = 0; i < 4; i++) {
         for (by = -1; by <= 1; by += 2) {
-            s = bent(four, places[i], by);
+            int off = i == 3 && by == 1 ? 2 : by;
+            s = bent(four, places[i], off);
             CHECK(xurbalenz_read_frame(&s, frame, size, picture, 70 * 40, y, XURBALENZ_LIST, cb, XURBALENZ_LIST, cr, XURBALENZ_LIST, scratch,
                                        XURBALENZ_LIST, &tiles) == XURBALENZ_ORDER &&
                   tiles == 0);
-            three = bent(xurbalenz_session_of(3, 70, 40, 0), places[i], by);
+            three = bent(xurbalenz_session_of(3, 70, 40, 0), places[i], off);
             CHECK(xurbalenz_read_header(&three, out + 34, 13) == XURBALENZ_ORDER && three.headers == 3);
             CHECK(xurbalenz_read_header(&s, out, 12) == XURBALENZ_DONE);
             CHECK(s.headers == 1 && s.mode == 0 && s.width == 0 && s.height == 0 && s.columns == 0 && s.rows == 0 && s.words == 0 && s.glass == 0);
         }
     }
+    s = bent(four, places[3], 1);
+    CHECK(xurbalenz_read_frame(&s, frame, size, picture, 70 * 40, y, XURBALENZ_LIST, cb, XURBALENZ_LIST, cr, XURBALENZ_LIST, scratch,
+                               XURBALENZ_LIST, &tiles) == XURBALENZ_BUFFER &&
+          tiles == 0);
+    CHECK(xurbalenz_read_header(&s, out, 12) == XURBALENZ_DONE && s.headers == 1 && s.glass == 1);
     memset((uint8_t *)&four + 13, 0xFF, 3);
     CHECK(xurbalenz_read_frame(&four, frame, size, picture, 70 * 40, y, XURBALENZ_LIST, cb, XURBALENZ_LIST, cr, XURBALENZ_LIST, scratch,
                                XURBALENZ_LIST, &tiles) == XURBALENZ_DONE &&

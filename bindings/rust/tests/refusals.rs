@@ -96,9 +96,9 @@ fn record_refusals() {
     assert_eq!((three.columns(), three.rows(), three.words()), (2, 2, 7000));
     assert_eq!(header(three, &context(1)), (0, READY));
     let before = [(Session::of_numbers(1, 0, 0, 0), versions()), (two, channels(100, 70)), (three, context(1))];
-    // columns, rows, words and the glass, each one more and one less than it should be: no calls could have made such a record
-    for at in [6, 7, 8, 12] {
-        for by in [1, 255] {
+    // columns, rows and words, each one more and one less than it should be, and a glass that is neither: no calls could have made such a record
+    for (at, more) in [(6, 1), (7, 1), (8, 1), (12, 2)] {
+        for by in [more, 255] {
             assert_eq!(frame(bent(READY, at, by), &good, &words(7000)).number, 12);
             for (session, block) in &before {
                 assert_eq!(header(*session, block).0, 0);
@@ -108,6 +108,12 @@ fn record_refusals() {
             assert_eq!(header(bent(READY, at, by), &sync()), (0, Session::of_numbers(1, 0, 0, 0)));
         }
     }
+    // the glass of 32 bits: headers are taken and a sync keeps it, and words of 16 bits are refused
+    let (wide, started) = (bent(READY, 12, 1), bent(Session::of_numbers(1, 0, 0, 0), 12, 1));
+    assert_eq!(header(bent(three, 12, 1), &context(1)), (0, wide));
+    assert_eq!(header(wide, &sync()), (0, started));
+    assert_eq!(frame(wide, &good, &words(7000)).number, 2);
+    assert_eq!(frame_with(wide, &[], &words(7000), [LIST; 4]).number, 2);
     // what stands behind the glass is not judged
     let mut s = READY;
     // SAFETY: these three bytes are the record's own, and no number's.
