@@ -1,5 +1,5 @@
 # shellcheck shell=sh disable=SC2034,SC2086  # what is set here is read by those who source this file; words are to be split
-# How x86-64 programs are made and run on this machine, for bindings/test and bench/. Sets
+# How x86-64 programs are made and run on this machine, for bindings/test, bench/ and peer/. Sets
 #   cc           a C compiler for x86-64
 #   run          what stands in front of a program: nothing, or an emulator and its words
 #   rust_target  words for rustc and cargo: none, or the target
