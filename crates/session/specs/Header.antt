@@ -79,39 +79,24 @@ made s =
 
 -- all four headers are in: "a frame before all four headers" is 12, and so is a record that no calls could have made
 unfoldable pub ready : Session → Bool
-ready s =
-    eqb (s .headers) 4 ! false ⨾
-    made s
+ready s = eqb (s .headers) 4 ! false ⨾ made s
 
 -- "Headers come in table order; a good sync is always due": a sync by its type alone, any other if it is the next of a record that calls could have made
 unfoldable pub due : Session → ℕ → Bool
-due s t =
-    eqb t 0xCCC0 ⇒ true ∣
-    made s ! false ⨾
-    eqb t (0xCCC0 + s .headers)
+due s t = eqb t 0xCCC0 ⇒ true ∣ made s ! false ⨾ eqb t (0xCCC0 + s .headers)
 
 -- ---- "Blocks": the bytes of a type, and the fields of each block as numbers, in wire order (5)
 
 unfoldable pub sizeOf : ℕ → ℕ
-sizeOf t =
-    eqb t 0xCCC1 ⇒ 10 ∣
-    eqb t 0xCCC3 ⇒ 13 ∣
-    12
+sizeOf t = eqb t 0xCCC1 ⇒ 10 ∣ eqb t 0xCCC3 ⇒ 13 ∣ 12
 
 -- "magic CACCACCA, version 0100"
 unfoldable pub syncJudge : ℕ → ℕ → ℕ
-syncJudge magic version =
-    eqb magic 0xCACCACCA ! 5 ⨾
-    eqb version 0x0100 ! 5 ⨾
-    0
+syncJudge magic version = eqb magic 0xCACCACCA ! 5 ⨾ eqb version 0x0100 ! 5 ⨾ 0
 
 -- "count 1, codec 1, version 0100"
 unfoldable pub versionsJudge : ℕ → ℕ → ℕ → ℕ
-versionsJudge count codec version =
-    eqb count 1 ! 5 ⨾
-    eqb codec 1 ! 5 ⨾
-    eqb version 0x0100 ! 5 ⨾
-    0
+versionsJudge count codec version = eqb count 1 ! 5 ⨾ eqb codec 1 ! 5 ⨾ eqb version 0x0100 ! 5 ⨾ 0
 
 -- "count 1, id 0, width 1 to 4,096, height 1 to 2,048"
 unfoldable pub channelsJudge : ℕ → ℕ → ℕ → ℕ → ℕ
