@@ -99,9 +99,9 @@ fn is_record(s: Session, headers: u8, width: u16, height: u16, mode: u8) -> bool
     s.headers == headers && s.width == width && s.height == height && s.mode == mode
 }
 
-// Columns, rows and words of a record (document 02, request Six), and the glass, 0.
-fn is_sized(s: Session, columns: u8, rows: u8, words: u32) -> bool {
-    s.columns == columns && s.rows == rows && s.words == words && s.glass == 0
+// Columns, rows and words of a record (document 02, request Six), and the glass (request Thirteen).
+fn is_sized(s: Session, columns: u8, rows: u8, words: u32, glass: u8) -> bool {
+    s.columns == columns && s.rows == rows && s.words == words && s.glass == glass
 }
 
 // "Headers for 64 x 64, RLGR3", and the four blocks read back.
@@ -169,7 +169,7 @@ fn headers() {
     told(b"headers read back", is_record(f.session, 4, 64, 64, 4));
     told(
         b"one column, one row, 4,096 words",
-        is_sized(f.session, 1, 1, 4096),
+        is_sized(f.session, 1, 1, 4096, 0),
     );
 }
 
@@ -193,7 +193,7 @@ fn widths() {
     told(b"width 4,097 refused: field", width_read(1, 16) == 5);
 }
 
-// ---- the record (document 02, request Six)
+// ---- the record (document 02, requests Six and Thirteen)
 
 // 70 x 40 with three headers in, or four, and columns, rows, words and glass as they are given.
 fn record_of(headers: u8, mode: u8, columns: u8, rows: u8, words: u32, glass: u8) -> Session {
@@ -228,13 +228,13 @@ fn refused(columns: u8, rows: u8, words: u32, glass: u8) -> bool {
     context_read(columns, rows, words, glass) == 12 && frame_read(columns, rows, words, glass) == 12
 }
 
-// A good sync starts any record over.
-fn sync_read(columns: u8, rows: u8, words: u32, glass: u8) -> bool {
+// A good sync starts any record over, on the glass that is kept.
+fn sync_read(columns: u8, rows: u8, words: u32, glass: u8, kept: u8) -> bool {
     let before = record_of(4, 4, columns, rows, words, glass);
     let block: [u8; 12] = [0xC0, 0xCC, 12, 0, 0, 0, 0xCA, 0xAC, 0xCC, 0xCA, 0, 1];
     let h = panel::read_header(before, &block);
     let s = session::header_record(h, before);
-    session::header_number(h) == 0 && is_record(s, 1, 0, 0, 0) && is_sized(s, 0, 0, 0)
+    session::header_number(h) == 0 && is_record(s, 1, 0, 0, 0) && is_sized(s, 0, 0, 0, kept)
 }
 
 fn records() {
@@ -259,15 +259,34 @@ fn records() {
         refused(2, 1, 2799, 0) && refused(2, 1, 2801, 0),
     );
     told(
-        b"another glass: order",
-        refused(2, 1, 2800, 1) && refused(2, 1, 2800, 255),
+        b"a good sync is taken by each",
+        sync_read(1, 1, 2800, 0, 0) && sync_read(2, 0, 2800, 0, 0) && sync_read(2, 1, 2801, 0, 0),
+    );
+}
+
+fn glasses() {
+    told(
+        b"opened for each glass",
+        is_sized(session::open(0), 0, 0, 0, 0) && is_sized(session::open(1), 0, 0, 0, 1),
     );
     told(
-        b"a good sync is taken by each",
-        sync_read(1, 1, 2800, 0)
-            && sync_read(2, 0, 2800, 0)
-            && sync_read(2, 1, 2801, 0)
-            && sync_read(2, 1, 2800, 1),
+        b"glass of 32 bits: context taken",
+        context_read(2, 1, 2800, 1) == 0,
+    );
+    told(
+        b"its frame call with words of 16 bits: buffer",
+        frame_read(2, 1, 2800, 1) == 2,
+    );
+    told(
+        b"another glass: order",
+        refused(2, 1, 2800, 2) && refused(2, 1, 2800, 255),
+    );
+    told(
+        b"a good sync keeps both, and makes another 16 bits",
+        sync_read(2, 1, 2800, 0, 0)
+            && sync_read(2, 1, 2800, 1, 1)
+            && sync_read(2, 1, 2800, 2, 0)
+            && sync_read(1, 1, 2800, 255, 0),
     );
 }
 
@@ -450,6 +469,7 @@ fn main() {
     widths();
     app_text::lines::say(OUT, b"records\n");
     records();
+    glasses();
     app_text::lines::say(OUT, b"frames\n");
     quants();
     frames();

@@ -30,9 +30,9 @@ pub record State : Type 0 where
 abbrev pub state : Session → List ℕ → State
 state s pic = record { session = s; picture = pic }
 
--- "a fresh session": 01's record of zeros, over any picture
-abbrev pub fresh : List ℕ → State
-fresh pic = state (recordOf 0 0 0 0) pic
+-- "a fresh session": 01's record of zeros, on the glass that it was opened for (0 or 1, by request Thirteen), over any picture
+abbrev pub fresh : ℕ → List ℕ → State
+fresh glass pic = state (recordOf glass 0 0 0 0) pic
 
 -- a call: what it was given, what it answered and what it left are its fields, and its promise holds of them
 pub data Call : Type 0 where

@@ -1,5 +1,5 @@
 -- THE WHOLE DAY AT ONCE, on one page: document 02, request Fourteen, sentence by sentence, over the calls (specs/Day). `days` (specs/laws/Days) proves it.
--- "Take any list of header and frame calls from a fresh session": s is the first record and picture, `fresh` over any picture, and t the last. Nothing else
+-- "Take any list of header and frame calls from a fresh session": s is the first record and picture, `fresh` on either glass over any picture, and t the last. Nothing else
 -- is asked of the calls: a frame before the headers, a picture too short and a wrong work list are answers like others. All of it holds from any record s.
 -- (01 is this project's scope document, 02 its change requests, 001 is MS-RDPRFX: README, "What 01 is".)
 use Prim.Native.Nat.{ℕ}
@@ -7,7 +7,7 @@ use mathlib.Core.Path.{_≡_}
 use mathlib.Core.List.{List, [], map}
 use lib.ListN.{length, getD}
 use Rattle.wire.specs.Le.{le16}
-use Rattle.session.specs.Header.{recordOf}
+use Rattle.session.specs.Header.{recordOf, keptGlass}
 use Rattle.collect.specs.declared.Collected.the-variants.{Refused}
 use Rattle.collect.specs.Collect.{Part, collectOf, partsOf}
 use Rattle.collect.specs.Collect as Collect
@@ -44,13 +44,13 @@ pub record Days : Type 0 where
       → Day s es u
       → map asked es ≡ map asked ds
       → (map answered es ≡ map answered ds) × (u ≡ t)
-  -- "A sync in the middle is one of the calls": wherever it stands, a taken one starts the session over and leaves the picture
+  -- "A sync in the middle is one of the calls": wherever it stands, a taken one starts the session over on its glass and leaves the picture
   pub sync :
       {s t : State} (c : ReadHeader)
       → Step s (header c) t
       → le16 (c .message) 0 ≡ 0xCCC0
       → number (header c) ≡ 0
-      → (t .session ≡ recordOf 1 0 0 0) × (t .picture ≡ s .picture)
+      → (t .session ≡ recordOf (keptGlass (s .session .glass)) 1 0 0 0) × (t .picture ≡ s .picture)
   -- what is asked makes the day, and whatever is asked there is a day
   pub once : {s t u : State} {cs ds : List Call} → Day s cs t → Day s ds u → map asked cs ≡ map asked ds → (map answered cs ≡ map answered ds) × (t ≡ u)
   pub can-be-made : (s : State) (ls : List Asked) → Made s ls

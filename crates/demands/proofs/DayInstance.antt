@@ -12,7 +12,7 @@ use Rattle.wire.specs.Le.{bytes16, bytes32}
 use Rattle.wire.specs.laws.Wrote.{wrote-bytes}
 use Rattle.session.specs.declared.Session.{Session}
 use Rattle.session.specs.declared.HeaderReading.the-variants.{Taken}
-use Rattle.session.specs.Header.{recordOf, ready}
+use Rattle.session.specs.Header.{recordOf, keptGlass, ready}
 use Rattle.headers.specs.Headers.{syncOf, versionsOf, channelsOf, contextOf, headersOf}
 use Rattle.headers.specs.laws.ReadBack.{AllTaken, our-headers}
 use Rattle.frame.specs.Frame.{frameReadingNumber}
@@ -40,12 +40,12 @@ pub record DayMet (mode : ℕ) : Type 0 where
   pub eight : ReadHeader
   pub after : ReadFrame
   pub day :
-      Day (fresh first)
+      Day (fresh 0 first)
       (header one ∷ header two ∷ header three ∷ header four ∷ frame before
       ∷ header sync ∷ frame early ∷ header six ∷ header seven ∷ header eight ∷ frame after ∷ []) last
   pub before-accepted : frameReadingNumber (before .answer) ≡ 0
   pub sync-is : sync .message ≡ syncOf
-  pub sync-taken : sync .answer ≡ Taken (recordOf 1 0 0 0)
+  pub sync-taken : sync .answer ≡ Taken (recordOf 0 1 0 0 0)
   pub early-refused : frameReadingNumber (early .answer) ≡ 12
   pub after-accepted : frameReadingNumber (after .answer) ≡ 0
   pub before-mode : before .session .mode ≡ mode
@@ -58,9 +58,9 @@ first-block : (w h et : ℕ) → take 12 (headersOf w h et) ≡ syncOf
 unfolding headersOf syncOf versionsOf channelsOf contextOf bytes16 bytes32
 first-block w h et = refl
 
-unready : (x : Session) → x ≡ recordOf 1 0 0 0 → ready x ≡ false
+unready : (g : ℕ) (x : Session) → x ≡ recordOf g 1 0 0 0 → ready x ≡ false
 unfolding ready _!_⨾_
-unready x e = rw e
+unready g x e = rw e
 
 module _ (mode : ℕ) (m : Met mode) where
   abbrev sent : List ℕ
@@ -88,13 +88,14 @@ module _ (mode : ℕ) (m : Met mode) where
   abbrev f1 : Session → List ℕ → ReadFrame
   f1 s pic = drawing (sessionAfter (h4 s)) pic
 
-  ours : (s : Session) (pic : List ℕ) → length pic ≡ length (m .glass .picture) → OurCalls (m .headers) (h1 s) (h2 s) (h3 s) (h4 s) (m .frame) (f1 s pic)
-  ours s pic l = record {
+  ours : (s : Session) (pic : List ℕ) → keptGlass (s .glass) ≡ 0 → length pic ≡ length (m .glass .picture) → OurCalls (m .headers) (h1 s) (h2 s) (h3 s) (h4 s) (m .frame) (f1 s pic)
+  ours s pic g l = record {
     headers-done = m .calls .headers-done;
     sync = refl;
     versions = refl;
     channels = refl;
     context = refl;
+    glass = g;
     then-two = refl;
     then-three = refl;
     then-four = refl;
@@ -115,10 +116,10 @@ module _ (mode : ℕ) (m : Met mode) where
   all-taken : (s : Session) → AllTaken s (m .headers .width) (m .headers .height) (m .headers .mode) sent
   all-taken s = our-headers s _ _ _ _ _ _ (m .headers .promise) (m .calls .headers-done)
 
-  synced : (s : Session) → sessionAfter (h1 s) ≡ recordOf 1 0 0 0
+  synced : (s : Session) → sessionAfter (h1 s) ≡ recordOf (keptGlass (s .glass)) 1 0 0 0
   synced s = taken-by (h1 s) s _ _ refl refl (all-taken s .one) .1
 
-  readied : (s : Session) → sessionAfter (h4 s) ≡ recordOf 4 (m .headers .width) (m .headers .height) (m .headers .mode)
+  readied : (s : Session) → sessionAfter (h4 s) ≡ recordOf (keptGlass (s .glass)) 4 (m .headers .width) (m .headers .height) (m .headers .mode)
   readied s =
       let t = all-taken s in
       let two = taken-by (h2 s) _ _ _ (synced s) refl (t .two) .1 in
@@ -129,10 +130,15 @@ module _ (mode : ℕ) (m : Met mode) where
   moded s = ap (λ (x : Session). x .mode) (readied s) ∙ sym (m .calls .same-mode) ∙ m .in-mode
 
   abbrev r0 : Session
-  r0 = recordOf 0 0 0 0
+  r0 = recordOf 0 0 0 0 0
 
   abbrev r1 : Session
   r1 = sessionAfter (h4 r0)
+
+  -- the glass is 0 from first to last
+  r1-glass : keptGlass (r1 .glass) ≡ 0
+  unfolding keptGlass _⇒_∣_
+  r1-glass = ap (λ (x : Session). keptGlass (x .glass)) (readied r0)
 
   abbrev p0 : List ℕ
   p0 = m .glass .picture
@@ -147,7 +153,7 @@ module _ (mode : ℕ) (m : Met mode) where
   p2 = refused .picture′
 
   abbrev made :
-      Day (fresh p0)
+      Day (fresh 0 p0)
       (header (h1 r0) ∷ header (h2 r0) ∷ header (h3 r0) ∷ header (h4 r0) ∷ frame (f1 r0 p0)
       ∷ header (h1 r1) ∷ frame refused ∷ header (h2 r1) ∷ header (h3 r1) ∷ header (h4 r1) ∷ frame (f1 r1 p2) ∷ [])
       (state (sessionAfter (h4 r1)) (f1 r1 p2 .picture′))
@@ -157,13 +163,14 @@ module _ (mode : ℕ) (m : Met mode) where
       (header-then _ _ (header-then _ _ (header-then _ _ (frame-then _ bytes 4096 4096 4096 4096 no-call))))))))))
 
   first-ours : OurFrame (h1 r0) (h2 r0) (h3 r0) (h4 r0) (m .frame) (f1 r0 p0)
-  first-ours = demands .two .our-frames _ _ _ _ _ _ _ (ours r0 p0 refl)
+  unfolding keptGlass _⇒_∣_
+  first-ours = demands .two .our-frames _ _ _ _ _ _ _ (ours r0 p0 refl refl)
 
   last-ours : OurFrame (h1 r1) (h2 r1) (h3 r1) (h4 r1) (m .frame) (f1 r1 p2)
-  last-ours = demands .two .our-frames _ _ _ _ _ _ _ (ours r1 p2 (demands .two .long refused ∙ demands .two .long (f1 r0 p0)))
+  last-ours = demands .two .our-frames _ _ _ _ _ _ _ (ours r1 p2 r1-glass (demands .two .long refused ∙ demands .two .long (f1 r0 p0)))
 
   early-number : frameReadingNumber (refused .answer) ≡ 12
-  early-number = unready-frame refused (unready _ (synced r1))
+  early-number = unready-frame refused (unready _ _ (synced r1))
 
   is-sync : take 12 sent ≡ syncOf
   is-sync = ap (take 12) (wrote-bytes _ _ _ _ _ (m .headers .promise) (m .calls .headers-done)) ∙ first-block _ _ _
@@ -197,7 +204,7 @@ met mode m = record {
   day = made mode m;
   before-accepted = first-ours mode m .accepted;
   sync-is = is-sync mode m;
-  sync-taken = all-taken mode m (r1 mode m) .one;
+  sync-taken = all-taken mode m (r1 mode m) .one ∙ ap (λ (g : ℕ). Taken (recordOf g 1 0 0 0)) (r1-glass mode m);
   early-refused = early-number mode m;
   after-accepted = last-ours mode m .accepted;
   before-mode = moded mode m (r0 mode m);

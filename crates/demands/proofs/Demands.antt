@@ -14,7 +14,7 @@ use Rattle.whole.specs.laws.Among.{each, among-most}
 use Rattle.wire.specs.declared.Writing.{Writing}
 use Rattle.wire.specs.Wrote.{lengthSaid, outLeft, Wrote}
 use Rattle.session.specs.declared.Session.{Session}
-use Rattle.session.specs.Header.{recordOf}
+use Rattle.session.specs.Header.{recordOf, keptGlass}
 use Rattle.session.specs.laws.Numbers.{header-among}
 use Rattle.session.specs.laws.Cases as HeaderOnesLaws
 use Rattle.headers.specs.Headers.{HeadersWritten}
@@ -44,7 +44,7 @@ use Rattle.demands.specs.Demands.{firstFault, Untouched, Demand1, OurCal
 use Rattle.demands.specs.laws.Unique.{one-answer}
 use Rattle.demands.specs.laws.Edge.{one-answer-c}
 use Rattle.demands.specs.laws.ForC.{edge-demands}
-use Rattle.demands.specs.laws.Right.{record-right}
+use Rattle.demands.specs.laws.Right.{record-right, record-glass}
 
 -- ---- the frame call
 
@@ -114,14 +114,15 @@ module _ (h : WriteHeaders) (one two three four : ReadHeader) (s : WriteFrame) (
   our-frame : OurFrame one two three four s f
   our-frame =
       let t = our-headers (one .session) (s .width) (s .height) (s .mode) (h .out) (h .out′) (h .answer) wrote (o .headers-done) in
-      let a = taken-by one (one .session) (recordOf 1 0 0 0) _ refl (o .sync) (t .one) in
-      let b = taken-by two (recordOf 1 0 0 0) (recordOf 2 0 0 0) _ (o .then-two ∙ a .1) (o .versions) (t .two) in
-      let c = taken-by three (recordOf 2 0 0 0) (recordOf 3 (s .width) (s .height) 0) _ (o .then-three ∙ b .1) (o .channels) (t .three) in
-      let d = taken-by four (recordOf 3 (s .width) (s .height) 0) (recordOf 4 (s .width) (s .height) (s .mode)) _ (o .then-four ∙ c .1) (o .context) (t .four) in
+      let a = taken-by one (one .session) _ _ refl (o .sync) (t .one) in
+      let b = taken-by two _ _ _ (o .then-two ∙ a .1) (o .versions) (t .two) in
+      let c = taken-by three _ _ _ (o .then-three ∙ b .1) (o .channels) (t .three) in
+      let d = taken-by four _ _ _ (o .then-four ∙ c .1) (o .context) (t .four) in
+      let e : recordOf (keptGlass (one .session .glass)) 4 (s .width) (s .height) (s .mode) ≡ recordOf 0 4 (s .width) (s .height) (s .mode) = rw (o .glass) in
       let r = our-own-frames (one .session) (s .width) (s .height) (s .mode) (h .out) (h .out′) (h .answer) wrote (o .headers-done)
       (s .quant) (s .index) (s .pixels) (s .list) (s .list′) (s .scratch) (s .scratch′) (s .out) (s .out′) (s .answer) (o .ten) (s .promise) (o .frame-done)
       (f .picture) (f .y) (f .cb) (f .cr) (f .scratch) (f .picture′) (f .y′) (f .cb′) (f .cr′) (f .scratch′) (f .answer)
-      (o .y-long) (o .cb-long) (o .cr-long) (o .scratch-long) (o .room) (subst ReadFor (o .then-frame ∙ d .1) glass) in
+      (o .y-long) (o .cb-long) (o .cr-long) (o .scratch-long) (o .room) (subst ReadFor (o .then-frame ∙ d .1 ∙ e) glass) in
       record {
         sync-taken = a .0;
         versions-taken = b .0;
@@ -214,6 +215,7 @@ demands = record {
   once-for-c = one-answer-c;
   for-c = edge-demands demand-1 demand-2;
   six = record-right;
+  thirteen = record-glass;
   fourteen = days;
   small = small-numbers;
   cases = paper;

@@ -8,11 +8,11 @@ use native.Mathlib.Omega.{arith}
 use lib.IntN.{ℤ, pos}
 use lib.ListN.{length, take, drop, replicate}
 use borrow.Author.Tests.{le-leb}
-use Rattle.whole.specs.Row.{_!_⨾_}
+use Rattle.whole.specs.Row.{_!_⨾_, _⇒_∣_}
 use Rattle.whole.specs.laws.Row.{passes, goes-on}
 use Rattle.bands.specs.Bands.{goodTo}
 use Rattle.session.specs.declared.Session.{Session}
-use Rattle.session.specs.Header.{recordOf, sizeGood, headerReading}
+use Rattle.session.specs.Header.{recordOf, keptGlass, sizeGood, headerReading}
 use Rattle.wire.specs.Le.{written}
 use Rattle.wire.specs.Mode.{isMode}
 use Rattle.wire.specs.laws.Mode.{is-1, is-4}
@@ -101,7 +101,7 @@ module _ (mode : ℕ) (good : isMode mode ≡ true) (sendable : Sendable grey 1 
   sent = sentBy (wrote-headers .answer) (wrote-headers .out′)
 
   abbrev one : ReadHeader
-  one = asked (recordOf 0 0 0 0) (take 12 sent)
+  one = asked (recordOf 0 0 0 0 0) (take 12 sent)
 
   abbrev two : ReadHeader
   two = asked (sessionAfter one) (take 10 (drop 12 sent))
@@ -113,13 +113,14 @@ module _ (mode : ℕ) (good : isMode mode ≡ true) (sendable : Sendable grey 1 
   four = asked (sessionAfter three) (take 13 (drop 34 sent))
 
   met : OurCalls wrote-headers one two three four wrote-frame (drawn (sessionAfter four) (sentBy (wrote-frame .answer) (wrote-frame .out′)))
-  unfolding writingNumber
+  unfolding writingNumber keptGlass _⇒_∣_
   met = record {
     headers-done = refl;
     sync = refl;
     versions = refl;
     channels = refl;
     context = refl;
+    glass = refl;
     then-two = refl;
     then-three = refl;
     then-four = refl;

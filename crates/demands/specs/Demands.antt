@@ -23,7 +23,7 @@ use Rattle.frame_draw.specs.Shown.{lastTile, wordIn}
 use Rattle.frame_draw.specs.Show.{tileWord}
 use Rattle.frame_blocks.specs.Judged.{judged}
 use Rattle.session.specs.declared.Session.{Session}
-use Rattle.session.specs.Header.{recordOf, Right, headerFault, recordAfter, headerNumber}
+use Rattle.session.specs.Header.{recordOf, keptGlass, Right, headerFault, recordAfter, headerNumber}
 use Rattle.session.specs.Cases as HeaderOnes
 use Rattle.frame.specs.Frame.{early, framed, Cleared, frameReadingNumber, frameReadingTiles}
 use Rattle.headers.specs.Headers.{headersOf, headersFault}
@@ -100,13 +100,14 @@ shownWord c px py =
     ⇒ wordIn (tileWord (c .session .mode) (setAt (c .message) (setPlace (c .message)))) px py (lastTile (frameTiles (c .message)) px py) old
     ∣ old
 
--- "A frame from our writer, read after our writer's headers for the same size and mode": the calls in their order
+-- "A frame from our writer, read after our writer's headers for the same size and mode": the calls in their order, on the glass whose words the picture has
 pub record OurCalls (h : WriteHeaders) (one two three four : ReadHeader) (s : WriteFrame) (f : ReadFrame) : Type 0 where
   pub headers-done : writingNumber (h .answer) ≡ 0
   pub sync : one .message ≡ take 12 (sentBy (h .answer) (h .out′))
   pub versions : two .message ≡ take 10 (drop 12 (sentBy (h .answer) (h .out′)))
   pub channels : three .message ≡ take 12 (drop 22 (sentBy (h .answer) (h .out′)))
   pub context : four .message ≡ take 13 (drop 34 (sentBy (h .answer) (h .out′)))
+  pub glass : keptGlass (one .session .glass) ≡ 0
   pub then-two : two .session ≡ sessionAfter one
   pub then-three : three .session ≡ sessionAfter two
   pub then-four : four .session ≡ sessionAfter three
@@ -223,6 +224,7 @@ pub record OurCallsC (h : CWriteHeaders) (one two three four : CReadHeader) (s :
   pub versions : two .message ≡ take 10 (drop 12 (take (h .size) (h .out′)))
   pub channels : three .message ≡ take 12 (drop 22 (take (h .size) (h .out′)))
   pub context : four .message ≡ take 13 (drop 34 (take (h .size) (h .out′)))
+  pub glass : keptGlass (one .session .glass) ≡ 0
   pub then-two : two .session ≡ one .session′
   pub then-three : three .session ≡ two .session′
   pub then-four : four .session ≡ three .session′
@@ -271,14 +273,26 @@ pub record EdgeDemands : Type 0 where
 
 -- ---- document 02, request Six: tile columns, tile rows and the picture's words in the record "must be right after every call, refused ones included"
 pub record RecordRight : Type 0 where
-  pub fresh : Right (recordOf 0 0 0 0)
+  pub fresh : (glass : ℕ) → Right (recordOf glass 0 0 0 0)
   pub right-after : (c : ReadHeader) → Right (c .session) → Right (sessionAfter c)
   -- over any list of calls on one record
   pub right-always : (s t : Session) → OnOneRecord s t → Right s → Right t
   -- "A record that no calls could have made answers 12 wherever one is judged, but takes a good sync": so does one in which one of the three is wrong
   pub wrong-header : (c : ReadHeader) → (Right (c .session) → ⊥) → 6 ≤ length (c .message) → 0xCCC1 ≤ le16 (c .message) 0 → le16 (c .message) 0 ≤ 0xCCC3 → headerNumber (c .answer) ≡ 12
   pub wrong-frame : (c : ReadFrame) → (Right (c .session) → ⊥) → frameReadingNumber (c .answer) ≡ 12
-  pub any-sync : (c d : ReadHeader) → c .message ≡ d .message → le16 (c .message) 0 ≡ 0xCCC0 → c .answer ≡ d .answer
+  pub any-sync : (c d : ReadHeader) → c .message ≡ d .message → c .session .glass ≡ d .session .glass → le16 (c .message) 0 ≡ 0xCCC0 → c .answer ≡ d .answer
+
+-- ---- document 02, request Thirteen: "The session record now names the glass, chosen when the session is opened and kept through a sync"
+pub record RecordGlass : Type 0 where
+  pub glass-kept : (c : ReadHeader) → c .session .glass ≤ 1 → sessionAfter c .glass ≡ c .session .glass
+  -- over any list of calls on one record: it is the one that the session was opened for
+  pub glass-always : (s t : Session) → OnOneRecord s t → s .glass ≤ 1 → t .glass ≡ s .glass
+  -- a glass that is neither: a record that no calls could have made, which takes a good sync and has the base's glass then
+  pub other-header :
+      (c : ReadHeader) → 1 < c .session .glass → 6 ≤ length (c .message) → 0xCCC1 ≤ le16 (c .message) 0 → le16 (c .message) 0 ≤ 0xCCC3 → headerNumber (c .answer) ≡ 12
+  pub other-frame : (c : ReadFrame) → 1 < c .session .glass → frameReadingNumber (c .answer) ≡ 12
+  pub other-sync :
+      (c : ReadHeader) → 1 < c .session .glass → le16 (c .message) 0 ≡ 0xCCC0 → headerNumber (c .answer) ≡ 0 → sessionAfter c ≡ recordOf 0 1 0 0 0
 
 -- ---- "Numbers the fitter sees": none above 13
 pub record SmallNumbers : Type 0 where
@@ -311,6 +325,7 @@ pub record Demands : Type 0 where
   pub once-for-c : OneAnswerC
   pub for-c : EdgeDemands
   pub six : RecordRight
+  pub thirteen : RecordGlass
   -- document 02, request Fourteen: the whole day at once
   pub fourteen : Days
   pub small : SmallNumbers

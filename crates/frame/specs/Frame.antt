@@ -23,11 +23,13 @@ use Rattle.frame.specs.declared.call.FrameReading.the-variants.{Done, Re
 unfoldable pub full : ℕ → ℕ → ℕ → ℕ → Bool
 full a b c t = eqb a 4096 ! false ⨾ eqb b 4096 ! false ⨾ eqb c 4096 ! false ⨾ eqb t 4096
 
--- "Frame call: 12, then 2": of the record, the picture's length and the lists' lengths
+-- "Frame call: 12, then 2": of the record, the picture's length and the lists' lengths; the picture lent here has words of 16 bits, and "a picture of the
+-- other word size is refused with 2" (02, request Thirteen)
 unfoldable pub callFault : Session → ℕ → ℕ → ℕ → ℕ → ℕ → ℕ
 callFault s p a b c t =
     ready s ! 12 ⨾
     full a b c t ! 2 ⨾
+    eqb (s .glass) 0 ! 2 ⨾
     leb (s .height * s .width) p ! 2 ⨾
     0
 

@@ -52,12 +52,16 @@ fn is_full(a: usize, b: usize, c: usize, t: usize) -> bool
     t == 4096
 }
 
-// What is judged before the message: the record (12), then the lent memory (2); p is the picture's length, held against the record's words.
+// What is judged before the message: the record (12), then the lent memory (2); p is the picture's length, held against the
+// record's words, and its words have 16 bits.
 fn call_judge(s: Session, p: usize, a: usize, b: usize, c: usize, t: usize) -> u8
     ensures { λ r. ⌜ r ≡ callFault s p a b c t ⌝ }
 {
     if session::is_ready(s) {
         if is_full(a, b, c, t) {
+            if s.glass != 0 {
+                return 2;
+            }
             if s.words as usize <= p {
                 return 0;
             }

@@ -23,7 +23,7 @@ stoppedDesk d =
 
 -- a new case: fresh records, no picture, nothing written, no store
 abbrev pub freshDesk : In → Desk
-freshDesk from = desk from (recordOf 0 0 0 0) fresh 0 0 0 0
+freshDesk from = desk from (recordOf 0 0 0 0 0) fresh 0 0 0 0
 
 abbrev pub recordsDesk : Desk → In → Session → Collector → Desk
 recordsDesk d from s c = desk from s c (d .picture) (d .written) (d .lent) (d .filled)

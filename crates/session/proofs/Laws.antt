@@ -8,7 +8,7 @@ use Rattle.wire.specs.Le.{le16, le32}
 use native.Mathlib.Omega.{arith}
 use Rattle.whole.specs.laws.Row.{passes, fails, stops, goes-on, case-yes, case-no, ne-is, eq-is}
 use Rattle.session.specs.declared.Session.{Session}
-use Rattle.session.specs.Header.{recordOf, ofNumbers, stepped, etOf, headJudge, fieldFault, headerFault, recordAfter}
+use Rattle.session.specs.Header.{recordOf, ofGlass, stepped, etOf, headJudge, fieldFault, headerFault, keptGlass, recordAfter}
 use Rattle.session.specs.laws.Header.{Good, due-made, stepped-at, numbers-at, channels-size, sized}
 
 -- what has been read and judged of a message whose head is there
@@ -50,9 +50,9 @@ fault-none s m t size n f j z g y h =
 
 -- ---- the record after a block without a fault; r is what the code gives, t the type that was read
 
-pub after-sync : (s : Session) (m : List ℕ) (t : ℕ) → t ≡ le16 m 0 → t ≡ 0xCCC0 → recordOf 1 0 0 0 ≡ recordAfter s m
+pub after-sync : (s : Session) (m : List ℕ) (t : ℕ) → t ≡ le16 m 0 → t ≡ 0xCCC0 → (g : ℕ) → g ≡ keptGlass (s .glass) → recordOf g 1 0 0 0 ≡ recordAfter s m
 unfolding recordAfter
-after-sync s m t e z = case-yes _ _ _ _ (eq-is e refl z) refl
+after-sync s m t e z g k = case-yes _ _ _ _ (eq-is e refl z) (ap (λ (g : ℕ). recordOf g 1 0 0 0) k)
 
 pub after-versions : (s : Session) (m : List ℕ) (t : ℕ) (r : Session) → t ≡ le16 m 0 → Good s m → t ≡ 0xCCC1 → r ≡ stepped s 2 (s .mode) → r ≡ recordAfter s m
 unfolding recordAfter
@@ -62,12 +62,12 @@ after-versions s m t r e g z k =
 
 pub after-channels :
     (s : Session) (m : List ℕ) (t : ℕ) (r : Session) → t ≡ le16 m 0 → Good s m → t ≡ 0xCCC2 →
-    (w h : ℕ) → w ≡ le16 m 8 → h ≡ le16 m 10 → r ≡ ofNumbers 3 w h 0 → r ≡ recordAfter s m
+    (w h : ℕ) → w ≡ le16 m 8 → h ≡ le16 m 10 → r ≡ ofGlass (s .glass) 3 w h 0 → r ≡ recordAfter s m
 unfolding recordAfter
 after-channels s m t r e g z w h ew eh k =
     let a = sized _ _ (channels-size m (sym e ∙ z) (g .fields)) in
     case-no _ _ _ _ (ne-is e refl (λ x. omega (arith, z, x))) (case-no _ _ _ _ (ne-is e refl (λ x. omega (arith, z, x))) (case-yes _ _ _ _ (eq-is e refl z)
-    (k ∙ rw (ew, eh) (numbers-at 3 (le16 m 8) (le16 m 10) 0 (omega (arith, a .most-w)) (omega (arith, a .most-h))))))
+    (k ∙ rw (ew, eh) (numbers-at (s .glass) 3 (le16 m 8) (le16 m 10) 0 (omega (arith, a .most-w)) (omega (arith, a .most-h))))))
 
 pub after-context :
     (s : Session) (m : List ℕ) (t : ℕ) (r : Session) → t ≡ le16 m 0 → Good s m → (t ≡ 0xCCC0 → ⊥) → (t ≡ 0xCCC1 → ⊥) → (t ≡ 0xCCC2 → ⊥) →
@@ -76,4 +76,4 @@ unfolding recordAfter
 after-context s m t r e g x y z et ee k =
     let made = due-made s (le16 m 0) (λ q. x (e ∙ q)) (g .head .is-due) in
     case-no _ _ _ _ (ne-is e refl x) (case-no _ _ _ _ (ne-is e refl y) (case-no _ _ _ _ (ne-is e refl z)
-    (k ∙ stepped-at s 4 et made ∙ ap (recordOf 4 (s .width) (s .height)) ee)))
+    (k ∙ stepped-at s 4 et made ∙ ap (recordOf (s .glass) 4 (s .width) (s .height)) ee)))

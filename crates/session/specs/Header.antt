@@ -14,20 +14,26 @@ use Rattle.session.specs.declared.HeaderReading.{HeaderReading}
 use Rattle.session.specs.declared.HeaderReading.the-variants.{Taken, Refused}
 
 -- ---- the record: "how many headers are in, width, height, mode (et), all 0 when fresh"; and, by 02's request Six, "Tile columns and rows"
--- and "the picture's word count": "Keep both .. in the session record, set when channels are taken and cleared by a sync." The glass is 0.
+-- and "the picture's word count": "Keep both .. in the session record, set when channels are taken and cleared by a sync."; by request Thirteen
+-- "The session record now names the glass, chosen when the session is opened and kept through a sync": 0 is 16 bits a word, 1 is 32.
 
 -- how many tiles of 64 stand over n pixels; the last may be cut
 unfoldable pub tilesOver : ℕ → ℕ
 tilesOver n = (n + 63) / 64
 
--- a record in 01's words: headers, width, height, mode; what request Six keeps beside them follows from the size
-abbrev pub recordOf : ℕ → ℕ → ℕ → ℕ → Session
-recordOf headers w h mode = record { headers = headers; mode = mode; width = w; height = h; columns = tilesOver w; rows = tilesOver h; words = w * h; glass = 0 }
+-- a record of a glass, in 01's words: headers, width, height, mode; what request Six keeps beside them follows from the size
+abbrev pub recordOf : ℕ → ℕ → ℕ → ℕ → ℕ → Session
+recordOf glass headers w h mode =
+    record { headers = headers; mode = mode; width = w; height = h; columns = tilesOver w; rows = tilesOver h; words = w * h; glass = glass }
 
--- the same as a program is given four numbers, whatever they are: columns and rows have a byte each, which holds those of every size that 01 allows
-unfoldable pub ofNumbers : ℕ → ℕ → ℕ → ℕ → Session
-ofNumbers headers w h mode =
-    record { headers = headers; mode = mode; width = w; height = h; columns = tilesOver w % 256; rows = tilesOver h % 256; words = w * h; glass = 0 }
+-- the same as a program is given the numbers, whatever they are: columns and rows have a byte each, which holds those of every size that 01 allows
+unfoldable pub ofGlass : ℕ → ℕ → ℕ → ℕ → ℕ → Session
+ofGlass glass headers w h mode =
+    record { headers = headers; mode = mode; width = w; height = h; columns = tilesOver w % 256; rows = tilesOver h % 256; words = w * h; glass = glass }
+
+-- 01's four numbers, on the base's glass
+abbrev pub ofNumbers : ℕ → ℕ → ℕ → ℕ → Session
+ofNumbers headers w h mode = ofGlass 0 headers w h mode
 
 -- a record with another count of headers and another mode, and the rest as it is
 unfoldable pub stepped : Session → ℕ → ℕ → Session
@@ -67,7 +73,7 @@ counted headers w h mode =
 -- could calls have made this record?  "A record that no calls could have made answers 12 wherever one is judged, but takes a good sync"
 unfoldable pub made : Session → Bool
 made s =
-    eqb (s .glass) 0 ! false ⨾
+    leb (s .glass) 1 ! false ⨾
     right s ! false ⨾
     counted (s .headers) (s .width) (s .height) (s .mode)
 
@@ -175,13 +181,17 @@ headerFault s m =
     fieldFault m (le16 m 0) ⨟
     (eqb (length m) (le32 m 2) ! 4 ⨾ 0)
 
+-- the glass after a sync, "kept through a sync" (02); one that no session was opened with gives way to the base's, since every record takes a good sync
+unfoldable pub keptGlass : ℕ → ℕ
+keptGlass glass = leb glass 1 ⇒ glass ∣ 0
+
 -- the record after a good block; a sync "starts the session over (record 1, 0, 0, 0)"
 unfoldable pub recordAfter : Session → List ℕ → Session
 recordAfter s m =
-    eqb (le16 m 0) 0xCCC0 ⇒ recordOf 1 0 0 0 ∣
-    eqb (le16 m 0) 0xCCC1 ⇒ recordOf 2 (s .width) (s .height) (s .mode) ∣
-    eqb (le16 m 0) 0xCCC2 ⇒ recordOf 3 (le16 m 8) (le16 m 10) 0 ∣
-    recordOf 4 (s .width) (s .height) (etOf (le16 m 11))
+    eqb (le16 m 0) 0xCCC0 ⇒ recordOf (keptGlass (s .glass)) 1 0 0 0 ∣
+    eqb (le16 m 0) 0xCCC1 ⇒ recordOf (s .glass) 2 (s .width) (s .height) (s .mode) ∣
+    eqb (le16 m 0) 0xCCC2 ⇒ recordOf (s .glass) 3 (le16 m 8) (le16 m 10) 0 ∣
+    recordOf (s .glass) 4 (s .width) (s .height) (etOf (le16 m 11))
 
 -- ---- the answer: 01's number, and the record after the call: "A refused header or frame changes neither record nor picture."
 

@@ -1,13 +1,15 @@
 // The session record and the header call of document 01: "What the panel takes and gives" (the record), "Order. Header call", and
-// "Blocks" (sync, versions, channels, context); 001, 2.2.2.2; and what document 02's request Six keeps in the record. It is taken and given by value.
+// "Blocks" (sync, versions, channels, context); 001, 2.2.2.2; and what document 02's requests Six and Thirteen keep in the record. It is
+// taken and given by value.
 ghost use mathlib.Core.Path.{_≡_};
 ghost use Prim.Native.Nat.{_+_, _≤_, _<_};
 ghost use lib.ListN.{length};
-ghost use Rattle.session.specs.Header.{tilesOver, ofNumbers, stepped, right, sizeGood, counted, made, ready, due, sizeOf, syncJudge, versionsJudge, channelsJudge, propertiesGood, contextJudge, etOf, syncFault, versionsFault, channelsFault, contextFault, fieldFault, headJudge, headerFault, recordAfter, headerNumber, headerRecord, headerReading};
+ghost use Rattle.session.specs.Header.{tilesOver, recordOf, ofGlass, ofNumbers, stepped, right, sizeGood, counted, made, ready, due, sizeOf, syncJudge, versionsJudge, channelsJudge, propertiesGood, contextJudge, etOf, syncFault, versionsFault, channelsFault, contextFault, fieldFault, headJudge, headerFault, keptGlass, recordAfter, headerNumber, headerRecord, headerReading};
 ghost use Rattle.session.specs.laws.Header.{Good};
 
-// How many headers are in, mode (et), width, height; tile columns, tile rows and words of the picture, which follow from the size; the glass, 0. All 0
-// when fresh. Laid out as C does, for the edge: 16 bytes with no hole inside; the three behind the glass are never read.
+// How many headers are in, mode (et), width, height; tile columns, tile rows and words of the picture, which follow from the size; the glass, 0 where a
+// word of the picture has 16 bits, 1 where it has 32. All 0 when fresh, but for the glass. Laid out as C does, for the edge: 16 bytes with no hole
+// inside; the three behind the glass are never read.
 #[repr(C)]
 pub struct Session {
     pub headers: u8,
@@ -69,9 +71,9 @@ pub fn tiles_over(n: u16) -> usize
     (n as usize + 63) / 64
 }
 
-// The record of 01's four numbers, whatever they are; the others are worked out from them.
-pub fn of_numbers(headers: u8, width: u16, height: u16, mode: u8) -> Session
-    ensures { λ r. ⌜ r ≡ ofNumbers headers width height mode ⌝ }
+// The record of a glass and 01's four numbers, whatever they are; the others are worked out from them.
+fn of_glass(glass: u8, headers: u8, width: u16, height: u16, mode: u8) -> Session
+    ensures { λ r. ⌜ r ≡ ofGlass glass headers width height mode ⌝ }
 {
     Session {
         headers: headers,
@@ -81,8 +83,22 @@ pub fn of_numbers(headers: u8, width: u16, height: u16, mode: u8) -> Session
         columns: (tiles_over(width) % 256) as u8,
         rows: (tiles_over(height) % 256) as u8,
         words: width as u32 * height as u32,
-        glass: 0,
+        glass: glass,
     }
+}
+
+// The record of 01's four numbers, on the base's glass.
+pub fn of_numbers(headers: u8, width: u16, height: u16, mode: u8) -> Session
+    ensures { λ r. ⌜ r ≡ ofNumbers headers width height mode ⌝ }
+{
+    of_glass(0, headers, width, height, mode)
+}
+
+// A session opened for a glass: 0 where a word of the picture has 16 bits, 1 where it has 32. Any other glass gives a record that no calls could have made.
+pub fn open(glass: u8) -> Session
+    ensures { λ r. ⌜ r ≡ recordOf glass 0 0 0 0 ⌝ }
+{
+    of_glass(glass, 0, 0, 0, 0)
 }
 
 // Another count of headers and another mode; the rest is kept.
@@ -143,7 +159,7 @@ fn is_counted(headers: usize, w: usize, h: usize, mode: usize) -> bool
 fn is_made(s: Session) -> bool
     ensures { λ r. ⌜ r ≡ made s ⌝ }
 {
-    if s.glass != 0 {
+    if 1 < s.glass {
         return false;
     }
     if is_right(s) {
@@ -365,6 +381,16 @@ fn header_fault(s: Session, m: &[u8]) -> u8
     0
 }
 
+// The glass after a sync.
+fn kept_glass(glass: u8) -> u8
+    ensures { λ r. ⌜ r ≡ keptGlass glass ⌝ }
+{
+    if glass <= 1 {
+        return glass;
+    }
+    0
+}
+
 // The record after a header in which nothing is wrong.
 fn record_after(s: Session, m: &[u8]) -> Session
     requires { ⌜ Good s (now m) ⌝ }
@@ -380,7 +406,7 @@ fn record_after(s: Session, m: &[u8]) -> Session
             columns: 0,
             rows: 0,
             words: 0,
-            glass: 0,
+            glass: kept_glass(s.glass),
         };
     }
     if t == 0xCCC1 {
@@ -389,7 +415,7 @@ fn record_after(s: Session, m: &[u8]) -> Session
     if t == 0xCCC2 {
         let width = wire::le16_at(m, 8) as u16;
         let height = wire::le16_at(m, 10) as u16;
-        return of_numbers(3, width, height, 0);
+        return of_glass(s.glass, 3, width, height, 0);
     }
     step(s, 4, et_of(wire::le16_at(m, 11)) as u8)
 }

@@ -10,7 +10,7 @@ use borrow.Author.Tests.{eqb-true, eqb-false}
 use Rattle.whole.specs.Row.{_⇒_∣_}
 use Rattle.wire.specs.Le.{le16}
 use Rattle.session.specs.declared.Session.{Session}
-use Rattle.session.specs.Header.{recordOf, recordAfter}
+use Rattle.session.specs.Header.{recordOf, keptGlass, recordAfter}
 use Rattle.frame.specs.Frame.{frameReadingNumber}
 use Rattle.frame.specs.laws.Glass.{refused}
 use Rattle.calls.specs.Calls.{ReadHeader, ReadFrame}
@@ -26,7 +26,7 @@ state-is a b = ap₂ state a b
 -- ---- the header call
 
 -- a taken sync
-sync-record : (s : Session) (m : List ℕ) → le16 m 0 ≡ 0xCCC0 → recordAfter s m ≡ recordOf 1 0 0 0
+sync-record : (s : Session) (m : List ℕ) → le16 m 0 ≡ 0xCCC0 → recordAfter s m ≡ recordOf (keptGlass (s .glass)) 1 0 0 0
 unfolding recordAfter _⇒_∣_
 sync-record s m e = rw e
 
@@ -35,9 +35,9 @@ pub sync-taken :
     → HeaderStep s c t
     → le16 (c .message) 0 ≡ 0xCCC0
     → number (header c) ≡ 0
-    → (t .session ≡ recordOf 1 0 0 0) × (t .picture ≡ s .picture)
+    → (t .session ≡ recordOf (keptGlass (s .session .glass)) 1 0 0 0) × (t .picture ≡ s .picture)
 unfolding number
-sync-taken c k e z = (k .left ∙ header-taken c z ∙ sync-record (c .session) (c .message) e, k .picture-kept)
+sync-taken c k e z = (k .left ∙ header-taken c z ∙ sync-record (c .session) (c .message) e ∙ rw (k .given) refl, k .picture-kept)
 
 -- ---- "A refused header or frame changes neither record nor picture."
 

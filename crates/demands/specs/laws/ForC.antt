@@ -34,6 +34,7 @@ module _ (h : CWriteHeaders) (one two three four : CReadHeader) (s : CWriteFrame
         versions = o .versions ∙ ap (λ (n : ℕ). take 10 (drop 12 (take n (h .out′)))) k;
         channels = o .channels ∙ ap (λ (n : ℕ). take 12 (drop 22 (take n (h .out′)))) k;
         context = o .context ∙ ap (λ (n : ℕ). take 13 (drop 34 (take n (h .out′)))) k;
+        glass = o .glass;
         then-two = o .then-two ∙ one .promise .session;
         then-three = o .then-three ∙ two .promise .session;
         then-four = o .then-four ∙ three .promise .session;

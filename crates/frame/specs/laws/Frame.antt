@@ -39,6 +39,7 @@ full-is y cb cr tmp e =
 pub record CallGood (s : Session) (p : ℕ) (y cb cr tmp : List ℤ) : Type 0 where
   pub is-ready : ready s ≡ true
   pub lists : Lists y cb cr tmp
+  pub glass : s .glass ≡ 0
   pub room : s .height * s .width ≤ p
 
 pub call-good : (s : Session) (p : ℕ) (y cb cr tmp : List ℤ) → 0 ≡ callFault s p (length y) (length cb) (length cr) (length tmp) → CallGood s p y cb cr tmp
@@ -46,8 +47,9 @@ unfolding callFault
 call-good s p y cb cr tmp e =
     let a = held (ready s) 12 _ 0 (not-0 11) e in
     let b = held (full (length y) (length cb) (length cr) (length tmp)) 2 _ 0 (not-0 1) (a .1) in
-    let c = held (leb (s .height * s .width) p) 2 _ 0 (not-0 1) (b .1) in
-    record { is-ready = a .0; lists = full-is y cb cr tmp (b .0); room = leb-true (s .height * s .width) p (c .0) }
+    let g = held (eqb (s .glass) 0) 2 _ 0 (not-0 1) (b .1) in
+    let c = held (leb (s .height * s .width) p) 2 _ 0 (not-0 1) (g .1) in
+    record { is-ready = a .0; lists = full-is y cb cr tmp (b .0); glass = eqb-true (s .glass) 0 (g .0); room = leb-true (s .height * s .width) p (c .0) }
 
 -- a record that is not ready is 12, whatever is lent
 pub call-unready : (s : Session) (p a b c t : ℕ) → ready s ≡ false → 12 ≡ callFault s p a b c t

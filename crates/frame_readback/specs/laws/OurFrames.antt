@@ -182,29 +182,29 @@ module _ (p : List ℕ) (w h mode : ℕ) (q : Quants) (index : ℕ) (s : Sendabl
   -- the frame call on it, with the record that our headers give, lists of 4,096 and a picture long enough
   module _ (good : sizeGood w h ≡ true) (pic : List ℕ) (y cb cr tmp : List ℤ) (pic′ : List ℕ) (y′ cb′ cr′ tmp′ : List ℤ) (r : FrameReading)
       (ly : length y ≡ 4096) (lb : length cb ≡ 4096) (lr : length cr ≡ 4096) (lt : length tmp ≡ 4096) (room : h * w ≤ length pic)
-      (done : FrameRead (recordOf 4 w h mode) m pic y cb cr tmp pic′ y′ cb′ cr′ tmp′ r) where
-    call-fine : 0 ≡ early (recordOf 4 w h mode) pic y cb cr tmp
+      (done : FrameRead (recordOf 0 4 w h mode) m pic y cb cr tmp pic′ y′ cb′ cr′ tmp′ r) where
+    call-fine : 0 ≡ early (recordOf 0 4 w h mode) pic y cb cr tmp
     unfolding callFault full
     call-fine =
-        passes _ _ _ _ (ready-at w h mode good (s .allowed)) (passes _ _ _ _
+        passes _ _ _ _ (ready-at 0 w h mode (omega arith) good (s .allowed)) (passes _ _ _ _
         (sym (passes _ _ _ _ (eq-eqb (length y) 4096 ly) (passes _ _ _ _ (eq-eqb (length cb) 4096 lb) (passes _ _ _ _ (eq-eqb (length cr) 4096 lr) (sym (eq-eqb (length tmp) 4096 lt))))))
-        (passes _ _ _ _ (le-leb (h * w) (length pic) room) refl))
+        (passes _ _ _ _ (eq-eqb 0 0 refl) (passes _ _ _ _ (le-leb (h * w) (length pic) room) refl)))
 
     number-0 : frameReadingNumber r ≡ 0
     unfolding frameNumber
-    number-0 = number-is (recordOf 4 w h mode) m pic y cb cr tmp pic′ y′ cb′ cr′ tmp′ r done ∙ sym (goes-on _ _ _ (sym call-fine) (taken .fault))
+    number-0 = number-is (recordOf 0 4 w h mode) m pic y cb cr tmp pic′ y′ cb′ cr′ tmp′ r done ∙ sym (goes-on _ _ _ (sym call-fine) (taken .fault))
 
     pub shown : ShownOver p w h q pic pic′ r
     shown = record {
       number = number-0;
-      tiles = accepted (recordOf 4 w h mode) m pic y cb cr tmp pic′ y′ cb′ cr′ tmp′ r done number-0 .counted ∙ taken .count;
-      word = λ px py a b. shown-pixel (recordOf 4 w h mode) m pic y cb cr tmp pic′ y′ cb′ cr′ tmp′ r done number-0 px py a b ∙ shown-word px py _ a b;
-      past = shown-past (recordOf 4 w h mode) m pic y cb cr tmp pic′ y′ cb′ cr′ tmp′ r done number-0;
-      long = shown-length (recordOf 4 w h mode) m pic y cb cr tmp pic′ y′ cb′ cr′ tmp′ r done number-0;
+      tiles = accepted (recordOf 0 4 w h mode) m pic y cb cr tmp pic′ y′ cb′ cr′ tmp′ r done number-0 .counted ∙ taken .count;
+      word = λ px py a b. shown-pixel (recordOf 0 4 w h mode) m pic y cb cr tmp pic′ y′ cb′ cr′ tmp′ r done number-0 px py a b ∙ shown-word px py _ a b;
+      past = shown-past (recordOf 0 4 w h mode) m pic y cb cr tmp pic′ y′ cb′ cr′ tmp′ r done number-0;
+      long = shown-length (recordOf 0 4 w h mode) m pic y cb cr tmp pic′ y′ cb′ cr′ tmp′ r done number-0;
     }
 
 -- THE STATEMENT OVER THE CALLS. Whenever our two writers are done, for the same size and mode: four header calls on our headers, from any
--- record at all, answer 0 and end in (4, w, h, mode); and the frame call on our frame, with that record, work lists of 4,096 and a picture long
+-- record at all, answer 0 and end in (4, w, h, mode); and the frame call on our frame, with that record on the glass of 16 bits, work lists of 4,096 and a picture long
 -- enough, answers 0, reports the number of tiles and shows at every place of the channel the word that decoding gives for the rounded
 -- coefficients of the given pixels; nothing else changes.
 -- Over both sets, each component by its own:
@@ -215,12 +215,12 @@ pub our-own-frames-over :
     FrameWrittenOver w h mode q index p list list′ scratch scratch′ out out′ r → writingNumber r ≡ 0 →
     (pic : List ℕ) (y cb cr tmp : List ℤ) (pic′ : List ℕ) (y′ cb′ cr′ tmp′ : List ℤ) (answer : FrameReading) →
     length y ≡ 4096 → length cb ≡ 4096 → length cr ≡ 4096 → length tmp ≡ 4096 → h * w ≤ length pic →
-    FrameRead (recordOf 4 w h mode) (take (writingLength r) out′) pic y cb cr tmp pic′ y′ cb′ cr′ tmp′ answer →
+    FrameRead (recordOf 0 4 w h mode) (take (writingLength r) out′) pic y cb cr tmp pic′ y′ cb′ cr′ tmp′ answer →
     AllTaken s₀ w h mode (take (writingLength hr) ho′) × ShownOver p w h q pic pic′ answer
 our-own-frames-over s₀ w h mode ho ho′ hr hw e q index p list list′ scratch scratch′ out out′ r luma chroma fw f
     pic y cb cr tmp pic′ y′ cb′ cr′ tmp′ answer ly lb lr lt room done =
     let u = written-is w h mode q index p list list′ scratch scratch′ out out′ r luma chroma fw f in
-    let d = subst (λ (x : List ℕ). FrameRead (recordOf 4 w h mode) x pic y cb cr tmp pic′ y′ cb′ cr′ tmp′ answer) (u .bytes) done in
+    let d = subst (λ (x : List ℕ). FrameRead (recordOf 0 4 w h mode) x pic y cb cr tmp pic′ y′ cb′ cr′ tmp′ answer) (u .bytes) done in
     (our-headers s₀ w h mode ho ho′ hr hw e, shown p w h mode q index (u .sendable) (u .size) pic y cb cr tmp pic′ y′ cb′ cr′ tmp′ answer ly lb lr lt room d)
 
 -- with one set for both it is what 01 says
@@ -234,7 +234,7 @@ pub our-own-frames :
     FrameWritten w h mode q index p list list′ scratch scratch′ out out′ r → writingNumber r ≡ 0 →
     (pic : List ℕ) (y cb cr tmp : List ℤ) (pic′ : List ℕ) (y′ cb′ cr′ tmp′ : List ℤ) (answer : FrameReading) →
     length y ≡ 4096 → length cb ≡ 4096 → length cr ≡ 4096 → length tmp ≡ 4096 → h * w ≤ length pic →
-    FrameRead (recordOf 4 w h mode) (take (writingLength r) out′) pic y cb cr tmp pic′ y′ cb′ cr′ tmp′ answer →
+    FrameRead (recordOf 0 4 w h mode) (take (writingLength r) out′) pic y cb cr tmp pic′ y′ cb′ cr′ tmp′ answer →
     AllTaken s₀ w h mode (take (writingLength hr) ho′) × Shown p w h q pic pic′ answer
 our-own-frames s₀ w h mode ho ho′ hr hw e q index p list list′ scratch scratch′ out out′ r ten fw f
     pic y cb cr tmp pic′ y′ cb′ cr′ tmp′ answer ly lb lr lt room done =

@@ -1,6 +1,7 @@
--- Our own headers read back: from any record whatever, the four header calls on the four blocks answer 0 and end in (4, w, h, et).
+-- Our own headers read back: from any record whatever, the four header calls on the four blocks answer 0 and end in (4, w, h, et) on
+-- the glass that a sync keeps.
 -- (01 is this project's scope document, 02 its change requests, 001 is MS-RDPRFX: README, "What 01 is".)
-use Prim.Native.Nat.{ℕ, _+_, _*_, _%_, _/_, _<_}
+use Prim.Native.Nat.{ℕ, _+_, _*_, _%_, _/_, _≤_, _<_}
 use mathlib.Core.Path.{_≡_, refl, sym, _∙_}
 use mathlib.Core.Bool.{true}
 use mathlib.Core.Logic.{_⊎_, inl, inr}
@@ -15,8 +16,8 @@ use Rattle.wire.specs.declared.Writing.{Writing}
 use Rattle.whole.specs.Row.{_!_⨾_, _⇒_∣_, _⨟_}
 use Rattle.session.specs.declared.Session.{Session}
 use Rattle.session.specs.declared.HeaderReading.the-variants.{Taken}
-use Rattle.session.specs.Header.{recordOf, sizeGood, due, sizeOf, syncJudge, versionsJudge, channelsJudge, propertiesGood, contextJudge, etOf, syncFault, versionsFault, channelsFault, contextFault, fieldFault, headJudge, headerFault, recordAfter, headerReading}
-use Rattle.session.specs.laws.Header.{allowed, made-1, made-2, made-3}
+use Rattle.session.specs.Header.{recordOf, sizeGood, due, sizeOf, syncJudge, versionsJudge, channelsJudge, propertiesGood, contextJudge, etOf, syncFault, versionsFault, channelsFault, contextFault, fieldFault, headJudge, headerFault, keptGlass, recordAfter, headerReading}
+use Rattle.session.specs.laws.Header.{allowed, glass-kept, made-1, made-2, made-3}
 use Rattle.headers.specs.Headers.{syncOf, versionsOf, channelsOf, propertiesOf, contextOf, headersOf, HeadersWritten}
 use Rattle.headers.specs.laws.Headers.{writable}
 
@@ -38,53 +39,57 @@ unfolding headersOf syncOf versionsOf channelsOf contextOf bytes16 bytes32
 block-4 w h et = refl
 
 -- each block, taken
-sync-taken : (s : Session) → headerReading s syncOf ≡ Taken (recordOf 1 0 0 0)
+sync-taken : (s : Session) → headerReading s syncOf ≡ Taken (recordOf (keptGlass (s .glass)) 1 0 0 0)
 unfolding syncOf bytes16 bytes32 le16 le32 _!_⨾_ _⇒_∣_ _⨟_ due sizeOf syncJudge syncFault fieldFault headJudge headerFault recordAfter headerReading
 sync-taken s = refl
 
-versions-taken : headerReading (recordOf 1 0 0 0) versionsOf ≡ Taken (recordOf 2 0 0 0)
+versions-taken : (g : ℕ) → g ≤ 1 → headerReading (recordOf g 1 0 0 0) versionsOf ≡ Taken (recordOf g 2 0 0 0)
 unfolding versionsOf bytes16 bytes32 le16 le32 _!_⨾_ _⇒_∣_ _⨟_ due sizeOf versionsJudge versionsFault fieldFault headJudge headerFault recordAfter headerReading
-versions-taken = rw made-1
+versions-taken g l = rw (made-1 g l)
 
-channels-by : (m : List ℕ) (w h : ℕ) → length m ≡ 12 → le16 m 0 ≡ 0xCCC2 → le32 m 2 ≡ 12 → getD m 6 0 ≡ 1 → getD m 7 0 ≡ 0 → le16 m 8 ≡ w → le16 m 10 ≡ h →
-    sizeGood w h ≡ true → headerReading (recordOf 2 0 0 0) m ≡ Taken (recordOf 3 w h 0)
+channels-by : (g : ℕ) → g ≤ 1 → (m : List ℕ) (w h : ℕ) → length m ≡ 12 → le16 m 0 ≡ 0xCCC2 → le32 m 2 ≡ 12 → getD m 6 0 ≡ 1 → getD m 7 0 ≡ 0 → le16 m 8 ≡ w → le16 m 10 ≡ h →
+    sizeGood w h ≡ true → headerReading (recordOf g 2 0 0 0) m ≡ Taken (recordOf g 3 w h 0)
 unfolding _!_⨾_ _⇒_∣_ _⨟_ due sizeOf channelsJudge channelsFault fieldFault headJudge headerFault recordAfter headerReading
-channels-by m w h l t n a b x y g = rw (l, t, n, a, b, x, y, g, made-2)
+channels-by g k m w h l t n a b x y z = rw (l, t, n, a, b, x, y, z, made-2 g k)
 
 two-bytes : (v : ℕ) → v < 65536 → v % 256 + 256 * (v / 256 % 256) ≡ v
 two-bytes v h = omega arith
 
-channels-taken : (w h : ℕ) → w < 65536 → h < 65536 → sizeGood w h ≡ true → headerReading (recordOf 2 0 0 0) (channelsOf w h) ≡ Taken (recordOf 3 w h 0)
+channels-taken : (g w h : ℕ) → g ≤ 1 → w < 65536 → h < 65536 → sizeGood w h ≡ true →
+    headerReading (recordOf g 2 0 0 0) (channelsOf w h) ≡ Taken (recordOf g 3 w h 0)
 unfolding channelsOf bytes16 bytes32 le16 le32
-channels-taken w h p q g = channels-by (channelsOf w h) w h refl refl refl refl refl (two-bytes w p) (two-bytes h q) g
+channels-taken g w h l p q z = channels-by g l (channelsOf w h) w h refl refl refl refl refl (two-bytes w p) (two-bytes h q) z
 
-context-1 : (w h : ℕ) → sizeGood w h ≡ true → headerReading (recordOf 3 w h 0) (contextOf 1) ≡ Taken (recordOf 4 w h 1)
+context-1 : (g w h : ℕ) → g ≤ 1 → sizeGood w h ≡ true → headerReading (recordOf g 3 w h 0) (contextOf 1) ≡ Taken (recordOf g 4 w h 1)
 unfolding contextOf propertiesOf bytes16 bytes32 le16 le32 _!_⨾_ _⇒_∣_ _⨟_ isMode due sizeOf propertiesGood contextJudge etOf contextFault fieldFault headJudge headerFault recordAfter headerReading
-context-1 w h g = rw (made-3 w h g)
+context-1 g w h l z = rw (made-3 g w h l z)
 
-context-4 : (w h : ℕ) → sizeGood w h ≡ true → headerReading (recordOf 3 w h 0) (contextOf 4) ≡ Taken (recordOf 4 w h 4)
+context-4 : (g w h : ℕ) → g ≤ 1 → sizeGood w h ≡ true → headerReading (recordOf g 3 w h 0) (contextOf 4) ≡ Taken (recordOf g 4 w h 4)
 unfolding contextOf propertiesOf bytes16 bytes32 le16 le32 _!_⨾_ _⇒_∣_ _⨟_ isMode due sizeOf propertiesGood contextJudge etOf contextFault fieldFault headJudge headerFault recordAfter headerReading
-context-4 w h g = rw (made-3 w h g)
+context-4 g w h l z = rw (made-3 g w h l z)
 
 -- the four calls on 47 bytes, one after the other: each is taken, and leaves the record that the next one starts from
 pub record AllTaken (s : Session) (w h et : ℕ) (m : List ℕ) : Type 0 where
-  pub one : headerReading s (take 12 m) ≡ Taken (recordOf 1 0 0 0)
-  pub two : headerReading (recordOf 1 0 0 0) (take 10 (drop 12 m)) ≡ Taken (recordOf 2 0 0 0)
-  pub three : headerReading (recordOf 2 0 0 0) (take 12 (drop 22 m)) ≡ Taken (recordOf 3 w h 0)
-  pub four : headerReading (recordOf 3 w h 0) (take 13 (drop 34 m)) ≡ Taken (recordOf 4 w h et)
+  pub one : headerReading s (take 12 m) ≡ Taken (recordOf (keptGlass (s .glass)) 1 0 0 0)
+  pub two : headerReading (recordOf (keptGlass (s .glass)) 1 0 0 0) (take 10 (drop 12 m)) ≡ Taken (recordOf (keptGlass (s .glass)) 2 0 0 0)
+  pub three : headerReading (recordOf (keptGlass (s .glass)) 2 0 0 0) (take 12 (drop 22 m)) ≡ Taken (recordOf (keptGlass (s .glass)) 3 w h 0)
+  pub four : headerReading (recordOf (keptGlass (s .glass)) 3 w h 0) (take 13 (drop 34 m)) ≡ Taken (recordOf (keptGlass (s .glass)) 4 w h et)
 
-context-taken : (w h et : ℕ) → sizeGood w h ≡ true → (et ≡ 1) ⊎ (et ≡ 4) → headerReading (recordOf 3 w h 0) (contextOf et) ≡ Taken (recordOf 4 w h et)
-context-taken w h et g (inl q) = rw q (context-1 w h g)
-context-taken w h et g (inr q) = rw q (context-4 w h g)
+context-taken : (g w h et : ℕ) → g ≤ 1 → sizeGood w h ≡ true → (et ≡ 1) ⊎ (et ≡ 4) →
+    headerReading (recordOf g 3 w h 0) (contextOf et) ≡ Taken (recordOf g 4 w h et)
+context-taken g w h et l z (inl q) = rw q (context-1 g w h l z)
+context-taken g w h et l z (inr q) = rw q (context-4 g w h l z)
 
 pub headers-read-back : (s : Session) (w h et : ℕ) → sizeGood w h ≡ true → isMode et ≡ true → AllTaken s w h et (headersOf w h et)
-headers-read-back s w h et g f =
-    let k = allowed w h et g f in
+headers-read-back s w h et z f =
+    let k = allowed w h et z f in
+    let g = keptGlass (s .glass) in
+    let l = glass-kept (s .glass) in
     record {
       one = rw (block-1 w h et) (sync-taken s);
-      two = rw (block-2 w h et) versions-taken;
-      three = rw (block-3 w h et) (channels-taken w h (omega (arith, k .most-w)) (omega (arith, k .most-h)) g);
-      four = rw (block-4 w h et) (context-taken w h et g (k .mode));
+      two = rw (block-2 w h et) (versions-taken g l);
+      three = rw (block-3 w h et) (channels-taken g w h l (omega (arith, k .most-w)) (omega (arith, k .most-h)) z);
+      four = rw (block-4 w h et) (context-taken g w h et l z (k .mode));
     }
 
 -- the same of what the header writer has written, where it is done

@@ -11,9 +11,12 @@ use Rattle.session.proofs.record_after.Tie as tie
 le16-at-requires : tie.Need-le16-at-requires
 le16-at-requires c κs = search needs
 
+kept-glass-requires : tie.Need-kept-glass-requires
+kept-glass-requires c κs = search needs
+
 returns : tie.Need-returns
 unfolding tilesOver
-returns c = after-sync _ _ _ (c .before .le16-at .ensures .0) (c .if1 .taken)
+returns c = after-sync _ _ _ (c .before .before .le16-at .ensures .0) (c .before .if1 .taken) _ (c .kept-glass .ensures)
 
 step-requires : tie.Need-step-requires
 step-requires c κs = search needs
@@ -41,15 +44,15 @@ le16-at-requires-3 c κs =
 cast-height : tie.Need-cast-height
 cast-height c = search needs
 
-of-numbers-requires : tie.Need-of-numbers-requires
-of-numbers-requires c κs = search needs
+of-glass-requires : tie.Need-of-glass-requires
+of-glass-requires c κs = search needs
 
 returns-3 : tie.Need-returns-3
 returns-3 c =
     let i = c .before .before .before in
     let t = i .before .before .before in
     after-channels _ _ _ _ (t .le16-at .ensures .0) (t .before .before .pre) (i .if3 .taken) _ _ (c .before .before .le16-at2 .ensures .0)
-    (c .before .le16-at3 .ensures .0) (c .of-numbers .ensures)
+    (c .before .le16-at3 .ensures .0) (c .of-glass .ensures)
 
 le16-at-requires-4 : tie.Need-le16-at-requires-4
 le16-at-requires-4 c κs =
@@ -78,6 +81,7 @@ record-after-spec =
     tie.close
     (tie.spec
     le16-at-requires
+    kept-glass-requires
     returns
     step-requires
     returns-2
@@ -85,7 +89,7 @@ record-after-spec =
     cast-width
     le16-at-requires-3
     cast-height
-    of-numbers-requires
+    of-glass-requires
     returns-3
     le16-at-requires-4
     et-of-requires

@@ -8,8 +8,8 @@ use mathlib.Core.List.{List}
 use native.Mathlib.Omega.{arith}
 use native.Mathlib.Nat.{mul-comm, mul-le-mul-right}
 use lib.ListN.{length}
-use lib.Dec.{eqb}
-use borrow.Author.Tests.{leb-true, eqb-true, eqb-false, le-ltb, eq-eqb, ne-eqb}
+use lib.Dec.{leb, eqb}
+use borrow.Author.Tests.{leb-true, le-leb, lt-leb, eqb-true, eqb-false, le-ltb, eq-eqb, ne-eqb}
 use Rattle.whole.specs.Row.{_!_⨾_, _⇒_∣_}
 use Rattle.wire.specs.Le.{le16, le32}
 use Rattle.wire.specs.Mode.{isMode}
@@ -17,7 +17,7 @@ use Rattle.wire.specs.laws.Mode.{mode-is}
 use Rattle.whole.specs.laws.Row.{held, both, passes, case-yes, case-no, case-is, case-not}
 use Rattle.session.specs.declared.Session.{Session}
 use Rattle.session.specs.declared.HeaderReading.the-variants.{Taken, Refused}
-use Rattle.session.specs.Header.{tilesOver, recordOf, ofNumbers, stepped, Right, right, sizeGood, counted, made, ready, due}
+use Rattle.session.specs.Header.{tilesOver, recordOf, ofGlass, stepped, Right, right, sizeGood, counted, made, ready, due, keptGlass}
 use Rattle.session.specs.Header.{sizeOf, headJudge, headerFault, channelsJudge, channelsFault, fieldFault, recordAfter, headerNumber, headerReading}
 
 -- ---- tiles over pixels
@@ -131,16 +131,16 @@ right-is s e =
     let b = held _ _ _ _ true≢false (a .1) in
     record { columns = eqb-true _ _ (a .0); rows = eqb-true _ _ (b .0); words = eqb-true _ _ (sym (b .1)) }
 
-pub right-at : (n w h et : ℕ) → Right (recordOf n w h et)
-right-at n w h et = record { columns = refl; rows = refl; words = refl }
+pub right-at : (g n w h et : ℕ) → Right (recordOf g n w h et)
+right-at g n w h et = record { columns = refl; rows = refl; words = refl }
 
-at-right : (n w h et : ℕ) → right (recordOf n w h et) ≡ true
+at-right : (g n w h et : ℕ) → right (recordOf g n w h et) ≡ true
 unfolding right
-at-right n w h et = sym (passes _ _ _ _ (eq-eqb (tilesOver w) _ refl) (passes _ _ _ _ (eq-eqb (tilesOver h) _ refl) (sym (eq-eqb (w * h) _ refl))))
+at-right g n w h et = sym (passes _ _ _ _ (eq-eqb (tilesOver w) _ refl) (passes _ _ _ _ (eq-eqb (tilesOver h) _ refl) (sym (eq-eqb (w * h) _ refl))))
 
 -- what such a record has
 pub record Made (s : Session) : Type 0 where
-  pub no-glass : s .glass ≡ 0
+  pub glass : s .glass ≤ 1
   pub right : Right s
   pub counted : counted (s .headers) (s .width) (s .height) (s .mode) ≡ true
 
@@ -149,39 +149,56 @@ unfolding made
 made-good s e =
     let a = held _ _ _ _ true≢false (sym e) in
     let b = held _ _ _ _ true≢false (a .1) in
-    record { no-glass = eqb-true _ _ (a .0); right = right-is s (b .0); counted = sym (b .1) }
+    record { glass = leb-true _ _ (a .0); right = right-is s (b .0); counted = sym (b .1) }
 
--- a record of 01's four numbers is judged by these alone
-pub made-at : (n w h et : ℕ) → counted n w h et ≡ true → made (recordOf n w h et) ≡ true
+-- the glass after a sync: one that a session was opened with is kept, and every other is one of these two then
+pub kept-glass : (g : ℕ) → g ≤ 1 → keptGlass g ≡ g
+unfolding keptGlass _⇒_∣_
+kept-glass g l = rw (le-leb g 1 l)
+
+pub other-glass : (g : ℕ) → 1 < g → keptGlass g ≡ 0
+unfolding keptGlass _⇒_∣_
+other-glass g l = rw (lt-leb g 1 l)
+
+kept-by : (g : ℕ) (b : Bool) → leb g 1 ≡ b → keptGlass g ≤ 1
+unfolding keptGlass _⇒_∣_
+kept-by g true e = rw e (leb-true g 1 e)
+kept-by g false e = rw e (omega arith)
+
+pub glass-kept : (g : ℕ) → keptGlass g ≤ 1
+glass-kept g = kept-by g _ refl
+
+-- a record of 01's four numbers, on either glass, is judged by these alone
+pub made-at : (g n w h et : ℕ) → g ≤ 1 → counted n w h et ≡ true → made (recordOf g n w h et) ≡ true
 unfolding made
-made-at n w h et e = sym (passes _ _ _ _ (eq-eqb 0 0 refl) (passes _ _ _ _ (at-right n w h et) (sym e)))
+made-at g n w h et l e = sym (passes _ _ _ _ (le-leb g 1 l) (passes _ _ _ _ (at-right g n w h et) (sym e)))
 
 -- such records, by the headers that are in
-pub made-1 : made (recordOf 1 0 0 0) ≡ true
+pub made-1 : (g : ℕ) → g ≤ 1 → made (recordOf g 1 0 0 0) ≡ true
 unfolding counted _!_⨾_ _⇒_∣_
-made-1 = made-at 1 0 0 0 refl
+made-1 g l = made-at g 1 0 0 0 l refl
 
-pub made-2 : made (recordOf 2 0 0 0) ≡ true
+pub made-2 : (g : ℕ) → g ≤ 1 → made (recordOf g 2 0 0 0) ≡ true
 unfolding counted _!_⨾_ _⇒_∣_
-made-2 = made-at 2 0 0 0 refl
+made-2 g l = made-at g 2 0 0 0 l refl
 
-pub made-3 : (w h : ℕ) → sizeGood w h ≡ true → made (recordOf 3 w h 0) ≡ true
+pub made-3 : (g w h : ℕ) → g ≤ 1 → sizeGood w h ≡ true → made (recordOf g 3 w h 0) ≡ true
 unfolding counted _!_⨾_ _⇒_∣_
-made-3 w h g = made-at 3 w h 0 (rw g)
+made-3 g w h l k = made-at g 3 w h 0 l (rw k)
 
-pub ready-at : (w h et : ℕ) → sizeGood w h ≡ true → isMode et ≡ true → ready (recordOf 4 w h et) ≡ true
+pub ready-at : (g w h et : ℕ) → g ≤ 1 → sizeGood w h ≡ true → isMode et ≡ true → ready (recordOf g 4 w h et) ≡ true
 unfolding ready counted _!_⨾_ _⇒_∣_
-ready-at w h et g m = made-at 4 w h et (rw (g, m))
+ready-at g w h et l k m = made-at g 4 w h et l (rw (k, m))
 
--- a record of four numbers whose size 01 allows
-pub numbers-at : (n w h et : ℕ) → w ≤ 4096 → h ≤ 4096 → ofNumbers n w h et ≡ recordOf n w h et
-unfolding ofNumbers
-numbers-at n w h et a b = rw (byte-holds w a, byte-holds h b)
+-- a record of given numbers whose size 01 allows
+pub numbers-at : (g n w h et : ℕ) → w ≤ 4096 → h ≤ 4096 → ofGlass g n w h et ≡ recordOf g n w h et
+unfolding ofGlass
+numbers-at g n w h et a b = rw (byte-holds w a, byte-holds h b)
 
 -- a made record, with other headers and another mode
-pub stepped-at : (s : Session) (n et : ℕ) → Made s → stepped s n et ≡ recordOf n (s .width) (s .height) et
+pub stepped-at : (s : Session) (n et : ℕ) → Made s → stepped s n et ≡ recordOf (s .glass) n (s .width) (s .height) et
 unfolding stepped
-stepped-at s n et m = rw (m .right .columns, m .right .rows, m .right .words, m .no-glass)
+stepped-at s n et m = rw (m .right .columns, m .right .rows, m .right .words)
 
 -- a header that is due, but a sync, is so only to a record that calls could have made
 pub due-made : (s : Session) (t : ℕ) → (t ≡ 0xCCC0 → ⊥) → due s t ≡ true → Made s
@@ -193,6 +210,7 @@ due-made s t n e =
 -- a record with all four headers in
 pub record Ready (s : Session) : Type 0 where
   pub headers : s .headers ≡ 4
+  pub glass : s .glass ≤ 1
   pub allowed : Allowed (s .width) (s .height) (s .mode)
   pub right : Right s
 
@@ -211,7 +229,7 @@ ready-good s e =
     let q = eqb-true (s .headers) 4 (a .0) in
     let m = made-good s (sym (a .1)) in
     let b = counted-four _ _ _ _ q (m .counted) in
-    record { headers = q; allowed = allowed _ _ _ (b .0) (b .1); right = m .right }
+    record { headers = q; glass = m .glass; allowed = allowed _ _ _ (b .0) (b .1); right = m .right }
 
 -- the picture's words, in 01's order of the product
 pub right-words : (s : Session) → Right s → s .words ≡ s .height * s .width
