@@ -59,12 +59,6 @@ stores-same on place value other (suc j) k pic e =
     stores-same on place value other j (k + 1) _ (λ x l. e x (omega arith))
     ∙ ap (λ (v : ℕ). stores on place other j (k + 1) (on k ⇒ set pic (place k) v ∣ pic)) (e k (omega arith))
 
-pub row-same :
-    (rects : List ℕ) (n : ℕ) (val other : ℕ → ℕ) (w tx py : ℕ) (pic : List ℕ) → ((x : ℕ) → x < 64 → val x ≡ other x) →
-    rowDrawn rects n val w tx py pic ≡ rowDrawn rects n other w tx py pic
-unfolding rowDrawn
-row-same rects n val other w tx py pic e = stores-same _ _ val other 64 0 pic e
-
 pub row-length : (rects : List ℕ) (n : ℕ) (val : ℕ → ℕ) (w tx py : ℕ) (pic : List ℕ) → length (rowDrawn rects n val w tx py pic) ≡ length pic
 unfolding rowDrawn
 row-length rects n val w tx py pic = stores-length _ _ _ 64 0 pic
