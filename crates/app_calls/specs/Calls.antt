@@ -78,7 +78,7 @@ fourBack s out =
 -- ---- frame calls: with three lists of these lengths, and a fourth of 4,096
 
 unfoldable pub frameMade : Session → List ℕ → ℕ → ℕ → ℕ → List ℕ → List ℕ
-frameMade s m one two three pic = framePicture (frameNumber (callFault s (length pic) one two three 4096) s m) s m pic
+frameMade s m one two three pic = framePicture (frameNumber (callFault 0 s (length pic) one two three 4096) s m) s m pic
 
 -- there are lists of at most 8,192 numbers to be lent
 unfoldable pub fits : ℕ → ℕ → ℕ → Bool

@@ -30,8 +30,9 @@ pub record ReadHeader : Type 0 where
 abbrev pub sessionAfter : ReadHeader → Session
 sessionAfter c = headerRecord (c .answer) (c .session)
 
--- read_frame
+-- read_frame, and read_frame_32: word is 0 where the picture has words of 16 bits, 1 where it has words of 32
 pub record ReadFrame : Type 0 where
+  pub word : ℕ
   pub session : Session
   pub message : List ℕ
   pub picture : List ℕ
@@ -45,7 +46,7 @@ pub record ReadFrame : Type 0 where
   pub cr′ : List ℤ
   pub scratch′ : List ℤ
   pub answer : FrameReading
-  pub promise : FrameRead session message picture y cb cr scratch picture′ y′ cb′ cr′ scratch′ answer
+  pub promise : FrameRead word session message picture y cb cr scratch picture′ y′ cb′ cr′ scratch′ answer
 
 -- read_component
 pub record ReadComponent : Type 0 where
@@ -111,8 +112,9 @@ pub record CReadHeader : Type 0 where
 abbrev pub as-header : CReadHeader → ReadHeader
 as-header c = record { session = c .session; message = c .message; answer = headerReading (c .session) (c .message); promise = refl }
 
--- xurbalenz_read_frame
+-- xurbalenz_read_frame, and xurbalenz_read_frame_32
 pub record CReadFrame : Type 0 where
+  pub word : ℕ
   pub session : Session
   pub message : List ℕ
   pub picture : List ℕ
@@ -128,11 +130,12 @@ pub record CReadFrame : Type 0 where
   pub scratch′ : List ℤ
   pub tiles : ℕ
   pub number : ℕ
-  pub promise : ReadFrameCall session session′ message picture y cb cr scratch picture′ y′ cb′ cr′ scratch′ tiles number
+  pub promise : ReadFrameCall word session session′ message picture y cb cr scratch picture′ y′ cb′ cr′ scratch′ tiles number
 
 -- the call of the panel that it is
 abbrev pub as-frame : CReadFrame → ReadFrame
 as-frame c = record {
+  word = c .word;
   session = c .session;
   message = c .message;
   picture = c .picture;
@@ -145,7 +148,7 @@ as-frame c = record {
   cb′ = c .cb′;
   cr′ = c .cr′;
   scratch′ = c .scratch′;
-  answer = frameAnswer (c .session) (c .message) (c .picture) (c .y) (c .cb) (c .cr) (c .scratch);
+  answer = frameAnswer (c .word) (c .session) (c .message) (c .picture) (c .y) (c .cb) (c .cr) (c .scratch);
   promise = c .promise .lists;
 }
 

@@ -1,9 +1,10 @@
-// Document 01's "Colour", both ways: a pixel's three bytes to Y, Cb and Cr, and these back to three bytes and to the picture's 5-6-5 word.
+// Document 01's "Colour", both ways: a pixel's three bytes to Y, Cb and Cr, and these back to three bytes and to the picture's word: 5-6-5,
+// or, on a glass of 32 bits (document 02, "A door with 32-bit glass"), the three bytes side by side.
 // All in 32 bits (document 02, "No 64-bit products on the small door panel"): on the way back a sample is split at 65,536, and with it its products.
 ghost use mathlib.Core.Path.{_≡_};
 ghost use lib.IntN.{pos, _+ℤ_, _*ℤ_};
 ghost use Rattle.whole.specs.laws.Near.{Near, Upto};
-ghost use Rattle.colour.specs.Colour.{clampByte, cut21, lumaOf, cbOf, crOf, rgbOf, pack565, wordOf};
+ghost use Rattle.colour.specs.Colour.{clampByte, cut21, lumaOf, cbOf, crOf, rgbOf, pack565, pack888, wordOf};
 ghost use Rattle.colour.specs.laws.Steps.{weighed, mix, joined, Small};
 
 // A pixel's three bytes.
@@ -109,10 +110,24 @@ fn pack(p: Rgb) -> u16
     (p.r as u16) / 8 * 2048 + (p.g as u16) / 4 * 32 + (p.b as u16) / 8
 }
 
-// The picture's word of a pixel's samples.
+fn pack_32(p: Rgb) -> u32
+    ensures { λ w. ⌜ w ≡ pack888 (p .r) (p .g) (p .b) ⌝ }
+{
+    (p.r as u32) * 65536 + (p.g as u32) * 256 + (p.b as u32)
+}
+
+// The picture's word of a pixel's samples, on a glass of 16 bits.
 pub fn word(y: i32, cb: i32, cr: i32) -> u16
     requires { ⌜ Near 268435456 y × Near 268435456 cb × Near 268435456 cr ⌝ }
-    ensures { λ w. ⌜ w ≡ wordOf y cb cr ⌝ }
+    ensures { λ w. ⌜ w ≡ wordOf 0 y cb cr ⌝ }
 {
     pack(rgb_of(y, cb, cr))
+}
+
+// The same on a glass of 32 bits.
+pub fn word_32(y: i32, cb: i32, cr: i32) -> u32
+    requires { ⌜ Near 268435456 y × Near 268435456 cb × Near 268435456 cr ⌝ }
+    ensures { λ w. ⌜ w ≡ wordOf 1 y cb cr ⌝ }
+{
+    pack_32(rgb_of(y, cb, cr))
 }

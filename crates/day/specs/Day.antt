@@ -22,17 +22,19 @@ use Rattle.calls.specs.Calls.{ReadHeader, sessionAfter, ReadFrame}
 
 -- ---- "Take any list of header and frame calls from a fresh session, with the same picture handed on from call to call, no sharing and no other writer."
 
--- what goes on from call to call. Both belong to the calls alone: nobody else writes them, and no call is lent one memory twice
+-- what goes on from call to call: the record, and a picture of a word size (0 is 16 bits, 1 is 32). Both belong to the calls alone: nobody else writes them, and no call is lent one memory twice
 pub record State : Type 0 where
   pub session : Session
+  pub word : ℕ
   pub picture : List ℕ
 
-abbrev pub state : Session → List ℕ → State
-state s pic = record { session = s; picture = pic }
+abbrev pub state : Session → ℕ → List ℕ → State
+state s word pic = record { session = s; word = word; picture = pic }
 
--- "a fresh session": 01's record of zeros, on the glass that it was opened for (0 or 1, by request Thirteen), over any picture
-abbrev pub fresh : ℕ → List ℕ → State
-fresh glass pic = state (recordOf glass 0 0 0 0) pic
+-- "a fresh session": 01's record of zeros, on the glass that it was opened for (0 or 1, by request Thirteen), over any picture of any
+-- word size: the size that its glass does not have is answered with 2
+abbrev pub fresh : ℕ → ℕ → List ℕ → State
+fresh glass word pic = state (recordOf glass 0 0 0 0) word pic
 
 -- a call: what it was given, what it answered and what it left are its fields, and its promise holds of them
 pub data Call : Type 0 where
@@ -43,13 +45,16 @@ pub data Call : Type 0 where
 pub record HeaderStep (s : State) (c : ReadHeader) (t : State) : Type 0 where
   pub given : c .session ≡ s .session
   pub left : t .session ≡ sessionAfter c
+  pub word-kept : t .word ≡ s .word
   pub picture-kept : t .picture ≡ s .picture
 
 -- a frame call is given the record, which it does not change, and is lent the picture
 pub record FrameStep (s : State) (c : ReadFrame) (t : State) : Type 0 where
   pub given : c .session ≡ s .session
+  pub sized : c .word ≡ s .word
   pub lent : c .picture ≡ s .picture
   pub session-kept : t .session ≡ s .session
+  pub word-kept : t .word ≡ s .word
   pub left : t .picture ≡ c .picture′
 
 abbrev pub Step : State → Call → State → Type 0
@@ -91,9 +96,9 @@ accepted [] = []
 accepted (header c ∷ cs) = accepted cs
 accepted (frame c ∷ cs) = eqb (frameReadingNumber (c .answer)) 0 ⇒ c ∷ accepted cs ∣ accepted cs
 
--- a frame drawn over a picture, under the size and the mode that the record had at that call
+-- a frame drawn over a picture, on the glass and under the size and the mode that the record had at that call
 abbrev pub drawnBy : ReadFrame → List ℕ → List ℕ
-drawnBy c pic = framed (c .session .mode) (c .session .width) (c .session .height) (c .message) pic
+drawnBy c pic = framed (c .session .glass) (c .session .mode) (c .session .width) (c .session .height) (c .message) pic
 
 unfoldable pub drawnOver : List ReadFrame → List ℕ → List ℕ
 drawnOver [] pic = pic
@@ -109,7 +114,7 @@ pub data Put : Type 0 where
 
 -- a listed tile's word of the pixel
 abbrev pub tilePut : ReadFrame → ℕ → ℕ → Found → Put
-tilePut c px py (found t) = word (tileWord (c .session .mode) (setAt (c .message) (setPlace (c .message))) t (64 * (py % 64) + px % 64))
+tilePut c px py (found t) = word (tileWord (c .session .glass) (c .session .mode) (setAt (c .message) (setPlace (c .message))) t (64 * (py % 64) + px % 64))
 tilePut c px py none = no-word
 
 -- at a pixel of the channel

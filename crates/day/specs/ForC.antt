@@ -12,11 +12,14 @@ pub data CallC : Type 0 where
 pub record HeaderStepC (s : State) (c : CReadHeader) (t : State) : Type 0 where
   pub given : c .session ≡ s .session
   pub left : t .session ≡ c .session′
+  pub word-kept : t .word ≡ s .word
   pub picture-kept : t .picture ≡ s .picture
 
 pub record FrameStepC (s : State) (c : CReadFrame) (t : State) : Type 0 where
   pub given : c .session ≡ s .session
+  pub sized : c .word ≡ s .word
   pub lent : c .picture ≡ s .picture
+  pub word-kept : t .word ≡ s .word
   pub session-left : t .session ≡ c .session′
   pub left : t .picture ≡ c .picture′
 

@@ -1,5 +1,5 @@
 -- There is a day with a refused call, a sync in the middle and an accepted frame on each side of it: our own headers and our own frame, then the headers again,
--- with the frame too early after the sync (12), and the frame again. In both modes.
+-- with the frame too early after the sync (12), and the frame again. In both modes, on either glass.
 -- Assumes nothing.
 use Prim.Native.Nat.{ℕ, _*_, _≤_}
 use mathlib.Core.Path.{_≡_, refl, sym, ap, subst, _∙_}
@@ -13,6 +13,7 @@ use Rattle.wire.specs.laws.Wrote.{wrote-bytes}
 use Rattle.session.specs.declared.Session.{Session}
 use Rattle.session.specs.declared.HeaderReading.the-variants.{Taken}
 use Rattle.session.specs.Header.{recordOf, keptGlass, ready}
+use Rattle.session.specs.laws.Header.{kept-glass, glass-kept}
 use Rattle.headers.specs.Headers.{syncOf, versionsOf, channelsOf, contextOf, headersOf}
 use Rattle.headers.specs.laws.ReadBack.{AllTaken, our-headers}
 use Rattle.frame.specs.Frame.{frameReadingNumber}
@@ -25,7 +26,7 @@ use Rattle.day.specs.Day.{State, state, fresh, header, frame, Day, no-call, acc
 use Rattle.day.specs.laws.Once.{headerCall, frameCall, header-then, frame-then}
 use Rattle.day.specs.laws.Days.{days}
 
-pub record DayMet (mode : ℕ) : Type 0 where
+pub record DayMet (glass mode : ℕ) : Type 0 where
   pub first : List ℕ
   pub last : State
   pub one : ReadHeader
@@ -40,12 +41,12 @@ pub record DayMet (mode : ℕ) : Type 0 where
   pub eight : ReadHeader
   pub after : ReadFrame
   pub day :
-      Day (fresh 0 first)
+      Day (fresh glass glass first)
       (header one ∷ header two ∷ header three ∷ header four ∷ frame before
       ∷ header sync ∷ frame early ∷ header six ∷ header seven ∷ header eight ∷ frame after ∷ []) last
   pub before-accepted : frameReadingNumber (before .answer) ≡ 0
   pub sync-is : sync .message ≡ syncOf
-  pub sync-taken : sync .answer ≡ Taken (recordOf 0 1 0 0 0)
+  pub sync-taken : sync .answer ≡ Taken (recordOf glass 1 0 0 0)
   pub early-refused : frameReadingNumber (early .answer) ≡ 12
   pub after-accepted : frameReadingNumber (after .answer) ≡ 0
   pub before-mode : before .session .mode ≡ mode
@@ -62,7 +63,7 @@ unready : (g : ℕ) (x : Session) → x ≡ recordOf g 1 0 0 0 → ready x ≡ f
 unfolding ready _!_⨾_
 unready g x e = rw e
 
-module _ (mode : ℕ) (m : Met mode) where
+module _ (glass : ℕ) (either : glass ≤ 1) (mode : ℕ) (m : Met glass mode) where
   abbrev sent : List ℕ
   sent = sentBy (m .headers .answer) (m .headers .out′)
 
@@ -83,12 +84,12 @@ module _ (mode : ℕ) (m : Met mode) where
   h4 s = headerCall (sessionAfter (h3 s)) (take 13 (drop 34 sent))
 
   abbrev drawing : Session → List ℕ → ReadFrame
-  drawing s pic = frameCall s bytes pic 4096 4096 4096 4096
+  drawing s pic = frameCall glass s bytes pic 4096 4096 4096 4096
 
   abbrev f1 : Session → List ℕ → ReadFrame
   f1 s pic = drawing (sessionAfter (h4 s)) pic
 
-  ours : (s : Session) (pic : List ℕ) → keptGlass (s .glass) ≡ 0 → length pic ≡ length (m .glass .picture) → OurCalls (m .headers) (h1 s) (h2 s) (h3 s) (h4 s) (m .frame) (f1 s pic)
+  ours : (s : Session) (pic : List ℕ) → glass ≡ keptGlass (s .glass) → length pic ≡ length (m .read .picture) → OurCalls (m .headers) (h1 s) (h2 s) (h3 s) (h4 s) (m .frame) (f1 s pic)
   ours s pic g l = record {
     headers-done = m .calls .headers-done;
     sync = refl;
@@ -130,18 +131,20 @@ module _ (mode : ℕ) (m : Met mode) where
   moded s = ap (λ (x : Session). x .mode) (readied s) ∙ sym (m .calls .same-mode) ∙ m .in-mode
 
   abbrev r0 : Session
-  r0 = recordOf 0 0 0 0 0
+  r0 = recordOf glass 0 0 0 0
 
   abbrev r1 : Session
   r1 = sessionAfter (h4 r0)
 
-  -- the glass is 0 from first to last
-  r1-glass : keptGlass (r1 .glass) ≡ 0
-  unfolding keptGlass _⇒_∣_
-  r1-glass = ap (λ (x : Session). keptGlass (x .glass)) (readied r0)
+  -- the glass is the same from first to last
+  r0-glass : glass ≡ keptGlass (r0 .glass)
+  r0-glass = sym (kept-glass glass either)
+
+  r1-glass : glass ≡ keptGlass (r1 .glass)
+  r1-glass = r0-glass ∙ sym (kept-glass _ (glass-kept glass)) ∙ sym (ap (λ (x : Session). keptGlass (x .glass)) (readied r0))
 
   abbrev p0 : List ℕ
-  p0 = m .glass .picture
+  p0 = m .read .picture
 
   abbrev p1 : List ℕ
   p1 = f1 r0 p0 .picture′
@@ -153,18 +156,17 @@ module _ (mode : ℕ) (m : Met mode) where
   p2 = refused .picture′
 
   abbrev made :
-      Day (fresh 0 p0)
+      Day (fresh glass glass p0)
       (header (h1 r0) ∷ header (h2 r0) ∷ header (h3 r0) ∷ header (h4 r0) ∷ frame (f1 r0 p0)
       ∷ header (h1 r1) ∷ frame refused ∷ header (h2 r1) ∷ header (h3 r1) ∷ header (h4 r1) ∷ frame (f1 r1 p2) ∷ [])
-      (state (sessionAfter (h4 r1)) (f1 r1 p2 .picture′))
+      (state (sessionAfter (h4 r1)) glass (f1 r1 p2 .picture′))
   made =
       header-then _ _ (header-then _ _ (header-then _ _ (header-then _ _ (frame-then _ bytes 4096 4096 4096 4096
       (header-then _ _ (frame-then _ bytes 4096 4096 4096 4096
       (header-then _ _ (header-then _ _ (header-then _ _ (frame-then _ bytes 4096 4096 4096 4096 no-call))))))))))
 
   first-ours : OurFrame (h1 r0) (h2 r0) (h3 r0) (h4 r0) (m .frame) (f1 r0 p0)
-  unfolding keptGlass _⇒_∣_
-  first-ours = demands .two .our-frames _ _ _ _ _ _ _ (ours r0 p0 refl refl)
+  first-ours = demands .two .our-frames _ _ _ _ _ _ _ (ours r0 p0 r0-glass refl)
 
   last-ours : OurFrame (h1 r1) (h2 r1) (h3 r1) (h4 r1) (m .frame) (f1 r1 p2)
   last-ours = demands .two .our-frames _ _ _ _ _ _ _ (ours r1 p2 r1-glass (demands .two .long refused ∙ demands .two .long (f1 r0 p0)))
@@ -185,35 +187,35 @@ picked :
 unfolding accepted drawnOver _⇒_∣_
 picked a b c pic x y z = rw (x, y, z)
 
-met : (mode : ℕ) → Met mode → DayMet mode
+met : (glass : ℕ) → glass ≤ 1 → (mode : ℕ) → Met glass mode → DayMet glass mode
 unfolding accepted
-met mode m = record {
-  first = p0 mode m;
-  last = state _ (f1 mode m (r1 mode m) (p2 mode m) .picture′);
-  one = h1 mode m (r0 mode m);
-  two = h2 mode m (r0 mode m);
-  three = h3 mode m (r0 mode m);
-  four = h4 mode m (r0 mode m);
-  before = f1 mode m (r0 mode m) (p0 mode m);
-  sync = h1 mode m (r1 mode m);
-  early = refused mode m;
-  six = h2 mode m (r1 mode m);
-  seven = h3 mode m (r1 mode m);
-  eight = h4 mode m (r1 mode m);
-  after = f1 mode m (r1 mode m) (p2 mode m);
-  day = made mode m;
-  before-accepted = first-ours mode m .accepted;
-  sync-is = is-sync mode m;
-  sync-taken = all-taken mode m (r1 mode m) .one ∙ ap (λ (g : ℕ). Taken (recordOf g 1 0 0 0)) (r1-glass mode m);
-  early-refused = early-number mode m;
-  after-accepted = last-ours mode m .accepted;
-  before-mode = moded mode m (r0 mode m);
-  after-mode = moded mode m (r1 mode m);
-  shown = days .drawn (made mode m) ∙ picked _ _ _ _ (first-ours mode m .accepted) (early-number mode m) (last-ours mode m .accepted);
+met glass l mode m = record {
+  first = p0 glass l mode m;
+  last = state _ glass (f1 glass l mode m (r1 glass l mode m) (p2 glass l mode m) .picture′);
+  one = h1 glass l mode m (r0 glass l mode m);
+  two = h2 glass l mode m (r0 glass l mode m);
+  three = h3 glass l mode m (r0 glass l mode m);
+  four = h4 glass l mode m (r0 glass l mode m);
+  before = f1 glass l mode m (r0 glass l mode m) (p0 glass l mode m);
+  sync = h1 glass l mode m (r1 glass l mode m);
+  early = refused glass l mode m;
+  six = h2 glass l mode m (r1 glass l mode m);
+  seven = h3 glass l mode m (r1 glass l mode m);
+  eight = h4 glass l mode m (r1 glass l mode m);
+  after = f1 glass l mode m (r1 glass l mode m) (p2 glass l mode m);
+  day = made glass l mode m;
+  before-accepted = first-ours glass l mode m .accepted;
+  sync-is = is-sync glass l mode m;
+  sync-taken = all-taken glass l mode m (r1 glass l mode m) .one ∙ ap (λ (g : ℕ). Taken (recordOf g 1 0 0 0)) (sym (r1-glass glass l mode m));
+  early-refused = early-number glass l mode m;
+  after-accepted = last-ours glass l mode m .accepted;
+  before-mode = moded glass l mode m (r0 glass l mode m);
+  after-mode = moded glass l mode m (r1 glass l mode m);
+  shown = days .drawn (made glass l mode m) ∙ picked _ _ _ _ (first-ours glass l mode m .accepted) (early-number glass l mode m) (last-ours glass l mode m .accepted);
 }
 
-pub day-met-1 : DayMet 1
-day-met-1 = met 1 met-1
+pub day-met-1 : (glass : ℕ) → glass ≤ 1 → DayMet glass 1
+day-met-1 glass l = met glass l 1 (met-1 glass l)
 
-pub day-met-4 : DayMet 4
-day-met-4 = met 4 met-4
+pub day-met-4 : (glass : ℕ) → glass ≤ 1 → DayMet glass 4
+day-met-4 glass l = met glass l 4 (met-4 glass l)

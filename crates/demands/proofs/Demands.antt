@@ -15,6 +15,7 @@ use Rattle.wire.specs.declared.Writing.{Writing}
 use Rattle.wire.specs.Wrote.{lengthSaid, outLeft, Wrote}
 use Rattle.session.specs.declared.Session.{Session}
 use Rattle.session.specs.Header.{recordOf, keptGlass}
+use Rattle.session.specs.laws.Header.{glass-kept}
 use Rattle.session.specs.laws.Numbers.{header-among}
 use Rattle.session.specs.laws.Cases as HeaderOnesLaws
 use Rattle.headers.specs.Headers.{HeadersWritten}
@@ -54,22 +55,22 @@ module _ (c : ReadFrame) where
 
   frame-number : number ≡ firstFault c
   unfolding frameNumber
-  frame-number = number-is _ _ _ _ _ _ _ _ _ _ _ _ _ (c .promise)
+  frame-number = number-is _ _ _ _ _ _ _ _ _ _ _ _ _ _ (c .promise)
 
   frame-refused : number ≢ 0 → (c .picture′ ≡ c .picture) × (frameReadingTiles (c .answer) ≡ 0)
-  frame-refused h = refused _ _ _ _ _ _ _ _ _ _ _ _ _ (c .promise) h
+  frame-refused h = refused _ _ _ _ _ _ _ _ _ _ _ _ _ _ (c .promise) h
 
   lists-untouched : Among (12 ∷ 2 ∷ []) number → Untouched c
   lists-untouched e =
-      let u = untouched _ _ _ _ _ _ _ _ _ _ _ _ _ (c .promise) e in
+      let u = untouched _ _ _ _ _ _ _ _ _ _ _ _ _ _ (c .promise) e in
       record { y-kept = u .y-is; cb-kept = u .cb-is; cr-kept = u .cr-is; scratch-kept = u .tmp-is }
 
   frame-past : (i : ℕ) (b : Bool) → eqb number 0 ≡ b → c .session .height * c .session .width ≤ i → getD (c .picture′) i 0 ≡ getD (c .picture) i 0
-  frame-past i true e l = shown-past _ _ _ _ _ _ _ _ _ _ _ _ _ (c .promise) (eqb-true number 0 e) i l
+  frame-past i true e l = shown-past _ _ _ _ _ _ _ _ _ _ _ _ _ _ (c .promise) (eqb-true number 0 e) i l
   frame-past i false e l = ap (λ (p : List ℕ). getD p i 0) (frame-refused (eqb-false number 0 e) .0)
 
   frame-long : (b : Bool) → eqb number 0 ≡ b → length (c .picture′) ≡ length (c .picture)
-  frame-long true e = shown-length _ _ _ _ _ _ _ _ _ _ _ _ _ (c .promise) (eqb-true number 0 e)
+  frame-long true e = shown-length _ _ _ _ _ _ _ _ _ _ _ _ _ _ (c .promise) (eqb-true number 0 e)
   frame-long false e = ap length (frame-refused (eqb-false number 0 e) .0)
 
 -- ---- the writers
@@ -105,7 +106,7 @@ module _ (h : WriteHeaders) (one two three four : ReadHeader) (s : WriteFrame) (
 
   abbrev ReadFor : Session → Type 0
   ReadFor x =
-      FrameRead x (sentBy (s .answer) (s .out′)) (f .picture) (f .y) (f .cb) (f .cr) (f .scratch)
+      FrameRead (f .word) x (sentBy (s .answer) (s .out′)) (f .picture) (f .y) (f .cb) (f .cr) (f .scratch)
       (f .picture′) (f .y′) (f .cb′) (f .cr′) (f .scratch′) (f .answer)
 
   glass : ReadFor (f .session)
@@ -118,8 +119,10 @@ module _ (h : WriteHeaders) (one two three four : ReadHeader) (s : WriteFrame) (
       let b = taken-by two _ _ _ (o .then-two ∙ a .1) (o .versions) (t .two) in
       let c = taken-by three _ _ _ (o .then-three ∙ b .1) (o .channels) (t .three) in
       let d = taken-by four _ _ _ (o .then-four ∙ c .1) (o .context) (t .four) in
-      let e : recordOf (keptGlass (one .session .glass)) 4 (s .width) (s .height) (s .mode) ≡ recordOf 0 4 (s .width) (s .height) (s .mode) = rw (o .glass) in
-      let r = our-own-frames (one .session) (s .width) (s .height) (s .mode) (h .out) (h .out′) (h .answer) wrote (o .headers-done)
+      let e : recordOf (keptGlass (one .session .glass)) 4 (s .width) (s .height) (s .mode) ≡ recordOf (f .word) 4 (s .width) (s .height) (s .mode) =
+      ap (λ (g : ℕ). recordOf g 4 (s .width) (s .height) (s .mode)) (sym (o .glass)) in
+      let either : f .word ≤ 1 = subst⁻¹ (λ (g : ℕ). g ≤ 1) (o .glass) (glass-kept (one .session .glass)) in
+      let r = our-own-frames (f .word) (one .session) (s .width) (s .height) (s .mode) (h .out) (h .out′) (h .answer) either wrote (o .headers-done)
       (s .quant) (s .index) (s .pixels) (s .list) (s .list′) (s .scratch) (s .scratch′) (s .out) (s .out′) (s .answer) (o .ten) (s .promise) (o .frame-done)
       (f .picture) (f .y) (f .cb) (f .cr) (f .scratch) (f .picture′) (f .y′) (f .cb′) (f .cr′) (f .scratch′) (f .answer)
       (o .y-long) (o .cb-long) (o .cr-long) (o .scratch-long) (o .room) (subst ReadFor (o .then-frame ∙ d .1 ∙ e) glass) in
@@ -141,7 +144,7 @@ small-numbers : SmallNumbers
 unfolding each among
 small-numbers = record {
   read-header = λ c. subst⁻¹ (λ (n : ℕ). n ≤ 13) (header-number c) (among-most 13 (header-among (c .session) (c .message)) refl);
-  read-frame = λ c. among-most 13 (frame-among _ _ _ _ _ _ _ _ _ _ _ _ _ (c .promise)) refl;
+  read-frame = λ c. among-most 13 (frame-among _ _ _ _ _ _ _ _ _ _ _ _ _ _ (c .promise)) refl;
   read-component = λ c. subst⁻¹ (λ (n : ℕ). n ≤ 13) (component-number c) (among-most 13 (CodeNumbers.fault-among (c .mode) (length (c .list)) (c .bytes)) refl);
   write-component = λ c. subst⁻¹ (λ (n : ℕ). n ≤ 13) (c .promise .number) (among-most 13 (write-among (c .mode) (c .list) (length (c .out))) refl);
   write-headers = λ c. subst⁻¹ (λ (n : ℕ). n ≤ 13) (c .promise .number) (among-most 13 (headers-among (c .width) (c .height) (c .mode) (length (c .out))) refl);
@@ -154,22 +157,22 @@ demand-1 : Demand1
 demand-1 = record {
   header-number = header-number;
   frame-number = frame-number;
-  frame-whole = λ c k. accepted _ _ _ _ _ _ _ _ _ _ _ _ _ (c .promise) k .drawn;
+  frame-whole = λ c k. accepted _ _ _ _ _ _ _ _ _ _ _ _ _ _ (c .promise) k .drawn;
   header-taken = header-taken;
   header-refused = header-refused;
   frame-refused = λ c h. frame-refused c h .0;
   lists-untouched = lists-untouched;
-  lists-zeros = λ c o. cleared _ _ _ _ _ _ _ _ _ _ _ _ _ (c .promise) o;
+  lists-zeros = λ c o. cleared _ _ _ _ _ _ _ _ _ _ _ _ _ _ (c .promise) o;
   list-untouched = λ c e. CodeNumbers.list-untouched _ _ _ _ _ (c .promise) e;
   list-zeros = λ c e. CodeNumbers.list-zeros _ _ _ _ _ (c .promise) e;
 }
 
 demand-2 : Demand2
 demand-2 = record {
-  pixel = λ c k px py a b. shown-pixel _ _ _ _ _ _ _ _ _ _ _ _ _ (c .promise) k px py a b;
+  pixel = λ c k px py a b. shown-pixel _ _ _ _ _ _ _ _ _ _ _ _ _ _ (c .promise) k px py a b;
   past = λ c i l. frame-past c i _ refl l;
   long = λ c. frame-long c _ refl;
-  tiles = λ c k. accepted _ _ _ _ _ _ _ _ _ _ _ _ _ (c .promise) k .counted;
+  tiles = λ c k. accepted _ _ _ _ _ _ _ _ _ _ _ _ _ _ (c .promise) k .counted;
   no-tiles = λ c h. frame-refused c h .1;
   our-frames = our-frame;
   frame-writer = λ c. c .promise .wrote .number;

@@ -1,6 +1,6 @@
--- What demand 2 asks of our own calls (`OurCalls`) is met: one grey pixel, ten quantisers of 6, in both modes.
+-- What demand 2 asks of our own calls (`OurCalls`) is met: one grey pixel, ten quantisers of 6, in both modes, on either glass.
 -- Assumes nothing.
-use Prim.Native.Nat.{ℕ}
+use Prim.Native.Nat.{ℕ, _≤_}
 use mathlib.Core.Path.{_≡_, refl, sym, _∙_}
 use mathlib.Core.Bool.{true}
 use mathlib.Core.List.{List, [], _∷_}
@@ -8,11 +8,12 @@ use native.Mathlib.Omega.{arith}
 use lib.IntN.{ℤ, pos}
 use lib.ListN.{length, take, drop, replicate}
 use borrow.Author.Tests.{le-leb}
-use Rattle.whole.specs.Row.{_!_⨾_, _⇒_∣_}
+use Rattle.whole.specs.Row.{_!_⨾_}
 use Rattle.whole.specs.laws.Row.{passes, goes-on}
 use Rattle.bands.specs.Bands.{goodTo}
 use Rattle.session.specs.declared.Session.{Session}
-use Rattle.session.specs.Header.{recordOf, keptGlass, sizeGood, headerReading}
+use Rattle.session.specs.Header.{recordOf, sizeGood, headerReading}
+use Rattle.session.specs.laws.Header.{kept-glass}
 use Rattle.wire.specs.Le.{written}
 use Rattle.wire.specs.Mode.{isMode}
 use Rattle.wire.specs.laws.Mode.{is-1, is-4}
@@ -40,10 +41,11 @@ abbrev asked : Session → List ℕ → ReadHeader
 asked s m = record { session = s; message = m; answer = headerReading s m; promise = refl }
 
 -- a frame call on a message, a picture of one word
-abbrev drawn : Session → List ℕ → ReadFrame
-drawn s m =
-    let f : ℕ = callFault s 1 4096 4096 4096 4096 in
+abbrev drawn : ℕ → Session → List ℕ → ReadFrame
+drawn word s m =
+    let f : ℕ = callFault word s 1 4096 4096 4096 4096 in
     record {
+      word = word;
       session = s;
       message = m;
       picture = 0 ∷ [];
@@ -60,7 +62,7 @@ drawn s m =
       promise = record { answer = refl; picture = refl; y-list = refl; cb-list = refl; cr-list = refl; tmp-list = refl };
     }
 
-module _ (mode : ℕ) (good : isMode mode ≡ true) (sendable : Sendable grey 1 1 mode (oneFor sixes)) where
+module _ (glass : ℕ) (either : glass ≤ 1) (mode : ℕ) (good : isMode mode ≡ true) (sendable : Sendable grey 1 1 mode (oneFor sixes)) where
   headers-0 : 0 ≡ headersFault 1 1 mode 47
   unfolding headersFault sizeGood _!_⨾_
   headers-0 = rw good
@@ -101,7 +103,7 @@ module _ (mode : ℕ) (good : isMode mode ≡ true) (sendable : Sendable grey 1 
   sent = sentBy (wrote-headers .answer) (wrote-headers .out′)
 
   abbrev one : ReadHeader
-  one = asked (recordOf 0 0 0 0 0) (take 12 sent)
+  one = asked (recordOf glass 0 0 0 0) (take 12 sent)
 
   abbrev two : ReadHeader
   two = asked (sessionAfter one) (take 10 (drop 12 sent))
@@ -112,15 +114,15 @@ module _ (mode : ℕ) (good : isMode mode ≡ true) (sendable : Sendable grey 1 
   abbrev four : ReadHeader
   four = asked (sessionAfter three) (take 13 (drop 34 sent))
 
-  met : OurCalls wrote-headers one two three four wrote-frame (drawn (sessionAfter four) (sentBy (wrote-frame .answer) (wrote-frame .out′)))
-  unfolding writingNumber keptGlass _⇒_∣_
+  met : OurCalls wrote-headers one two three four wrote-frame (drawn glass (sessionAfter four) (sentBy (wrote-frame .answer) (wrote-frame .out′)))
+  unfolding writingNumber
   met = record {
     headers-done = refl;
     sync = refl;
     versions = refl;
     channels = refl;
     context = refl;
-    glass = refl;
+    glass = sym (kept-glass glass either);
     then-two = refl;
     then-three = refl;
     then-four = refl;
@@ -138,23 +140,35 @@ module _ (mode : ℕ) (good : isMode mode ≡ true) (sendable : Sendable grey 1 
     room = omega arith;
   }
 
--- calls that meet it, for a mode
-pub record Met (mode : ℕ) : Type 0 where
+-- calls that meet it, for a glass and a mode
+pub record Met (glass mode : ℕ) : Type 0 where
   pub headers : WriteHeaders
   pub one : ReadHeader
   pub two : ReadHeader
   pub three : ReadHeader
   pub four : ReadHeader
   pub frame : WriteFrame
-  pub glass : ReadFrame
-  pub calls : OurCalls headers one two three four frame glass
+  pub read : ReadFrame
+  pub calls : OurCalls headers one two three four frame read
+  pub on-glass : read .word ≡ glass
   pub in-mode : frame .mode ≡ mode
 
-met-in : (mode : ℕ) → isMode mode ≡ true → Sendable grey 1 1 mode (oneFor sixes) → Met mode
-met-in mode g s = record { headers = wrote-headers mode g s; one = one mode g s; two = two mode g s; three = three mode g s; four = four mode g s; frame = wrote-frame mode g s; glass = drawn _ _; calls = met mode g s; in-mode = refl }
+met-in : (glass : ℕ) → glass ≤ 1 → (mode : ℕ) → isMode mode ≡ true → Sendable grey 1 1 mode (oneFor sixes) → Met glass mode
+met-in glass l mode g s = record {
+  headers = wrote-headers glass l mode g s;
+  one = one glass l mode g s;
+  two = two glass l mode g s;
+  three = three glass l mode g s;
+  four = four glass l mode g s;
+  frame = wrote-frame glass l mode g s;
+  read = drawn glass _ _;
+  calls = met glass l mode g s;
+  on-glass = refl;
+  in-mode = refl;
+}
 
-pub met-1 : Met 1
-met-1 = met-in 1 is-1 sendable-1
+pub met-1 : (glass : ℕ) → glass ≤ 1 → Met glass 1
+met-1 glass l = met-in glass l 1 is-1 sendable-1
 
-pub met-4 : Met 4
-met-4 = met-in 4 is-4 sendable-4
+pub met-4 : (glass : ℕ) → glass ≤ 1 → Met glass 4
+met-4 glass l = met-in glass l 4 is-4 sendable-4

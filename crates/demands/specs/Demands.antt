@@ -50,7 +50,7 @@ use Rattle.day.specs.Days.{Days}
 -- 01's order: "12, then 2, then the blocks in wire order"
 abbrev pub firstFault : ReadFrame → ℕ
 firstFault c =
-    early (c .session) (c .picture) (c .y) (c .cb) (c .cr) (c .scratch)
+    early (c .word) (c .session) (c .picture) (c .y) (c .cb) (c .cr) (c .scratch)
     ⨟ frameFault judged (c .session .width) (c .session .height) (c .session .mode) (c .message)
 
 -- the four work lists are those that came in
@@ -65,7 +65,7 @@ pub record Demand1 : Type 0 where
   pub header-number : (c : ReadHeader) → headerNumber (c .answer) ≡ headerFault (c .session) (c .message)
   pub frame-number : (c : ReadFrame) → frameReadingNumber (c .answer) ≡ firstFault c
   -- drawn whole
-  pub frame-whole : (c : ReadFrame) → frameReadingNumber (c .answer) ≡ 0 → c .picture′ ≡ framed (c .session .mode) (c .session .width) (c .session .height) (c .message) (c .picture)
+  pub frame-whole : (c : ReadFrame) → frameReadingNumber (c .answer) ≡ 0 → c .picture′ ≡ framed (c .session .glass) (c .session .mode) (c .session .width) (c .session .height) (c .message) (c .picture)
   -- what a taken header leaves
   pub header-taken : (c : ReadHeader) → headerNumber (c .answer) ≡ 0 → sessionAfter c ≡ recordAfter (c .session) (c .message)
   -- "A refused header or frame changes neither record nor picture."
@@ -97,7 +97,7 @@ abbrev pub shownWord : ReadFrame → ℕ → ℕ → ℕ
 shownWord c px py =
     let old : ℕ = getD (c .picture) (py * c .session .width + px) 0 in
     inRegion (rectsOf (c .message) 14) (rectCount (c .message) 14) px py
-    ⇒ wordIn (tileWord (c .session .mode) (setAt (c .message) (setPlace (c .message)))) px py (lastTile (frameTiles (c .message)) px py) old
+    ⇒ wordIn (tileWord (c .session .glass) (c .session .mode) (setAt (c .message) (setPlace (c .message)))) px py (lastTile (frameTiles (c .message)) px py) old
     ∣ old
 
 -- "A frame from our writer, read after our writer's headers for the same size and mode": the calls in their order, on the glass whose words the picture has
@@ -107,7 +107,7 @@ pub record OurCalls (h : WriteHeaders) (one two three four : ReadHeader) (s : Wr
   pub versions : two .message ≡ take 10 (drop 12 (sentBy (h .answer) (h .out′)))
   pub channels : three .message ≡ take 12 (drop 22 (sentBy (h .answer) (h .out′)))
   pub context : four .message ≡ take 13 (drop 34 (sentBy (h .answer) (h .out′)))
-  pub glass : keptGlass (one .session .glass) ≡ 0
+  pub glass : f .word ≡ keptGlass (one .session .glass)
   pub then-two : two .session ≡ sessionAfter one
   pub then-three : three .session ≡ sessionAfter two
   pub then-four : four .session ≡ sessionAfter three
@@ -133,7 +133,7 @@ pub record OurFrame (one two three four : ReadHeader) (s : WriteFrame) (f : Read
   pub accepted : frameReadingNumber (f .answer) ≡ 0
   pub tiles : frameReadingTiles (f .answer) ≡ tilesNo (s .width) (s .height)
   pub word : (px py : ℕ) → px < s .width → py < s .height →
-      getD (f .picture′) (py * s .width + px) 0 ≡ wordBack (s .pixels) (s .width) (s .height) (s .quant) (tileNo (s .width) px py) (64 * (py % 64) + px % 64)
+      getD (f .picture′) (py * s .width + px) 0 ≡ wordBack (f .word) (s .pixels) (s .width) (s .height) (s .quant) (tileNo (s .width) px py) (64 * (py % 64) + px % 64)
   pub past : (i : ℕ) → s .height * s .width ≤ i → getD (f .picture′) i 0 ≡ getD (f .picture) i 0
   pub long : length (f .picture′) ≡ length (f .picture)
 
@@ -180,7 +180,7 @@ pub record Demand3 : Type 0 where
 -- two answers meeting it are equal": of two calls that were given the same
 pub record OneAnswer : Type 0 where
   pub read-header : (c d : ReadHeader) → c .session ≡ d .session → c .message ≡ d .message → c .answer ≡ d .answer
-  pub read-frame : (c d : ReadFrame) → c .session ≡ d .session → c .message ≡ d .message → c .picture ≡ d .picture → c .y ≡ d .y → c .cb ≡ d .cb → c .cr ≡ d .cr → c .scratch ≡ d .scratch →
+  pub read-frame : (c d : ReadFrame) → c .word ≡ d .word → c .session ≡ d .session → c .message ≡ d .message → c .picture ≡ d .picture → c .y ≡ d .y → c .cb ≡ d .cb → c .cr ≡ d .cr → c .scratch ≡ d .scratch →
       (c .answer ≡ d .answer) × (c .picture′ ≡ d .picture′) × (c .y′ ≡ d .y′) × (c .cb′ ≡ d .cb′) × (c .cr′ ≡ d .cr′) × (c .scratch′ ≡ d .scratch′)
   pub read-component : (c d : ReadComponent) → c .mode ≡ d .mode → c .bytes ≡ d .bytes → c .list ≡ d .list → (c .answer ≡ d .answer) × (c .list′ ≡ d .list′)
   pub write-component : (c d : WriteComponent) → c .mode ≡ d .mode → c .list ≡ d .list → c .out ≡ d .out → (c .answer ≡ d .answer) × (c .out′ ≡ d .out′)
@@ -191,8 +191,8 @@ pub record OneAnswer : Type 0 where
 -- the same of the calls for C: the record behind the reference, the number, the value and the lists; what one call and another left is marked 1 and 2
 pub record OneAnswerC : Type 0 where
   pub read-header : (s s₁ s₂ : Session) (m : List ℕ) (n₁ n₂ : ℕ) → ReadHeaderCall s s₁ m n₁ → ReadHeaderCall s s₂ m n₂ → (n₁ ≡ n₂) × (s₁ ≡ s₂)
-  pub read-frame : (s s₁ s₂ : Session) (m pic : List ℕ) (y cb cr tmp : List ℤ) (p₁ p₂ : List ℕ) (y₁ y₂ b₁ b₂ r₁ r₂ t₁ t₂ : List ℤ) (k₁ k₂ n₁ n₂ : ℕ) →
-      ReadFrameCall s s₁ m pic y cb cr tmp p₁ y₁ b₁ r₁ t₁ k₁ n₁ → ReadFrameCall s s₂ m pic y cb cr tmp p₂ y₂ b₂ r₂ t₂ k₂ n₂ →
+  pub read-frame : (word : ℕ) (s s₁ s₂ : Session) (m pic : List ℕ) (y cb cr tmp : List ℤ) (p₁ p₂ : List ℕ) (y₁ y₂ b₁ b₂ r₁ r₂ t₁ t₂ : List ℤ) (k₁ k₂ n₁ n₂ : ℕ) →
+      ReadFrameCall word s s₁ m pic y cb cr tmp p₁ y₁ b₁ r₁ t₁ k₁ n₁ → ReadFrameCall word s s₂ m pic y cb cr tmp p₂ y₂ b₂ r₂ t₂ k₂ n₂ →
       (n₁ ≡ n₂) × (k₁ ≡ k₂) × (s₁ ≡ s₂) × (p₁ ≡ p₂) × (y₁ ≡ y₂) × (b₁ ≡ b₂) × (r₁ ≡ r₂) × (t₁ ≡ t₂)
   pub read-component : (mode : ℕ) (s : List ℕ) (list l₁ l₂ : List ℤ) (k₁ k₂ n₁ n₂ : ℕ) → ReadComponentCall mode s list l₁ k₁ n₁ → ReadComponentCall mode s list l₂ k₂ n₂ → (n₁ ≡ n₂) × (k₁ ≡ k₂) × (l₁ ≡ l₂)
   pub write-component : (mode : ℕ) (zs : List ℤ) (out o₁ o₂ : List ℕ) (k₁ k₂ n₁ n₂ : ℕ) → WriteComponentCall mode zs out o₁ k₁ n₁ → WriteComponentCall mode zs out o₂ k₂ n₂ → (n₁ ≡ n₂) × (k₁ ≡ k₂) × (o₁ ≡ o₂)
@@ -206,7 +206,7 @@ pub record OneAnswerC : Type 0 where
 pub record EdgeDemand1 : Type 0 where
   pub header-number : (c : CReadHeader) → c .number ≡ headerFault (c .session) (c .message)
   pub frame-number : (c : CReadFrame) → c .number ≡ firstFault (as-frame c)
-  pub frame-whole : (c : CReadFrame) → c .number ≡ 0 → c .picture′ ≡ framed (c .session .mode) (c .session .width) (c .session .height) (c .message) (c .picture)
+  pub frame-whole : (c : CReadFrame) → c .number ≡ 0 → c .picture′ ≡ framed (c .session .glass) (c .session .mode) (c .session .width) (c .session .height) (c .message) (c .picture)
   pub header-taken : (c : CReadHeader) → c .number ≡ 0 → c .session′ ≡ recordAfter (c .session) (c .message)
   pub header-refused : (c : CReadHeader) → c .number ≢ 0 → c .session′ ≡ c .session
   pub frame-refused : (c : CReadFrame) → c .number ≢ 0 → c .picture′ ≡ c .picture
@@ -224,7 +224,7 @@ pub record OurCallsC (h : CWriteHeaders) (one two three four : CReadHeader) (s :
   pub versions : two .message ≡ take 10 (drop 12 (take (h .size) (h .out′)))
   pub channels : three .message ≡ take 12 (drop 22 (take (h .size) (h .out′)))
   pub context : four .message ≡ take 13 (drop 34 (take (h .size) (h .out′)))
-  pub glass : keptGlass (one .session .glass) ≡ 0
+  pub glass : f .word ≡ keptGlass (one .session .glass)
   pub then-two : two .session ≡ one .session′
   pub then-three : three .session ≡ two .session′
   pub then-four : four .session ≡ three .session′
@@ -249,7 +249,7 @@ pub record OurFrameC (one two three four : CReadHeader) (s : CWriteFrame) (f : C
   pub accepted : f .number ≡ 0
   pub tiles : f .tiles ≡ tilesNo (s .width) (s .height)
   pub word : (px py : ℕ) → px < s .width → py < s .height →
-      getD (f .picture′) (py * s .width + px) 0 ≡ wordBack (s .pixels) (s .width) (s .height) (s .quant) (tileNo (s .width) px py) (64 * (py % 64) + px % 64)
+      getD (f .picture′) (py * s .width + px) 0 ≡ wordBack (f .word) (s .pixels) (s .width) (s .height) (s .quant) (tileNo (s .width) px py) (64 * (py % 64) + px % 64)
   pub past : (i : ℕ) → s .height * s .width ≤ i → getD (f .picture′) i 0 ≡ getD (f .picture) i 0
   pub long : length (f .picture′) ≡ length (f .picture)
 

@@ -1,14 +1,14 @@
 // The frame call of document 01 over the record by value ("Order. Frame call", "Numbers the fitter sees"): the record (12), the
 // lent memory (2), every block and every tile with its codes, and only then the picture. Work lists are left with zeros.
+use frame_draw::tiles::Pass;
 use session::Session;
 ghost use mathlib.Core.Path.{_≡_};
-ghost use Prim.Native.Nat.{_+_, _*_, _≤_, _<_};
 ghost use lib.ListN.{length};
 ghost use Rattle.session.specs.Header.{Right};
-ghost use Rattle.frame_layout.specs.Reader.{frameFault, tileCount, setPlace};
-ghost use Rattle.frame_blocks.specs.Judged.{judged};
+ghost use Rattle.frame_layout.specs.Reader.{frameFault, tileCount};
+ghost use Rattle.frame_blocks.specs.Judged.{judged, SetSound};
 ghost use Rattle.frame_draw.specs.Show.{Lists};
-ghost use Rattle.frame.specs.Frame.{frameReadingNumber, frameReadingTiles, full, callFault, frontFault, framed, Cleared, FrameRead};
+ghost use Rattle.frame.specs.Frame.{frameReadingNumber, frameReadingTiles, full, callFault, frontFault, Cleared, passOf, FrameJudged, FrameRead};
 
 // What reading a frame came to: how many tiles it has, or 01's number.
 pub enum FrameReading {
@@ -52,14 +52,14 @@ fn is_full(a: usize, b: usize, c: usize, t: usize) -> bool
     t == 4096
 }
 
-// What is judged before the message: the record (12), then the lent memory (2); p is the picture's length, held against the
-// record's words, and its words have 16 bits.
-fn call_judge(s: Session, p: usize, a: usize, b: usize, c: usize, t: usize) -> u8
-    ensures { λ r. ⌜ r ≡ callFault s p a b c t ⌝ }
+// What is judged before the message: the record (12), then the lent memory (2); word is the picture's word size (0 is 16 bits, 1 is 32) and p its
+// length, held against the record's glass and words.
+fn call_judge(word: u8, s: Session, p: usize, a: usize, b: usize, c: usize, t: usize) -> u8
+    ensures { λ r. ⌜ r ≡ callFault word s p a b c t ⌝ }
 {
     if session::is_ready(s) {
         if is_full(a, b, c, t) {
-            if s.glass != 0 {
+            if word != s.glass {
                 return 2;
             }
             if s.words as usize <= p {
@@ -106,25 +106,24 @@ fn message_fault(s: Session, m: &[u8], work: &mut [i32]) -> u8
     frame_blocks::block::end_fault(m, sp + size)
 }
 
-// The draw pass over a message without a fault; says how many tiles it has.
-fn draw_frame(
-    picture: &mut [u16],
-    mode: u8,
-    w: usize,
-    h: usize,
-    m: &[u8],
-    ys: &mut [i32],
-    cbs: &mut [i32],
-    crs: &mut [i32],
-    tmp: &mut [i32],
-) -> usize
-    requires { ⌜ Lists (now ys) (now cbs) (now crs) (now tmp) × (0 ≡ frameFault judged w h mode (now m)) × (h * w ≤ length (now picture)) ⌝ }
-    ensures says { λ r. ⌜ r ≡ tileCount (now (m .entry)) (setPlace (now (m .entry))) ⌝ }
-    ensures shows { λ _. ⌜ now (picture .exit) ≡ framed mode w h (now (m .entry)) (now (picture .entry)) ⌝ }
+// The numbers of the draw pass over a message without a fault.
+fn pass_of(s: Session, m: &[u8]) -> Pass
+    requires { ⌜ 0 ≡ frameFault judged (s .width) (s .height) (s .mode) (now m) ⌝ }
+    ensures { λ p. ⌜ p ≡ passOf s (now (m .entry)) ⌝ }
 {
-    let sp = 14 + wire::le32_at(m, 16);
-    let p = frame_draw::tiles::Pass { mode, w, h, sp };
-    frame_draw::tiles::show(picture, p, m, ys, cbs, crs, tmp);
+    Pass {
+        mode: s.mode,
+        w: s.width as usize,
+        h: s.height as usize,
+        sp: 14 + wire::le32_at(m, 16),
+    }
+}
+
+// "numTiles" of the tileset at a place.
+fn tile_count(m: &[u8], sp: usize) -> usize
+    requires { ⌜ SetSound (now m) sp ⌝ }
+    ensures { λ n. ⌜ n ≡ tileCount (now (m .entry)) sp ⌝ }
+{
     wire::le16_at(m, sp + 16)
 }
 
@@ -138,7 +137,32 @@ fn clear_all(ys: &mut [i32], cbs: &mut [i32], crs: &mut [i32], tmp: &mut [i32])
     whole::clear(tmp);
 }
 
-// The frame call, for any record, message, picture and lists; the record is left as it is.
+// All that is judged before the picture is touched, for a picture of p words of a size; 0 if there is no fault.
+fn judge_frame(
+    word: u8,
+    s: Session,
+    p: usize,
+    m: &[u8],
+    ys: &mut [i32],
+    cbs: &mut [i32],
+    crs: &mut [i32],
+    tmp: &mut [i32],
+) -> u8
+    ensures { λ r. ⌜ FrameJudged word s p (now (m .entry)) (now (ys .entry)) (now (cbs .entry)) (now (crs .entry)) (now (tmp .entry)) (now (ys .exit)) (now (cbs .exit)) (now (crs .exit)) (now (tmp .exit)) r ⌝ }
+{
+    let early = call_judge(word, s, p, ys.len(), cbs.len(), crs.len(), tmp.len());
+    if early != 0 {
+        return early;
+    }
+    let fault = message_fault(s, m, tmp);
+    if fault != 0 {
+        clear_all(ys, cbs, crs, tmp);
+        return fault;
+    }
+    0
+}
+
+// The frame call, for any record, message, lists and picture of 16-bit words; the record is left as it is.
 pub fn take_frame(
     s: Session,
     m: &[u8],
@@ -148,21 +172,36 @@ pub fn take_frame(
     crs: &mut [i32],
     tmp: &mut [i32],
 ) -> FrameReading
-    ensures { λ r. ⌜ FrameRead s (now (m .entry)) (now (picture .entry)) (now (ys .entry)) (now (cbs .entry)) (now (crs .entry)) (now (tmp .entry)) (now (picture .exit)) (now (ys .exit)) (now (cbs .exit)) (now (crs .exit)) (now (tmp .exit)) r ⌝ }
+    ensures { λ r. ⌜ FrameRead 0 s (now (m .entry)) (now (picture .entry)) (now (ys .entry)) (now (cbs .entry)) (now (crs .entry)) (now (tmp .entry)) (now (picture .exit)) (now (ys .exit)) (now (cbs .exit)) (now (crs .exit)) (now (tmp .exit)) r ⌝ }
 {
-    let w = s.width as usize;
-    let h = s.height as usize;
-    let mode = s.mode;
-    let early = call_judge(s, picture.len(), ys.len(), cbs.len(), crs.len(), tmp.len());
-    if early != 0 {
-        return FrameReading::Refused(early);
+    let n = judge_frame(0, s, picture.len(), m, ys, cbs, crs, tmp);
+    if n != 0 {
+        return FrameReading::Refused(n);
     }
-    let fault = message_fault(s, m, tmp);
-    if fault != 0 {
-        clear_all(ys, cbs, crs, tmp);
-        return FrameReading::Refused(fault);
-    }
-    let n = draw_frame(picture, mode, w, h, m, ys, cbs, crs, tmp);
+    let p = pass_of(s, m);
+    frame_draw::paint::show(picture, p, m, ys, cbs, crs, tmp);
     clear_all(ys, cbs, crs, tmp);
-    FrameReading::Done(n)
+    FrameReading::Done(tile_count(m, p.sp))
+}
+
+// The frame call, for any record, message, lists and picture of 32-bit words; the record is left as it is.
+pub fn take_frame_32(
+    s: Session,
+    m: &[u8],
+    picture: &mut [u32],
+    ys: &mut [i32],
+    cbs: &mut [i32],
+    crs: &mut [i32],
+    tmp: &mut [i32],
+) -> FrameReading
+    ensures { λ r. ⌜ FrameRead 1 s (now (m .entry)) (now (picture .entry)) (now (ys .entry)) (now (cbs .entry)) (now (crs .entry)) (now (tmp .entry)) (now (picture .exit)) (now (ys .exit)) (now (cbs .exit)) (now (crs .exit)) (now (tmp .exit)) r ⌝ }
+{
+    let n = judge_frame(1, s, picture.len(), m, ys, cbs, crs, tmp);
+    if n != 0 {
+        return FrameReading::Refused(n);
+    }
+    let p = pass_of(s, m);
+    frame_draw::paint_32::show(picture, p, m, ys, cbs, crs, tmp);
+    clear_all(ys, cbs, crs, tmp);
+    FrameReading::Done(tile_count(m, p.sp))
 }

@@ -1,6 +1,6 @@
 -- A tile's row drawn by spans, the form of the code: what each rectangle holds of it, noted, and then the words. SpanLaws shows that the row
 -- drawn so is `rowDrawn`, and AskedLaws that a tile which one rectangle holds is drawn as if the region had none.
-use Prim.Native.Nat.{ℕ, zero, suc, _+_, _*_, _-_, _≤_, min, max}
+use Prim.Native.Nat.{ℕ, zero, suc, _+_, _*_, _-_, _≤_, _<_, min, max}
 use mathlib.Core.Path.{_≡_}
 use mathlib.Core.List.{List}
 use mathlib.Core.Bool.{Bool, true, false}
@@ -9,7 +9,7 @@ use lib.ListN.{length, getD, set}
 use Rattle.wire.specs.Le.{le16}
 use Rattle.whole.specs.Row.{_!_⨾_, _⇒_∣_}
 use Rattle.frame_draw.specs.declared.clip.Span.{Span}
-use Rattle.frame_draw.specs.Draw.{holds, some}
+use Rattle.frame_draw.specs.Draw.{holds, some, rowOn}
 
 -- every word
 abbrev pub always : ℕ → Bool
@@ -71,6 +71,12 @@ spanned ends x = ltb x (far ends (x + 1))
 pub record Ends (part : ℕ) (ends : List ℕ) : Type 0 where
   pub len : length ends ≡ 64
   pub most : (x : ℕ) → getD ends x 0 ≤ part
+
+-- the notes of a row that is held against n rectangles: a word lies in a span exactly if it is drawn; and, where nothing is drawn, that
+pub record RowNoted (rects : List ℕ) (n w tx py : ℕ) (ends : List ℕ) (on : Bool) : Type 0 where
+  pub fit : Ends (partOf w tx) ends
+  pub words : (x : ℕ) → x < 64 → spanned ends x ≡ rowOn rects n w tx py x
+  pub none : on ≡ false → (x : ℕ) → x < 64 → rowOn rects n w tx py x ≡ false
 
 -- ---- a tile
 

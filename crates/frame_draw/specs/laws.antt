@@ -3,6 +3,7 @@ pub mod Cases
 pub mod Clip
 pub mod Draw
 pub mod Note
+pub mod Paint
 pub mod Pixels
 pub mod Search
 pub mod Show

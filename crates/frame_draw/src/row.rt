@@ -1,21 +1,21 @@
 // Drawing, the sentence of document 01's "Blocks" on which words of the picture are changed, with document 02's request Three on a
 // region with no rectangles. A pixel row of a tile goes over the rectangles once: what each holds of the row is noted, up to the first
-// that holds all of it, and then each word is stored once, where tile, channel and rectangle agree.
+// that holds all of it; then (`paint`, `paint_32`) each word is stored once, where tile, channel and rectangle agree. No picture is carried here.
 ghost use mathlib.Core.Path.{_≡_};
 ghost use Prim.Native.Nat.{ℕ, _+_, _*_, _-_, _≤_, _<_, min, max};
-ghost use lib.ListN.{length, getD};
-ghost use Rattle.frame_draw.specs.Draw.{inside, holds, stores, rowPlace, rowDrawn};
+ghost use lib.ListN.{length, replicate};
+ghost use Rattle.frame_draw.specs.Draw.{inside, holds};
 ghost use Rattle.frame_draw.specs.Clips.{Clips};
-ghost use Rattle.frame_draw.specs.Spans.{always, partOf, lastOf, noted, spanned, Ends, rowFirst, covers, asked};
+ghost use Rattle.frame_draw.specs.Spans.{lastOf, noted, rowFirst, RowNoted, covers, asked};
 
-fn wide(b: u8) -> usize
+pub fn wide(b: u8) -> usize
     ensures { λ r. ⌜ (r ≡ b) × (r < 256) ⌝ }
 {
     b as usize
 }
 
 // The greater of two.
-fn greater(a: usize, b: usize) -> usize
+pub fn greater(a: usize, b: usize) -> usize
     ensures { λ r. ⌜ r ≡ max a b ⌝ }
 {
     if a < b {
@@ -80,39 +80,6 @@ fn note(s: crate::clip::Span, ends: &mut [u8])
     ends[from] = to as u8;
 }
 
-// The row's part in the channel, whole.
-fn put_part(picture: &mut [u16], w: usize, tx: usize, py: usize, row: &[u16])
-    requires { ⌜ (py * w + w ≤ length (now picture)) × (length (now row) ≡ 64) × (tx < 65536) ⌝ }
-    ensures { λ _. ⌜ now (picture .exit) ≡ stores always (rowPlace w tx py) (λ (x : ℕ). getD (now (row .entry)) x 0) (partOf w tx) 0 (now (picture .entry)) ⌝ }
-{
-    let part = crate::clip::part_of(w, tx);
-    let mut x = 0;
-    while x < part {
-        picture[py * w + (64 * tx + x)] = row[x];
-        x += 1;
-    }
-}
-
-// The words of the row that lie in a noted span; where one of them is the whole part, that is copied.
-fn put_spans(picture: &mut [u16], w: usize, tx: usize, py: usize, row: &[u16], ends: &[u8])
-    requires { ⌜ (py * w + w ≤ length (now picture)) × (length (now row) ≡ 64) × (tx < 65536) × Ends (partOf w tx) (now ends) ⌝ }
-    ensures { λ _. ⌜ now (picture .exit) ≡ stores (spanned (now (ends .entry))) (rowPlace w tx py) (λ (x : ℕ). getD (now (row .entry)) x 0) 64 0 (now (picture .entry)) ⌝ }
-{
-    if wide(ends[0]) == crate::clip::part_of(w, tx) {
-        put_part(picture, w, tx, py, row);
-        return;
-    }
-    let mut end = 0;
-    let mut x = 0;
-    while x < 64 {
-        end = greater(end, wide(ends[x]));
-        if x < end {
-            picture[py * w + (64 * tx + x)] = row[x];
-        }
-        x += 1;
-    }
-}
-
 // A pixel row of a tile: the channel's width, the tile's column, the row in the picture, and how many rectangles it is held against.
 pub struct Strip {
     pub w: usize,
@@ -121,9 +88,9 @@ pub struct Strip {
     pub n: usize,
 }
 
-// How many rectangles come before the first that has a word of the row: n where none has. Asked before the row's colours are made.
+// How many rectangles come before the first that has a word of the row: n where none has. Asked before the row is noted and its colours are made.
 // The rectangles are read from where they are kept for the tile; the region's bytes are what the promise speaks of.
-pub fn row_first(rects: &[u8], clips: &[i32], n: usize, w: usize, tx: usize, py: usize) -> usize
+fn row_first(rects: &[u8], clips: &[i32], n: usize, w: usize, tx: usize, py: usize) -> usize
     requires { ⌜ Clips (now rects) n w tx (now clips) ⌝ }
     ensures { λ r. ⌜ r ≡ rowFirst (now (rects .entry)) n w tx py ⌝ }
 {
@@ -138,42 +105,48 @@ pub fn row_first(rects: &[u8], clips: &[i32], n: usize, w: usize, tx: usize, py:
     n
 }
 
-// A tile's row of 64 words into its pixel row of the picture. From the first rectangle that has a word of it on, they are left at the first
-// that holds all of the row that lies in the channel; a region with none is one rectangle over the whole channel.
-pub fn draw_row(
-    picture: &mut [u16],
-    s: Strip,
-    row: &[u16],
-    rects: &[u8],
-    clips: &[i32],
-    first: usize,
-)
-    requires { ⌜ (s .py * s .w + s .w ≤ length (now picture)) × (length (now row) ≡ 64) × (s .tx < 65536) × Clips (now rects) (s .n) (s .w) (s .tx) (now clips) × (first ≡ rowFirst (now rects) (s .n) (s .w) (s .tx) (s .py)) ⌝ }
-    ensures { λ _. ⌜ now (picture .exit) ≡ rowDrawn (now (rects .entry)) (s .n) (λ (x : ℕ). getD (now (row .entry)) x 0) (s .w) (s .tx) (s .py) (now (picture .entry)) ⌝ }
+// What the rectangles hold of a tile's pixel row, noted, in notes that have none yet; says whether it has a word that is drawn. From the first
+// rectangle that has a word of it on, they are left at the first that holds all of the row that lies in the channel; a region with none is
+// one rectangle over the whole channel.
+pub fn note_row(rects: &[u8], clips: &[i32], s: Strip, ends: &mut [u8]) -> bool
+    requires { ⌜ (s .tx < 65536) × Clips (now rects) (s .n) (s .w) (s .tx) (now clips) × (now ends ≡ replicate 64 0) ⌝ }
+    ensures { λ r. ⌜ RowNoted (now (rects .entry)) (s .n) (s .w) (s .tx) (s .py) (now (ends .exit)) r ⌝ }
 {
     let w = s.w;
     let tx = s.tx;
     let py = s.py;
     let n = s.n;
-    if n == 0 {
-        put_part(picture, w, tx, py, row);
-        return;
-    }
     let part = crate::clip::part_of(w, tx);
-    let mut ends = [0u8; 64];
+    if n == 0 {
+        note(crate::clip::Span { from: 0, to: part }, ends);
+        return true;
+    }
+    let first = row_first(rects, clips, n, w, tx, py);
+    if first == n {
+        return false;
+    }
     let mut k = first;
     'rectangles: while k < n {
         let p = crate::clip::clip_span(clips, py, k);
-        note(p, &mut ends[..]);
+        note(p, ends);
         if wide(ends[0]) == part {
             break 'rectangles;
         }
         k += 1;
     }
-    put_spans(picture, w, tx, py, row, &ends[..]);
+    true
 }
 
 // ---- a tile
+
+// A tile in the channel: the channel's size, the tile's column and row, and how many rectangles it is held against.
+pub struct Spot {
+    pub w: usize,
+    pub h: usize,
+    pub tx: usize,
+    pub ty: usize,
+    pub n: usize,
+}
 
 // Rectangle k of a region holds two pixels, and so all that lie between them.
 fn rect_covers(rects: &[u8], px: usize, py: usize, qx: usize, qy: usize, k: usize) -> bool

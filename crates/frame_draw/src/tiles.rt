@@ -1,15 +1,13 @@
 // The draw pass over tiles that the check pass has found sound, document 01's "the last such tile in message order decides" and
-// "Drawing a tile before the next is checked" (a slip): each tile's three components to samples, then the tile into the picture.
+// "Drawing a tile before the next is checked" (a slip): each tile's three components to samples, and its place. No picture is carried here.
 ghost use mathlib.Core.Path.{_≡_};
-ghost use Prim.Native.Nat.{_+_, _*_, _≤_, _<_};
+ghost use Prim.Native.Nat.{_<_};
 ghost use lib.ListN.{length};
-ghost use Rattle.frame_layout.specs.Reader.{quantCount, tileCount, rectCount, setAt, dataOf, tileAt, tilesIn, tilesFault};
-ghost use Rattle.frame_blocks.specs.Blocks.{rectsOf, RegionGood};
+ghost use Rattle.frame_layout.specs.Reader.{quantCount, setAt, dataOf, tileAt};
+ghost use Rattle.frame_blocks.specs.Blocks.{RegionGood};
 ghost use Rattle.frame_blocks.specs.Tiles.{TileSound};
 ghost use Rattle.frame_blocks.specs.Judged.{inSet, SetSound};
-ghost use Rattle.frame_draw.specs.Draw.{tileDrawn};
-ghost use Rattle.frame_draw.specs.Shown.{tilesDrawn};
-ghost use Rattle.frame_draw.specs.Show.{Lists, Sampled, planeOf, tileWord};
+ghost use Rattle.frame_draw.specs.Show.{Lists, Sampled, Ready, planeOf};
 
 // The numbers of a draw pass: the session's mode and size, and where in the message the tileset stands.
 pub struct Pass {
@@ -50,9 +48,9 @@ fn tile_samples(
     part_samples(p, m, at, 2, crs, tmp);
 }
 
-// One tile: samples, then the picture.
-fn show_tile(
-    picture: &mut [u16],
+// All that is done for a tile before the picture is touched: its samples; and where one rectangle holds all of it that lies in the channel
+// (asked once), none are kept, else all are held against its columns and kept in the fourth list. Says where the tile lies.
+pub fn ready_tile(
     p: Pass,
     m: &[u8],
     at: usize,
@@ -60,46 +58,18 @@ fn show_tile(
     cbs: &mut [i32],
     crs: &mut [i32],
     tmp: &mut [i32],
-)
-    requires { ⌜ Lists (now ys) (now cbs) (now crs) (now tmp) × RegionGood (now m) 14 × SetSound (now m) (p .sp) × TileSound (inSet (p .mode) (now m) (p .sp)) (quantCount (now m) (p .sp)) (dataOf (now m) (p .sp)) at × (p .h * p .w ≤ length (now picture)) ⌝ }
-    ensures { λ _. ⌜ now (picture .exit) ≡ tileDrawn (rectsOf (now (m .entry)) 14) (rectCount (now (m .entry)) 14) (tileWord (p .mode) (setAt (now (m .entry)) (p .sp)) (tileAt (dataOf (now (m .entry)) (p .sp)) at)) (p .w) (p .h) (tileAt (dataOf (now (m .entry)) (p .sp)) at .x) (tileAt (dataOf (now (m .entry)) (p .sp)) at .y) (now (picture .entry)) ⌝ }
+) -> crate::row::Spot
+    requires { ⌜ Lists (now ys) (now cbs) (now crs) (now tmp) × RegionGood (now m) 14 × SetSound (now m) (p .sp) × TileSound (inSet (p .mode) (now m) (p .sp)) (quantCount (now m) (p .sp)) (dataOf (now m) (p .sp)) at ⌝ }
+    ensures { λ s. ⌜ Ready (p .mode) (now (m .entry)) (p .sp) (p .w) (p .h) (tileAt (dataOf (now (m .entry)) (p .sp)) at) (now (ys .exit)) (now (cbs .exit)) (now (crs .exit)) (now (tmp .exit)) s ⌝ }
 {
+    let w = p.w;
+    let h = p.h;
     tile_samples(p, m, at, ys, cbs, crs, tmp);
-    let n = wire::le16_at(m, 23);
     let rects = frame_blocks::block::rects(m, 14);
     let d = frame_blocks::block::tile_data(m, p.sp);
     let tx = wire::le16_at(d, at + 9);
     let ty = wire::le16_at(d, at + 11);
-    let s = crate::paint::Spot {
-        w: p.w,
-        h: p.h,
-        tx,
-        ty,
-        n,
-    };
-    crate::paint::paint_tile(picture, s, &ys[..], &cbs[..], &crs[..], rects, tmp);
-}
-
-// The draw pass over a frame whose blocks and tiles were checked, in message order: the region stands at 14.
-pub fn show(
-    picture: &mut [u16],
-    p: Pass,
-    m: &[u8],
-    ys: &mut [i32],
-    cbs: &mut [i32],
-    crs: &mut [i32],
-    tmp: &mut [i32],
-)
-    requires { ⌜ Lists (now ys) (now cbs) (now crs) (now tmp) × RegionGood (now m) 14 × SetSound (now m) (p .sp) × (0 ≡ tilesFault (inSet (p .mode) (now m) (p .sp)) (p .w) (p .h) (quantCount (now m) (p .sp)) (dataOf (now m) (p .sp)) (tileCount (now m) (p .sp)) 0) × (p .h * p .w ≤ length (now picture)) ⌝ }
-    ensures { λ _. ⌜ now (picture .exit) ≡ tilesDrawn (rectsOf (now (m .entry)) 14) (rectCount (now (m .entry)) 14) (tileWord (p .mode) (setAt (now (m .entry)) (p .sp))) (p .w) (p .h) (tilesIn (dataOf (now (m .entry)) (p .sp)) (tileCount (now (m .entry)) (p .sp)) 0) (now (picture .entry)) ⌝ }
-{
-    let n = wire::le16_at(m, p.sp + 16);
-    let d = frame_blocks::block::tile_data(m, p.sp);
-    let mut at = 0;
-    let mut i = 0;
-    while i < n {
-        show_tile(picture, p, m, at, ys, cbs, crs, tmp);
-        at = at + wire::le32_at(d, at + 2);
-        i += 1;
-    }
+    let n = crate::row::asked_of(rects, wire::le16_at(m, 23), w, h, tx, ty);
+    crate::clip::clip_rects(rects, n, w, tx, tmp);
+    crate::row::Spot { w, h, tx, ty, n }
 }

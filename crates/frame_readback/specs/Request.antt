@@ -53,7 +53,8 @@ pub record RequestFive : Type 0 where
   -- demand 2, the other way, over both: our headers are taken, and our frame is accepted and shows the decoding of the picture's rounded coefficients, each
   -- component by its own quantisers
   pub our-frames :
-      (s₀ : Session) (ho ho′ : List ℕ) (hr : Writing) (c : WriteFrameSets)
+      (glass : ℕ) (s₀ : Session) (ho ho′ : List ℕ) (hr : Writing) (c : WriteFrameSets)
+      → glass ≤ 1
       → HeadersWritten (c .width) (c .height) (c .mode) ho ho′ hr
       → writingNumber hr ≡ 0
       → writingNumber (c .answer) ≡ 0
@@ -63,8 +64,9 @@ pub record RequestFive : Type 0 where
       → length cr ≡ 4096
       → length tmp ≡ 4096
       → c .height * c .width ≤ length pic
-      → FrameRead (recordOf 0 4 (c .width) (c .height) (c .mode)) (take (writingLength (c .answer)) (c .out′)) pic y cb cr tmp pic′ y′ cb′ cr′ tmp′ answer
-      → AllTaken s₀ (c .width) (c .height) (c .mode) (take (writingLength hr) ho′) × ShownOver (c .pixels) (c .width) (c .height) (c .quants) pic pic′ answer
+      → FrameRead glass (recordOf glass 4 (c .width) (c .height) (c .mode)) (take (writingLength (c .answer)) (c .out′)) pic y cb cr tmp pic′ y′ cb′ cr′ tmp′ answer
+      → AllTaken s₀ (c .width) (c .height) (c .mode) (take (writingLength hr) ho′)
+      × ShownOver glass (c .pixels) (c .width) (c .height) (c .quants) pic pic′ answer
   -- one answer and one content of lent memory
   pub one-answer :
       (c : WriteFrameSets) (list′ scratch′ : List ℤ) (out′ : List ℕ) (r : Writing)

@@ -25,16 +25,17 @@ pub record ReadHeaderCall (s s′ : Session) (m : List ℕ) (n : ℕ) : Type 0 w
   pub number : n ≡ headerNumber (headerReading s m)
   pub session : s′ ≡ headerRecord (headerReading s m) s
 
--- the answer to a frame, of what came in
-abbrev pub frameAnswer : Session → List ℕ → List ℕ → List ℤ → List ℤ → List ℤ → List ℤ → FrameReading
-frameAnswer s m pic y cb cr tmp = frameReading (frameNumber (early s pic y cb cr tmp) s m) m
+-- the answer to a frame, of what came in; word is 0 where the picture has words of 16 bits, 1 where it has words of 32
+abbrev pub frameAnswer : ℕ → Session → List ℕ → List ℕ → List ℤ → List ℤ → List ℤ → List ℤ → FrameReading
+frameAnswer word s m pic y cb cr tmp = frameReading (frameNumber (early word s pic y cb cr tmp) s m) m
 
 -- "A done frame reports numTiles, a refused one 0"; "a frame call leaves it equal", the record; picture and work lists as the panel's call leaves them
-pub record ReadFrameCall (s s′ : Session) (m pic : List ℕ) (y cb cr tmp : List ℤ) (pic′ : List ℕ) (y′ cb′ cr′ tmp′ : List ℤ) (tiles n : ℕ) : Type 0 where
-  pub number : n ≡ frameReadingNumber (frameAnswer s m pic y cb cr tmp)
-  pub count : tiles ≡ frameReadingTiles (frameAnswer s m pic y cb cr tmp)
-  pub session : s′ ≡ s
-  pub lists : FrameRead s m pic y cb cr tmp pic′ y′ cb′ cr′ tmp′ (frameAnswer s m pic y cb cr tmp)
+pub record ReadFrameCall (word : ℕ) (s s′ : Session) (m pic : List ℕ) (y cb cr tmp : List ℤ) (pic′ : List ℕ) (y′ cb′ cr′ tmp′ : List ℤ) (tiles n : ℕ) : Type 0
+  where
+    pub number : n ≡ frameReadingNumber (frameAnswer word s m pic y cb cr tmp)
+    pub count : tiles ≡ frameReadingTiles (frameAnswer word s m pic y cb cr tmp)
+    pub session : s′ ≡ s
+    pub lists : FrameRead word s m pic y cb cr tmp pic′ y′ cb′ cr′ tmp′ (frameAnswer word s m pic y cb cr tmp)
 
 -- "The component reader reports the code's length in bits on 0 and 11, else 0."
 pub record ReadComponentCall (mode : ℕ) (s : List ℕ) (before after : List ℤ) (bits n : ℕ) : Type 0 where

@@ -1,4 +1,4 @@
-// The six calls for C. A pointer is a reference, a list is a pointer and its length; the answer is 01's number, and 01's value is stored
+// The six calls for C, the frame call for pictures of either word size. A pointer is a reference, a list is a pointer and its length; the answer is 01's number, and 01's value is stored
 // behind the last reference on every answer. Each is one call of the panel's own and promises what that one does (specs/Edge). Nothing here has a `requires`.
 ghost use mathlib.Core.Path.{_≡_};
 ghost use Rattle.panel.specs.Edge.{ReadHeaderCall, ReadFrameCall, ReadComponentCall, WriteComponentCall, WriteHeadersCall, WriteFrameCall};
@@ -122,14 +122,14 @@ fn frame_call(
     scratch: &mut [i32],
     tiles: &mut usize,
 ) -> u8
-    ensures { λ n. ⌜ ReadFrameCall s s (now (message .entry)) (now (picture .entry)) (now (y .entry)) (now (cb .entry)) (now (cr .entry)) (now (scratch .entry)) (now (picture .exit)) (now (y .exit)) (now (cb .exit)) (now (cr .exit)) (now (scratch .exit)) (now (tiles .exit)) n ⌝ }
+    ensures { λ n. ⌜ ReadFrameCall 0 s s (now (message .entry)) (now (picture .entry)) (now (y .entry)) (now (cb .entry)) (now (cr .entry)) (now (scratch .entry)) (now (picture .exit)) (now (y .exit)) (now (cb .exit)) (now (cr .exit)) (now (scratch .exit)) (now (tiles .exit)) n ⌝ }
 {
     let f = crate::read_frame(s, message, picture, y, cb, cr, scratch);
     *tiles = frame::call::frame_tiles(f);
     frame::call::frame_number(f)
 }
 
-// Reads one frame, which is the whole message, and draws it; `tiles` is numTiles, refused 0. The record is left as it is.
+// Reads one frame, which is the whole message, and draws it into a picture of 16-bit words; `tiles` is numTiles, refused 0. The record is left as it is.
 #[no_mangle]
 pub extern "C" fn xurbalenz_read_frame(
     s: &mut Session,
@@ -141,7 +141,41 @@ pub extern "C" fn xurbalenz_read_frame(
     scratch: &mut [i32],
     tiles: &mut usize,
 ) -> u8
-    ensures { λ n. ⌜ ReadFrameCall (now (s .entry)) (now (s .exit)) (now (message .entry)) (now (picture .entry)) (now (y .entry)) (now (cb .entry)) (now (cr .entry)) (now (scratch .entry)) (now (picture .exit)) (now (y .exit)) (now (cb .exit)) (now (cr .exit)) (now (scratch .exit)) (now (tiles .exit)) n ⌝ }
+    ensures { λ n. ⌜ ReadFrameCall 0 (now (s .entry)) (now (s .exit)) (now (message .entry)) (now (picture .entry)) (now (y .entry)) (now (cb .entry)) (now (cr .entry)) (now (scratch .entry)) (now (picture .exit)) (now (y .exit)) (now (cb .exit)) (now (cr .exit)) (now (scratch .exit)) (now (tiles .exit)) n ⌝ }
 {
     frame_call(*s, message, picture, y, cb, cr, scratch, tiles)
+}
+
+// The two for a picture of 32-bit words.
+fn frame_call_32(
+    s: Session,
+    message: &[u8],
+    picture: &mut [u32],
+    y: &mut [i32],
+    cb: &mut [i32],
+    cr: &mut [i32],
+    scratch: &mut [i32],
+    tiles: &mut usize,
+) -> u8
+    ensures { λ n. ⌜ ReadFrameCall 1 s s (now (message .entry)) (now (picture .entry)) (now (y .entry)) (now (cb .entry)) (now (cr .entry)) (now (scratch .entry)) (now (picture .exit)) (now (y .exit)) (now (cb .exit)) (now (cr .exit)) (now (scratch .exit)) (now (tiles .exit)) n ⌝ }
+{
+    let f = crate::read_frame_32(s, message, picture, y, cb, cr, scratch);
+    *tiles = frame::call::frame_tiles(f);
+    frame::call::frame_number(f)
+}
+
+#[no_mangle]
+pub extern "C" fn xurbalenz_read_frame_32(
+    s: &mut Session,
+    message: &[u8],
+    picture: &mut [u32],
+    y: &mut [i32],
+    cb: &mut [i32],
+    cr: &mut [i32],
+    scratch: &mut [i32],
+    tiles: &mut usize,
+) -> u8
+    ensures { λ n. ⌜ ReadFrameCall 1 (now (s .entry)) (now (s .exit)) (now (message .entry)) (now (picture .entry)) (now (y .entry)) (now (cb .entry)) (now (cr .entry)) (now (scratch .entry)) (now (picture .exit)) (now (y .exit)) (now (cb .exit)) (now (cr .exit)) (now (scratch .exit)) (now (tiles .exit)) n ⌝ }
+{
+    frame_call_32(*s, message, picture, y, cb, cr, scratch, tiles)
 }

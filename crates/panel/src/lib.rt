@@ -48,7 +48,7 @@ pub fn write_headers(width: usize, height: usize, mode: u8, out: &mut [u8]) -> W
     headers::write_headers(width, height, mode, out)
 }
 
-// Reads one frame, begin to end, which is the whole message, and draws it; the record is left as it is.
+// Reads one frame, begin to end, which is the whole message, and draws it into a picture of 16-bit words; the record is left as it is.
 pub fn read_frame(
     s: Session,
     message: &[u8],
@@ -58,9 +58,24 @@ pub fn read_frame(
     cr: &mut [i32],
     scratch: &mut [i32],
 ) -> FrameReading
-    ensures { λ r. ⌜ FrameRead s (now (message .entry)) (now (picture .entry)) (now (y .entry)) (now (cb .entry)) (now (cr .entry)) (now (scratch .entry)) (now (picture .exit)) (now (y .exit)) (now (cb .exit)) (now (cr .exit)) (now (scratch .exit)) r ⌝ }
+    ensures { λ r. ⌜ FrameRead 0 s (now (message .entry)) (now (picture .entry)) (now (y .entry)) (now (cb .entry)) (now (cr .entry)) (now (scratch .entry)) (now (picture .exit)) (now (y .exit)) (now (cb .exit)) (now (cr .exit)) (now (scratch .exit)) r ⌝ }
 {
     frame::call::take_frame(s, message, picture, y, cb, cr, scratch)
+}
+
+// The same for a picture of 32-bit words.
+pub fn read_frame_32(
+    s: Session,
+    message: &[u8],
+    picture: &mut [u32],
+    y: &mut [i32],
+    cb: &mut [i32],
+    cr: &mut [i32],
+    scratch: &mut [i32],
+) -> FrameReading
+    ensures { λ r. ⌜ FrameRead 1 s (now (message .entry)) (now (picture .entry)) (now (y .entry)) (now (cb .entry)) (now (cr .entry)) (now (scratch .entry)) (now (picture .exit)) (now (y .exit)) (now (cb .exit)) (now (cr .exit)) (now (scratch .exit)) r ⌝ }
+{
+    frame::call::take_frame_32(s, message, picture, y, cb, cr, scratch)
 }
 
 // Writes one frame over the whole channel: three bytes a pixel, one quantiser set, two work lists.

@@ -33,7 +33,7 @@ pub record Sampled (mode : ℕ) (q s : List ℕ) (before after : List ℤ) (r : 
   pub number : r ≡ componentFault mode q s
   pub list : after ≡ samplesInto mode q s before
 
--- a tile's 4,096 words, row by row
-pub record Words (ys cbs crs : List ℤ) (words : List ℕ) : Type 0 where
+-- a tile's 4,096 words, row by row, on a glass
+pub record Words (glass : ℕ) (ys cbs crs : List ℤ) (words : List ℕ) : Type 0 where
   pub len : length words ≡ 4096
-  pub word : (i : ℕ) → i < 4096 → getD words i 0 ≡ wordAt ys cbs crs i
+  pub word : (i : ℕ) → i < 4096 → getD words i 0 ≡ wordAt glass ys cbs crs i

@@ -39,8 +39,9 @@ pub record PlainSame : Type 0 where
       (mode : ℕ) (q s : List ℕ) (before a other b : List ℤ) (r t : ℕ) → Sampled mode q s before a r → Checked mode q s other b t → r ≡ t
   -- and where it is 0 its samples are the same list
   pub samples : (mode : ℕ) (q s : List ℕ) (a b : List ℤ) → Plane mode q s a b → a ≡ b
-  -- a tile whose three numbers are 0: the pixel at place x of row y, by `plain::pixels` and by the product's `tile_back::words_row`
+  -- a tile whose three numbers are 0: the pixel at place x of row y, by `plain::pixels` and by the product's
+  -- `tile_back::words_row`; read over either packing
   pub pixels :
-      (mode : ℕ) (p q r s t u : List ℕ) (ys cbs crs ours-y ours-cb ours-cr : List ℤ) → Plane mode p s ys ours-y → Plane mode q t cbs ours-cb →
-      Plane mode r u crs ours-cr → (words row : List ℕ) (y x : ℕ) → Words ys cbs crs words → WordsRow ours-y ours-cb ours-cr y row →
+      (glass mode : ℕ) (p q r s t u : List ℕ) (ys cbs crs ours-y ours-cb ours-cr : List ℤ) → Plane mode p s ys ours-y → Plane mode q t cbs ours-cb →
+      Plane mode r u crs ours-cr → (words row : List ℕ) (y x : ℕ) → Words glass ys cbs crs words → WordsRow glass ours-y ours-cb ours-cr y row →
       y < 64 → x < 64 → getD words (64 * y + x) 0 ≡ getD row x 0

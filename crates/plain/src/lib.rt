@@ -335,7 +335,7 @@ fn pack(r: u8, g: u8, b: u8) -> u16
 
 fn word(y: i32, cb: i32, cr: i32) -> u16
     requires { ⌜ Near 268435456 y × Near 268435456 cb × Near 268435456 cr ⌝ }
-    ensures { λ w. ⌜ w ≡ wordOf y cb cr ⌝ }
+    ensures { λ w. ⌜ w ≡ wordOf 0 y cb cr ⌝ }
 {
     pack(red(y, cr), green(y, cb, cr), blue(y, cb))
 }
@@ -343,7 +343,7 @@ fn word(y: i32, cb: i32, cr: i32) -> u16
 // The word at place i of a tile.
 fn pixel(ys: &[i32], cbs: &[i32], crs: &[i32], i: usize) -> u16
     requires { ⌜ (i < 4096) × Plane (now ys) × Plane (now cbs) × Plane (now crs) ⌝ }
-    ensures { λ r. ⌜ r ≡ wordAt (now (ys .entry)) (now (cbs .entry)) (now (crs .entry)) i ⌝ }
+    ensures { λ r. ⌜ r ≡ wordAt 0 (now (ys .entry)) (now (cbs .entry)) (now (crs .entry)) i ⌝ }
 {
     word(ys[i], cbs[i], crs[i])
 }
@@ -351,7 +351,7 @@ fn pixel(ys: &[i32], cbs: &[i32], crs: &[i32], i: usize) -> u16
 // A tile's 4,096 pixels.
 pub fn pixels(ys: &[i32], cbs: &[i32], crs: &[i32], words: &mut [u16])
     requires { ⌜ (length (now words) ≡ 4096) × Plane (now ys) × Plane (now cbs) × Plane (now crs) ⌝ }
-    ensures { λ _. ⌜ Words (now (ys .entry)) (now (cbs .entry)) (now (crs .entry)) (now (words .exit)) ⌝ }
+    ensures { λ _. ⌜ Words 0 (now (ys .entry)) (now (cbs .entry)) (now (crs .entry)) (now (words .exit)) ⌝ }
 {
     let mut i = 0;
     while i < 4096 {

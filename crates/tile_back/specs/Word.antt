@@ -14,11 +14,11 @@ pub record Plane (xs : List ℤ) : Type 0 where
   pub len : length xs ≡ 4096
   pub near : AllNear 2097151 xs
 
--- the word at place i of a tile, row by row
-unfoldable pub wordAt : List ℤ → List ℤ → List ℤ → ℕ → ℕ
-wordAt ys cbs crs i = wordOf (at ys i) (at cbs i) (at crs i)
+-- the word at place i of a tile, row by row, on a glass
+unfoldable pub wordAt : ℕ → List ℤ → List ℤ → List ℤ → ℕ → ℕ
+wordAt glass ys cbs crs i = wordOf glass (at ys i) (at cbs i) (at crs i)
 
 -- the 64 words of row y of a tile
-pub record WordsRow (ys cbs crs : List ℤ) (y : ℕ) (row : List ℕ) : Type 0 where
+pub record WordsRow (glass : ℕ) (ys cbs crs : List ℤ) (y : ℕ) (row : List ℕ) : Type 0 where
   pub len : length row ≡ 64
-  pub word : (x : ℕ) → x < 64 → getD row x 0 ≡ wordAt ys cbs crs (64 * y + x)
+  pub word : (x : ℕ) → x < 64 → getD row x 0 ≡ wordAt glass ys cbs crs (64 * y + x)

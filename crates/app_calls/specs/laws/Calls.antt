@@ -124,7 +124,7 @@ module _ (s : Session) (m : List ℕ) (pic : List ℕ) where
 
   pub three-made :
       (pic′ : List ℕ) (one two three j k l n : ℕ) → three ≤ 8192 →
-      pic′ ≡ framePicture (frameNumber (callFault s (length pic) j k l n) s m) s m pic → j ≡ one → k ≡ two → l ≡ three → n ≡ 4096 →
+      pic′ ≡ framePicture (frameNumber (callFault 0 s (length pic) j k l n) s m) s m pic → j ≡ one → k ≡ two → l ≡ three → n ≡ 4096 →
       FrameMade (leb three 8192) s m one two three pic pic′ true
   unfolding frameMade
   three-made pic′ one two three j k l n h e a b c d =

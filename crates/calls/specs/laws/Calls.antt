@@ -49,5 +49,5 @@ taken-by c s t m a b e =
 pub unready-frame : (c : ReadFrame) → ready (c .session) ≡ false → frameReadingNumber (c .answer) ≡ 12
 unfolding frameNumber
 unready-frame c u =
-    let e = call-unready (c .session) _ _ _ _ _ u in
-    number-is _ _ _ _ _ _ _ _ _ _ _ _ _ (c .promise) ∙ sym (stops _ _ _ (λ z. omega (arith, e, z)) e)
+    let e = call-unready _ (c .session) _ _ _ _ _ u in
+    number-is _ _ _ _ _ _ _ _ _ _ _ _ _ _ (c .promise) ∙ sym (stops _ _ _ (λ z. omega (arith, e, z)) e)

@@ -1,6 +1,6 @@
--- The clamp's three answers.
+-- The clamp's three answers, and a pixel's word from its bytes.
 -- Assumes nothing.
-use mathlib.Core.Path.{_≡_, refl, sym, ap}
+use mathlib.Core.Path.{_≡_, refl, sym, ap, _∙_}
 use mathlib.Core.Bool.{Bool, true, false}
 use Prim.Native.Nat.{ℕ}
 use native.Mathlib.Omega.{arith}
@@ -10,7 +10,9 @@ use lib.IntN.{ℤ, pos, negsuc, natAbs}
 use lib.Signed.{ltZ, nonNeg}
 use mir.Syntax.{w8}
 use mir.Val.{Fits}
-use Rattle.colour.specs.Colour.{clampByte}
+use Rattle.whole.specs.Row.{_⇒_∣_}
+use Rattle.colour.specs.declared.Rgb.{Rgb}
+use Rattle.colour.specs.Colour.{clampByte, rgbOf, pack565, pack888, packOf, wordOf}
 
 true-not-false : {A : Type 0} → _≡_ {A = Bool} true false → A
 true-not-false e = absurd (let z : _≡_ {A = ℕ} 0 1 = ap (λ (b : Bool). pick b) (sym e) in omega arith)
@@ -33,3 +35,17 @@ pub clamp-mid : (x : ℤ) → ltZ x (pos 0) ≡ false → ltZ (pos 255) x ≡ fa
 unfolding clampByte
 clamp-mid (pos n) g h = (tt, omega (arith, ltb-false 255 n h), omega (arith, ltb-false 255 n h))
 clamp-mid (negsuc n) g h = true-not-false g
+
+-- ---- the word of a pixel's bytes, on either glass
+
+pub word-is : (glass : ℕ) (y cb cr : ℤ) (p : Rgb) (w : ℕ) → p ≡ rgbOf y cb cr → w ≡ packOf glass (p .r) (p .g) (p .b) → w ≡ wordOf glass y cb cr
+unfolding wordOf
+word-is glass y cb cr p w e q = q ∙ ap (λ (c : Rgb). packOf glass (c .r) (c .g) (c .b)) e
+
+pub pack-16 : (r g b : ℕ) → pack565 r g b ≡ packOf 0 r g b
+unfolding packOf _⇒_∣_
+pack-16 r g b = refl
+
+pub pack-32 : (r g b : ℕ) → pack888 r g b ≡ packOf 1 r g b
+unfolding packOf _⇒_∣_
+pack-32 r g b = refl

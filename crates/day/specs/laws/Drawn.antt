@@ -13,7 +13,7 @@ use Rattle.day.specs.Day.{State, Call, header, frame, FrameStep, Day, no
 use Rattle.day.specs.laws.Step.{frame-refused}
 
 frame-drawn : {s t : State} {c : ReadFrame} → FrameStep s c t → frameReadingNumber (c .answer) ≡ 0 → t .picture ≡ drawnBy c (s .picture)
-frame-drawn {c = c} k e = k .left ∙ Glass.accepted _ _ _ _ _ _ _ _ _ _ _ _ _ (c .promise) e .drawn ∙ ap (λ (p : List ℕ). drawnBy c p) (k .lent)
+frame-drawn {c = c} k e = k .left ∙ Glass.accepted _ _ _ _ _ _ _ _ _ _ _ _ _ _ (c .promise) e .drawn ∙ ap (λ (p : List ℕ). drawnBy c p) (k .lent)
 
 module _ (s t : State) (c : ReadFrame) (cs : List ReadFrame) (k : FrameStep s c t) where
   drawn-one :

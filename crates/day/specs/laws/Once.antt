@@ -16,33 +16,36 @@ use Rattle.day.specs.laws.Step.{state-is, some-struck}
 -- ---- a call as a function of what it is asked
 
 -- a frame call's number, of the record and the picture
-abbrev numberTo : List ℕ → ℕ → ℕ → ℕ → ℕ → Session → List ℕ → ℕ
-numberTo m y cb cr scratch s pic = frameNumber (callFault s (length pic) y cb cr scratch) s m
+abbrev numberTo : List ℕ → ℕ → ℕ → ℕ → ℕ → ℕ → Session → List ℕ → ℕ
+numberTo m y cb cr scratch word s pic = frameNumber (callFault word s (length pic) y cb cr scratch) s m
 
 -- the same, as it is asked
-abbrev numberOf : ReadFrame → Session → List ℕ → ℕ
+abbrev numberOf : ReadFrame → ℕ → Session → List ℕ → ℕ
 numberOf c = numberTo (c .message) (length (c .y)) (length (c .cb)) (length (c .cr)) (length (c .scratch))
 
 abbrev answerTo : State → Asked → Answer
 answerTo s (ask-header m) = of-header (headerReading (s .session) m)
-answerTo s (ask-frame m y cb cr scratch) = of-frame (frameReading (numberTo m y cb cr scratch (s .session) (s .picture)) m)
+answerTo s (ask-frame m y cb cr scratch) = of-frame (frameReading (numberTo m y cb cr scratch (s .word) (s .session) (s .picture)) m)
 
 abbrev pub after : State → Asked → State
-after s (ask-header m) = state (headerRecord (headerReading (s .session) m) (s .session)) (s .picture)
-after s (ask-frame m y cb cr scratch) = state (s .session) (framePicture (numberTo m y cb cr scratch (s .session) (s .picture)) (s .session) m (s .picture))
+after s (ask-header m) = state (headerRecord (headerReading (s .session) m) (s .session)) (s .word) (s .picture)
+after s (ask-frame m y cb cr scratch) =
+    state (s .session) (s .word) (framePicture (numberTo m y cb cr scratch (s .word) (s .session) (s .picture)) (s .session) m (s .picture))
 
 answer-is : (s t : State) (c : Call) → Step s c t → answered c ≡ answerTo s (asked c)
 answer-is s t (header c) k = ap of-header (c .promise ∙ ap (λ (x : Session). headerReading x (c .message)) (k .given))
 answer-is s t (frame c) k =
-    ap of-frame (c .promise .answer ∙ ap₂ (λ (x : Session) (p : List ℕ). frameReading (numberOf c x p) (c .message)) (k .given) (k .lent))
+    ap of-frame (c .promise .answer ∙ ap₂ (λ (x : Session) (p : List ℕ). frameReading (numberOf c (c .word) x p) (c .message)) (k .given) (k .lent)
+    ∙ ap (λ (n : ℕ). frameReading (numberOf c n (s .session) (s .picture)) (c .message)) (k .sized))
 
 after-is : (s t : State) (c : Call) → Step s c t → t ≡ after s (asked c)
 after-is s t (header c) k =
-    state-is (k .left ∙ ap₂ headerRecord (c .promise ∙ ap (λ (x : Session). headerReading x (c .message)) (k .given)) (k .given)) (k .picture-kept)
+    state-is (k .left ∙ ap₂ headerRecord (c .promise ∙ ap (λ (x : Session). headerReading x (c .message)) (k .given)) (k .given)) (k .word-kept) (k .picture-kept)
 after-is s t (frame c) k =
-    state-is (k .session-kept)
+    state-is (k .session-kept) (k .word-kept)
     (k .left ∙ c .promise .picture
-    ∙ ap₂ (λ (x : Session) (p : List ℕ). framePicture (numberOf c x p) x (c .message) p) (k .given) (k .lent))
+    ∙ ap₂ (λ (x : Session) (p : List ℕ). framePicture (numberOf c (c .word) x p) x (c .message) p) (k .given) (k .lent)
+    ∙ ap (λ (n : ℕ). framePicture (numberOf c n (s .session) (s .picture)) (s .session) (c .message) (s .picture)) (k .sized))
 
 -- ---- a day
 
@@ -94,10 +97,11 @@ abbrev pub headerCall : Session → List ℕ → ReadHeader
 headerCall s m = record { session = s; message = m; answer = headerReading s m; promise = refl }
 
 -- a frame call, lent lists of zeros
-abbrev pub frameCall : Session → List ℕ → List ℕ → ℕ → ℕ → ℕ → ℕ → ReadFrame
-frameCall s m pic a b c d =
-    let f : ℕ = callFault s (length pic) (length (zeros a)) (length (zeros b)) (length (zeros c)) (length (zeros d)) in
+abbrev pub frameCall : ℕ → Session → List ℕ → List ℕ → ℕ → ℕ → ℕ → ℕ → ReadFrame
+frameCall word s m pic a b c d =
+    let f : ℕ = callFault word s (length pic) (length (zeros a)) (length (zeros b)) (length (zeros c)) (length (zeros d)) in
     record {
+      word = word;
       session = s;
       message = m;
       picture = pic;
@@ -121,18 +125,18 @@ four-lists m a b c d a′ b′ c′ d′ p q r s = cc
 -- one such call, before a day
 pub header-then :
     {u : State} {cs : List Call} (s : State) (m : List ℕ)
-    → Day (state (sessionAfter (headerCall (s .session) m)) (s .picture)) cs u
+    → Day (state (sessionAfter (headerCall (s .session) m)) (s .word) (s .picture)) cs u
     → Day s (header (headerCall (s .session) m) ∷ cs) u
-header-then s m d = call {c = header _} (record { given = refl; left = refl; picture-kept = refl }) d
+header-then s m d = call {c = header _} (record { given = refl; left = refl; word-kept = refl; picture-kept = refl }) d
 
 pub frame-then :
     {u : State} {cs : List Call} (s : State) (m : List ℕ) (y cb cr scratch : ℕ)
-    → Day (state (s .session) (frameCall (s .session) m (s .picture) y cb cr scratch .picture′)) cs u
-    → Day s (frame (frameCall (s .session) m (s .picture) y cb cr scratch) ∷ cs) u
-frame-then s m y cb cr scratch d = call {c = frame _} (record { given = refl; lent = refl; session-kept = refl; left = refl }) d
+    → Day (state (s .session) (s .word) (frameCall (s .word) (s .session) m (s .picture) y cb cr scratch .picture′)) cs u
+    → Day s (frame (frameCall (s .word) (s .session) m (s .picture) y cb cr scratch) ∷ cs) u
+frame-then s m y cb cr scratch d = call {c = frame _} (record { given = refl; sized = refl; lent = refl; session-kept = refl; word-kept = refl; left = refl }) d
 
 module _ (s : State) (ls : List Asked) where
-  more-header : (m : List ℕ) → Made (state (sessionAfter (headerCall (s .session) m)) (s .picture)) ls → Made s (ask-header m ∷ ls)
+  more-header : (m : List ℕ) → Made (state (sessionAfter (headerCall (s .session) m)) (s .word) (s .picture)) ls → Made s (ask-header m ∷ ls)
   more-header m d =
       record {
         calls = header (headerCall (s .session) m) ∷ d .calls;
@@ -143,11 +147,11 @@ module _ (s : State) (ls : List Asked) where
 
   more-frame :
       (m : List ℕ) (y cb cr scratch : ℕ)
-      → Made (state (s .session) (frameCall (s .session) m (s .picture) y cb cr scratch .picture′)) ls
+      → Made (state (s .session) (s .word) (frameCall (s .word) (s .session) m (s .picture) y cb cr scratch .picture′)) ls
       → Made s (ask-frame m y cb cr scratch ∷ ls)
   more-frame m y cb cr scratch d =
       record {
-        calls = frame (frameCall (s .session) m (s .picture) y cb cr scratch) ∷ d .calls;
+        calls = frame (frameCall (s .word) (s .session) m (s .picture) y cb cr scratch) ∷ d .calls;
         end = d .end;
         day = frame-then s m y cb cr scratch (d .day);
         are =

@@ -31,7 +31,7 @@ or-first no-word b old = refl
 
 rule-tile :
     (c : ReadFrame) (px py old : ℕ) (t : Found)
-    → wordIn (tileWord (c .session .mode) (setAt (c .message) (setPlace (c .message)))) px py t old ≡ orFirst (tilePut c px py t) old
+    → wordIn (tileWord (c .session .glass) (c .session .mode) (setAt (c .message) (setPlace (c .message)))) px py t old ≡ orFirst (tilePut c px py t) old
 unfolding wordIn orFirst
 rule-tile c px py old (found t) = refl
 rule-tile c px py old none = refl
@@ -56,7 +56,7 @@ module _ (c : ReadFrame) (taken : frameReadingNumber (c .answer) ≡ 0) where
   pixel-put : (px py : ℕ) → px < w → py < h → getD (c .picture′) (py * w + px) 0 ≡ orFirst (pixelPut c px py) (getD (c .picture) (py * w + px) 0)
   unfolding pixelPut
   pixel-put px py a b =
-      shown-pixel _ _ _ _ _ _ _ _ _ _ _ _ _ (c .promise) taken px py a b
+      shown-pixel _ _ _ _ _ _ _ _ _ _ _ _ _ _ (c .promise) taken px py a b
       ∙ rule-case _ _ _ _ (rule-tile c px py _ (lastTile (frameTiles (c .message)) px py))
 
   place-put : (i : ℕ) → i < h * w → getD (c .picture′) i 0 ≡ orFirst (pixelPut c (i % w) (i / w)) (getD (c .picture) i 0)
@@ -68,7 +68,7 @@ module _ (c : ReadFrame) (taken : frameReadingNumber (c .answer) ≡ 0) where
   put-by : (i : ℕ) (b : Bool) → ltb i (h * w) ≡ b → getD (c .picture′) i 0 ≡ orFirst (put c i) (getD (c .picture) i 0)
   unfolding put orFirst _⇒_∣_
   put-by i true e = rw e (place-put i (ltb-true i (h * w) e))
-  put-by i false e = rw e (shown-past _ _ _ _ _ _ _ _ _ _ _ _ _ (c .promise) taken i (ltb-false i (h * w) e))
+  put-by i false e = rw e (shown-past _ _ _ _ _ _ _ _ _ _ _ _ _ _ (c .promise) taken i (ltb-false i (h * w) e))
 
 -- ---- a day
 
@@ -85,7 +85,7 @@ module _ (s t : State) (c : ReadFrame) (cs : List ReadFrame) (k : FrameStep s c 
   pixel-one i false e = rw e (ap (λ (x : List ℕ). orFirst (lastPut cs i) (getD x i 0)) (frame-refused k (eqb-false _ 0 e)))
 
   long-one : (b : Bool) → eqb (frameReadingNumber (c .answer)) 0 ≡ b → length (t .picture) ≡ length (s .picture)
-  long-one true e = ap length (k .left) ∙ shown-length _ _ _ _ _ _ _ _ _ _ _ _ _ (c .promise) (eqb-true _ 0 e) ∙ ap length (k .lent)
+  long-one true e = ap length (k .left) ∙ shown-length _ _ _ _ _ _ _ _ _ _ _ _ _ _ (c .promise) (eqb-true _ 0 e) ∙ ap length (k .lent)
   long-one false e = ap length (frame-refused k (eqb-false _ 0 e))
 
 pub pixel : (s t : State) (cs : List Call) → Day s cs t → (i : ℕ) → getD (t .picture) i 0 ≡ orFirst (lastPut (accepted cs) i) (getD (s .picture) i 0)

@@ -1,7 +1,7 @@
 -- One call: a refused one leaves everything; and striking refused calls out of a day.
 -- (01 is this project's scope document, 02 its change requests, 001 is MS-RDPRFX: README, "What 01 is".)
 use Prim.Native.Nat.{ℕ}
-use mathlib.Core.Path.{_≡_, refl, ap₂, subst, _∙_}
+use mathlib.Core.Path.{_≡_, refl, ap, ap₂, subst, _∙_}
 use mathlib.Core.Bool.{Bool, true, false}
 use mathlib.Core.List.{List, [], _∷_, _++_}
 use mathlib.Core.Logic.{_≢_}
@@ -20,8 +20,8 @@ use Rattle.day.specs.Day.{number, struck, Strikes, done, keep, strike, N
 
 -- ---- states
 
-pub state-is : {s t : State} → s .session ≡ t .session → s .picture ≡ t .picture → s ≡ t
-state-is a b = ap₂ state a b
+pub state-is : {s t : State} → s .session ≡ t .session → s .word ≡ t .word → s .picture ≡ t .picture → s ≡ t
+state-is {s} {t} a w b = ap₂ (λ (x : Session) (p : List ℕ). state x (s .word) p) a b ∙ ap (λ (n : ℕ). state (t .session) n (t .picture)) w
 
 -- ---- the header call
 
@@ -42,12 +42,12 @@ sync-taken c k e z = (k .left ∙ header-taken c z ∙ sync-record (c .session) 
 -- ---- "A refused header or frame changes neither record nor picture."
 
 pub frame-refused : {s t : State} {c : ReadFrame} → FrameStep s c t → frameReadingNumber (c .answer) ≢ 0 → t .picture ≡ s .picture
-frame-refused {c = c} k r = k .left ∙ refused _ _ _ _ _ _ _ _ _ _ _ _ _ (c .promise) r .0 ∙ k .lent
+frame-refused {c = c} k r = k .left ∙ refused _ _ _ _ _ _ _ _ _ _ _ _ _ _ (c .promise) r .0 ∙ k .lent
 
 refused-same : (s t : State) (c : Call) → Step s c t → number c ≢ 0 → t ≡ s
 unfolding number
-refused-same s t (header c) k r = state-is (k .left ∙ header-refused c r ∙ k .given) (k .picture-kept)
-refused-same s t (frame c) k r = state-is (k .session-kept) (frame-refused k r)
+refused-same s t (header c) k r = state-is (k .left ∙ header-refused c r ∙ k .given) (k .word-kept) (k .picture-kept)
+refused-same s t (frame c) k r = state-is (k .session-kept) (k .word-kept) (frame-refused k r)
 
 -- ---- one day after another
 

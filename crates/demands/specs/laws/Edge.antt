@@ -98,11 +98,11 @@ send-is c = wrote-is _ _ (c .out) (c .out′) (c .size) (c .number) (c .promise 
 -- ---- one answer
 
 frame-call-once :
-    (s s₁ s₂ : Session) (m pic : List ℕ) (y cb cr tmp : List ℤ) (p₁ p₂ : List ℕ) (y₁ y₂ b₁ b₂ r₁ r₂ t₁ t₂ : List ℤ) (k₁ k₂ n₁ n₂ : ℕ) →
-    ReadFrameCall s s₁ m pic y cb cr tmp p₁ y₁ b₁ r₁ t₁ k₁ n₁ → ReadFrameCall s s₂ m pic y cb cr tmp p₂ y₂ b₂ r₂ t₂ k₂ n₂ →
+    (word : ℕ) (s s₁ s₂ : Session) (m pic : List ℕ) (y cb cr tmp : List ℤ) (p₁ p₂ : List ℕ) (y₁ y₂ b₁ b₂ r₁ r₂ t₁ t₂ : List ℤ) (k₁ k₂ n₁ n₂ : ℕ) →
+    ReadFrameCall word s s₁ m pic y cb cr tmp p₁ y₁ b₁ r₁ t₁ k₁ n₁ → ReadFrameCall word s s₂ m pic y cb cr tmp p₂ y₂ b₂ r₂ t₂ k₂ n₂ →
     (n₁ ≡ n₂) × (k₁ ≡ k₂) × (s₁ ≡ s₂) × (p₁ ≡ p₂) × (y₁ ≡ y₂) × (b₁ ≡ b₂) × (r₁ ≡ r₂) × (t₁ ≡ t₂)
-frame-call-once s s₁ s₂ m pic y cb cr tmp p₁ p₂ y₁ y₂ b₁ b₂ r₁ r₂ t₁ t₂ k₁ k₂ n₁ n₂ x z =
-    let o = one-frame s m pic y cb cr tmp p₁ y₁ b₁ r₁ t₁ _ p₂ y₂ b₂ r₂ t₂ _ (x .lists) (z .lists) in
+frame-call-once word s s₁ s₂ m pic y cb cr tmp p₁ p₂ y₁ y₂ b₁ b₂ r₁ r₂ t₁ t₂ k₁ k₂ n₁ n₂ x z =
+    let o = one-frame word s m pic y cb cr tmp p₁ y₁ b₁ r₁ t₁ _ p₂ y₂ b₂ r₂ t₂ _ (x .lists) (z .lists) in
     (x .number ∙ sym (z .number), x .count ∙ sym (z .count), x .session ∙ sym (z .session), o .picture, o .y-list, o .cb-list, o .cr-list, o .tmp-list)
 
 -- every writer's

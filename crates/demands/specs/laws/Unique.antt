@@ -22,13 +22,13 @@ pub header-once : (c d : ReadHeader) → c .session ≡ d .session → c .messag
 header-once c d s m = c .promise ∙ rw (s, m) (sym (d .promise))
 
 pub frame-read-once :
-    (c d : ReadFrame) → c .session ≡ d .session → c .message ≡ d .message → c .picture ≡ d .picture →
+    (c d : ReadFrame) → c .word ≡ d .word → c .session ≡ d .session → c .message ≡ d .message → c .picture ≡ d .picture →
     c .y ≡ d .y → c .cb ≡ d .cb → c .cr ≡ d .cr → c .scratch ≡ d .scratch →
     (c .answer ≡ d .answer) × (c .picture′ ≡ d .picture′) × (c .y′ ≡ d .y′) × (c .cb′ ≡ d .cb′) × (c .cr′ ≡ d .cr′) × (c .scratch′ ≡ d .scratch′)
-frame-read-once c d s m p y b r t =
-    let e : FrameRead (c .session) (c .message) (c .picture) (c .y) (c .cb) (c .cr) (c .scratch) (d .picture′) (d .y′) (d .cb′) (d .cr′) (d .scratch′) (d .answer) =
-    rw (s, m, p, y, b, r, t) (d .promise) in
-    let o = one-frame _ _ _ _ _ _ _ _ _ _ _ _ _ _ _ _ _ _ _ (c .promise) e in
+frame-read-once c d n s m p y b r t =
+    let e : FrameRead (c .word) (c .session) (c .message) (c .picture) (c .y) (c .cb) (c .cr) (c .scratch) (d .picture′) (d .y′) (d .cb′) (d .cr′) (d .scratch′) (d .answer) =
+    rw (n, s, m, p, y, b, r, t) (d .promise) in
+    let o = one-frame _ _ _ _ _ _ _ _ _ _ _ _ _ _ _ _ _ _ _ _ (c .promise) e in
     (o .answer, o .picture, o .y-list, o .cb-list, o .cr-list, o .tmp-list)
 
 pub component-once : (c d : ReadComponent) → c .mode ≡ d .mode → c .bytes ≡ d .bytes → c .list ≡ d .list → (c .answer ≡ d .answer) × (c .list′ ≡ d .list′)

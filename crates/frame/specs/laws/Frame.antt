@@ -15,11 +15,12 @@ use Rattle.frame_blocks.specs.Blocks.{setFront, rectsOf, RegionGood}
 use Rattle.frame_blocks.specs.laws.Blocks.{begin-good, region-good}
 use Rattle.frame_blocks.specs.Judged.{judged, inSet, SetSound}
 use Rattle.frame_blocks.specs.laws.Judged.{set-sound, set-fault}
+use Rattle.frame_draw.specs.declared.tiles.Pass.{Pass}
 use Rattle.frame_draw.specs.Shown.{tilesDrawn}
 use Rattle.frame_draw.specs.Show.{Lists, tileWord}
 use Rattle.session.specs.Header.{ready}
 use Rattle.session.specs.declared.Session.{Session}
-use Rattle.frame.specs.Frame.{full, callFault, early, frontFault, framed, frameNumber, framePicture, frameList, Cleared, frameReading, FrameRead}
+use Rattle.frame.specs.Frame.{full, callFault, early, frontFault, framed, frameNumber, framePicture, frameList, Cleared, frameReading, passOf, FrameJudged, FrameRead}
 use Rattle.frame.specs.declared.call.FrameReading.the-variants.{Done, Refused}
 
 not-0 : (k : ℕ) → 0 ≡ suc k → ⊥
@@ -36,25 +37,27 @@ full-is y cb cr tmp e =
     record { y-len = eqb-true (length y) 4096 (a .0); cb-len = eqb-true (length cb) 4096 (b .0); cr-len = eqb-true (length cr) 4096 (c .0); tmp-len = eqb-true (length tmp) 4096 (sym (c .1)) }
 
 -- what a call has that is neither 12 nor 2 before the message
-pub record CallGood (s : Session) (p : ℕ) (y cb cr tmp : List ℤ) : Type 0 where
+pub record CallGood (word : ℕ) (s : Session) (p : ℕ) (y cb cr tmp : List ℤ) : Type 0 where
   pub is-ready : ready s ≡ true
   pub lists : Lists y cb cr tmp
-  pub glass : s .glass ≡ 0
+  pub glass : word ≡ s .glass
   pub room : s .height * s .width ≤ p
 
-pub call-good : (s : Session) (p : ℕ) (y cb cr tmp : List ℤ) → 0 ≡ callFault s p (length y) (length cb) (length cr) (length tmp) → CallGood s p y cb cr tmp
+pub call-good :
+    (word : ℕ) (s : Session) (p : ℕ) (y cb cr tmp : List ℤ) → 0 ≡ callFault word s p (length y) (length cb) (length cr) (length tmp) →
+    CallGood word s p y cb cr tmp
 unfolding callFault
-call-good s p y cb cr tmp e =
+call-good word s p y cb cr tmp e =
     let a = held (ready s) 12 _ 0 (not-0 11) e in
     let b = held (full (length y) (length cb) (length cr) (length tmp)) 2 _ 0 (not-0 1) (a .1) in
-    let g = held (eqb (s .glass) 0) 2 _ 0 (not-0 1) (b .1) in
+    let g = held (eqb word (s .glass)) 2 _ 0 (not-0 1) (b .1) in
     let c = held (leb (s .height * s .width) p) 2 _ 0 (not-0 1) (g .1) in
-    record { is-ready = a .0; lists = full-is y cb cr tmp (b .0); glass = eqb-true (s .glass) 0 (g .0); room = leb-true (s .height * s .width) p (c .0) }
+    record { is-ready = a .0; lists = full-is y cb cr tmp (b .0); glass = eqb-true word (s .glass) (g .0); room = leb-true (s .height * s .width) p (c .0) }
 
 -- a record that is not ready is 12, whatever is lent
-pub call-unready : (s : Session) (p a b c t : ℕ) → ready s ≡ false → 12 ≡ callFault s p a b c t
+pub call-unready : (word : ℕ) (s : Session) (p a b c t : ℕ) → ready s ≡ false → 12 ≡ callFault word s p a b c t
 unfolding callFault
-call-unready s p a b c t e = fails _ _ _ _ e refl
+call-unready word s p a b c t e = fails _ _ _ _ e refl
 
 -- ---- the message
 
@@ -115,62 +118,103 @@ answer-done : (n k : ℕ) (m : List ℕ) → n ≡ 0 → k ≡ tileCount m (setP
 unfolding frameReading
 answer-done n k m e h = case-yes _ _ _ _ (eq-eqb n 0 e) (ap Done h)
 
-module _ (s : Session) (m pic : List ℕ) (y cb cr tmp : List ℤ) (f : ℕ) (e : f ≡ early s pic y cb cr tmp) where
+-- what is judged before the picture is touched
+module _ (word : ℕ) (s : Session) (p : ℕ) (m : List ℕ) (y cb cr tmp : List ℤ) (f : ℕ) (e : f ≡ callFault word s p (length y) (length cb) (length cr) (length tmp)) where
+  -- 12 or 2: nothing was touched
+  pub judged-early : (f ≡ 0 → ⊥) → FrameJudged word s p m y cb cr tmp y cb cr tmp f
+  unfolding frameNumber frameList
+  judged-early k =
+      let z = ne-eqb _ 0 (λ x. k (e ∙ x)) in
+      record {
+        number = stops _ _ _ (λ z. k (e ∙ z)) e;
+        y-left = λ n. fails _ _ _ _ z refl;
+        cb-left = λ n. fails _ _ _ _ z refl;
+        cr-left = λ n. fails _ _ _ _ z refl;
+        tmp-left = λ n. fails _ _ _ _ z refl;
+      }
+
+  module _ (k : f ≡ 0) (y′ cb′ cr′ tmp′ : List ℤ) (g : ℕ) (q : g ≡ frameFault judged (s .width) (s .height) (s .mode) m) where
+    -- a fault of the message: the lists are cleared
+    pub judged-refused : Cleared y′ cb′ cr′ tmp′ → FrameJudged word s p m y cb cr tmp y′ cb′ cr′ tmp′ g
+    unfolding frameNumber frameList
+    judged-refused c =
+        let z = eq-eqb _ 0 (sym e ∙ k) in
+        record {
+          number = goes-on _ _ _ (sym e ∙ k) q;
+          y-left = λ n. passes _ _ _ _ z (c .y-is);
+          cb-left = λ n. passes _ _ _ _ z (c .cb-is);
+          cr-left = λ n. passes _ _ _ _ z (c .cr-is);
+          tmp-left = λ n. passes _ _ _ _ z (c .tmp-is);
+        }
+
+    -- none
+    pub judged-fine : g ≡ 0 → FrameJudged word s p m y cb cr tmp y′ cb′ cr′ tmp′ 0
+    unfolding frameNumber
+    judged-fine z =
+        record {
+          number = goes-on _ _ _ (sym e ∙ k) (sym z ∙ q);
+          y-left = λ n. absurd (n refl);
+          cb-left = λ n. absurd (n refl);
+          cr-left = λ n. absurd (n refl);
+          tmp-left = λ n. absurd (n refl);
+        }
+
+-- the whole call, over a picture of either word size
+module _ (word : ℕ) (s : Session) (m pic : List ℕ) (y cb cr tmp y′ cb′ cr′ tmp′ : List ℤ) (n : ℕ)
+    (j : FrameJudged word s (length pic) m y cb cr tmp y′ cb′ cr′ tmp′ n) where
   before : ℕ
-  before = early s pic y cb cr tmp
+  before = early word s pic y cb cr tmp
 
   number : ℕ
   number = frameNumber before s m
 
-  -- 12 or 2: nothing was touched
-  pub frame-early : (f ≡ 0 → ⊥) → FrameRead s m pic y cb cr tmp pic y cb cr tmp (Refused f)
-  unfolding before number frameNumber framePicture frameList
-  frame-early k =
-      let n : f ≡ number = stops _ _ _ (λ z. k (e ∙ z)) e in
-      let z : eqb number 0 ≡ false = ne-eqb number 0 (λ x. k (n ∙ x)) in
-      let z′ : eqb before 0 ≡ false = ne-eqb before 0 (λ x. k (e ∙ x)) in
+  is-number : n ≡ number
+  unfolding number before
+  is-number = j .number
+
+  -- a refusal: the picture is as it was
+  pub frame-refused : (n ≡ 0 → ⊥) → FrameRead word s m pic y cb cr tmp pic y′ cb′ cr′ tmp′ (Refused n)
+  unfolding number before framePicture
+  frame-refused k =
       record {
-        answer = answer-refused _ _ m n k;
-        picture = fails _ _ _ _ z refl;
-        y-list = fails _ _ _ _ z′ refl;
-        cb-list = fails _ _ _ _ z′ refl;
-        cr-list = fails _ _ _ _ z′ refl;
-        tmp-list = fails _ _ _ _ z′ refl;
+        answer = answer-refused _ _ m is-number k;
+        picture = fails _ _ _ _ (ne-eqb number 0 (λ x. k (is-number ∙ x))) refl;
+        y-list = j .y-left k;
+        cb-list = j .cb-left k;
+        cr-list = j .cr-left k;
+        tmp-list = j .tmp-left k;
       }
 
-  module _ (k : f ≡ 0) (y′ cb′ cr′ tmp′ : List ℤ) (c : Cleared y′ cb′ cr′ tmp′) (g : ℕ) (q : g ≡ frameFault judged (s .width) (s .height) (s .mode) m) where
-    is-number : g ≡ number
-    unfolding before number frameNumber
-    is-number = goes-on _ _ _ (sym e ∙ k) q
+  -- none: what the draw pass asks for
+  module _ (z : n ≡ 0) where
+    parts : (0 ≡ before) × (0 ≡ frameFault judged (s .width) (s .height) (s .mode) m)
+    unfolding number before frameNumber
+    parts = both before (frameFault judged (s .width) (s .height) (s .mode) m) (sym z ∙ is-number)
 
-    passed : eqb before 0 ≡ true
+    pub frame-call : CallGood word s (length pic) y cb cr tmp
     unfolding before
-    passed = eq-eqb before 0 (sym e ∙ k)
+    frame-call = call-good word s (length pic) y cb cr tmp (parts .0)
 
-    -- a fault of the message: the picture is as it was, the lists are cleared
-    pub frame-refused : (g ≡ 0 → ⊥) → FrameRead s m pic y cb cr tmp pic y′ cb′ cr′ tmp′ (Refused g)
-    unfolding before number framePicture frameList
-    frame-refused l = record {
-      answer = answer-refused _ _ m is-number l;
-      picture = fails _ _ _ _ (ne-eqb number 0 (λ x. l (is-number ∙ x))) refl;
-      y-list = passes _ _ _ _ passed (c .y-is);
-      cb-list = passes _ _ _ _ passed (c .cb-is);
-      cr-list = passes _ _ _ _ passed (c .cr-is);
-      tmp-list = passes _ _ _ _ passed (c .tmp-is);
-    }
+    pub frame-message : 0 ≡ frameFault judged (s .width) (s .height) (s .mode) m
+    frame-message = parts .1
 
     -- done: the frame is drawn, the lists are cleared
-    pub frame-done : g ≡ 0 → (pic′ : List ℕ) (n : ℕ) → pic′ ≡ framed (s .mode) (s .width) (s .height) m pic → n ≡ tileCount m (setPlace m) →
-        FrameRead s m pic y cb cr tmp pic′ y′ cb′ cr′ tmp′ (Done n)
-    unfolding before number framePicture frameList
-    frame-done l pic′ n p t = record {
-      answer = answer-done _ _ m (sym is-number ∙ l) t;
-      picture = passes _ _ _ _ (eq-eqb number 0 (sym is-number ∙ l)) p;
-      y-list = passes _ _ _ _ passed (c .y-is);
-      cb-list = passes _ _ _ _ passed (c .cb-is);
-      cr-list = passes _ _ _ _ passed (c .cr-is);
-      tmp-list = passes _ _ _ _ passed (c .tmp-is);
-    }
+    pub frame-done :
+        (pic′ : List ℕ) (y″ cb″ cr″ tmp″ : List ℤ) (k : ℕ) → pic′ ≡ framed word (s .mode) (s .width) (s .height) m pic → Cleared y″ cb″ cr″ tmp″ →
+        k ≡ tileCount m (setPlace m) → FrameRead word s m pic y cb cr tmp pic′ y″ cb″ cr″ tmp″ (Done k)
+    unfolding number before framePicture frameList
+    frame-done pic′ y″ cb″ cr″ tmp″ k p c t =
+        let d : pic′ ≡ framed (s .glass) (s .mode) (s .width) (s .height) m pic =
+        p ∙ ap (λ (g : ℕ). framed g (s .mode) (s .width) (s .height) m pic) (frame-call .glass) in
+        let passed = eq-eqb before 0 (sym (parts .0)) in
+        record {
+          answer = answer-done _ _ m (sym is-number ∙ z) t;
+          picture = passes _ _ _ _ (eq-eqb number 0 (sym is-number ∙ z)) d;
+          y-list = passes _ _ _ _ passed (c .y-is);
+          cb-list = passes _ _ _ _ passed (c .cb-is);
+          cr-list = passes _ _ _ _ passed (c .cr-is);
+          tmp-list = passes _ _ _ _ passed (c .tmp-is);
+        }
 
 -- the check pass by its calls: the tiles' fault or the end's, behind a front without a fault
 module _ (w h et : ℕ) (m : List ℕ) (f : ℕ) (ef : f ≡ frontFault et m) where
@@ -198,25 +242,36 @@ module _ (w h et : ℕ) (m : List ℕ) (f : ℕ) (ef : f ≡ frontFault et m) wh
           let p : 14 + size + last ≡ setPlace m + sizeAt m (setPlace m) = ap (λ (x : ℕ). 14 + size + x) el ∙ ap (λ (x : ℕ). x + sizeAt m x) place-is in
           goes-on _ _ _ (sym ef ∙ z) (goes-on _ _ _ (sym tiles-are ∙ k) (er ∙ ap (endFault m) p)) ∙ sym (frame-parts w h et m)
 
--- the draw pass, at the place that the code has computed
-module _ (w h et : ℕ) (m : List ℕ) (g : MessageGood w h et m) (size : ℕ) (es : size ≡ sizeAt m 14) where
-  at-place : 14 + size ≡ setPlace m
-  unfolding setPlace
-  at-place = ap (λ (k : ℕ). 14 + k) es
+-- ---- the draw pass, of a message without a fault
 
-  pub drawn-set : SetSound m (14 + size)
-  drawn-set = subst (SetSound m) (sym at-place) (g .front .set)
+pub pass-is : (s : Session) (m : List ℕ) (size : ℕ) → size ≡ sizeAt m 14 → record { mode = s .mode; w = s .width; h = s .height; sp = 14 + size } ≡ passOf s m
+unfolding setPlace
+pass-is s m size e = rw e
 
-  pub drawn-tiles : 0 ≡ tilesFault (inSet et m (14 + size)) w h (quantCount m (14 + size)) (dataOf m (14 + size)) (tileCount m (14 + size)) 0
-  drawn-tiles = g .tiles ∙ ap (λ (k : ℕ). tilesFault (inSet et m k) w h (quantCount m k) (dataOf m k) (tileCount m k) 0) (sym at-place)
+-- a pass with those numbers shows the frame
+pub pass-shown :
+    (glass : ℕ) (s : Session) (m : List ℕ) (p : Pass) (pic pic′ : List ℕ) → p ≡ passOf s m →
+    pic′ ≡ tilesDrawn (rectsOf m 14) (rectCount m 14) (tileWord glass (p .mode) (setAt m (p .sp))) (p .w) (p .h) (tilesIn (dataOf m (p .sp)) (tileCount m (p .sp)) 0) pic →
+    pic′ ≡ framed glass (s .mode) (s .width) (s .height) m pic
+unfolding framed frameTiles
+pass-shown glass s m p pic pic′ e d =
+    d
+    ∙ ap (λ (q : Pass).
+    tilesDrawn (rectsOf m 14) (rectCount m 14) (tileWord glass (q .mode) (setAt m (q .sp))) (q .w) (q .h) (tilesIn (dataOf m (q .sp)) (tileCount m (q .sp)) 0) pic) e
 
-  pub drawn-count : (n : ℕ) → n ≡ tileCount m (14 + size) → n ≡ tileCount m (setPlace m)
-  drawn-count n e = e ∙ ap (tileCount m) at-place
+pub pass-room : (s : Session) (m : List ℕ) (p : Pass) (n : ℕ) → p ≡ passOf s m → s .height * s .width ≤ n → p .h * p .w ≤ n
+pass-room s m p n e l = subst (λ (q : Pass). q .h * q .w ≤ n) (sym e) l
 
-  pub drawn-picture :
-      (pic pic′ : List ℕ) →
-      pic′ ≡ tilesDrawn (rectsOf m 14) (rectCount m 14) (tileWord et (setAt m (14 + size))) w h (tilesIn (dataOf m (14 + size)) (tileCount m (14 + size)) 0) pic →
-      pic′ ≡ framed et w h m pic
-  unfolding framed frameTiles
-  drawn-picture pic pic′ e =
-      e ∙ ap (λ (k : ℕ). tilesDrawn (rectsOf m 14) (rectCount m 14) (tileWord et (setAt m k)) w h (tilesIn (dataOf m k) (tileCount m k) 0) pic) at-place
+pub pass-count : (s : Session) (m : List ℕ) (p : Pass) (n : ℕ) → p ≡ passOf s m → n ≡ tileCount m (p .sp) → n ≡ tileCount m (setPlace m)
+pass-count s m p n e f = f ∙ ap (λ (q : Pass). tileCount m (q .sp)) e
+
+-- what it asks for
+pub record PassGood (p : Pass) (m : List ℕ) : Type 0 where
+  pub region : RegionGood m 14
+  pub set : SetSound m (p .sp)
+  pub tiles : 0 ≡ tilesFault (inSet (p .mode) m (p .sp)) (p .w) (p .h) (quantCount m (p .sp)) (dataOf m (p .sp)) (tileCount m (p .sp)) 0
+
+pub pass-good : (s : Session) (m : List ℕ) (p : Pass) → p ≡ passOf s m → 0 ≡ frameFault judged (s .width) (s .height) (s .mode) m → PassGood p m
+pass-good s m p e f =
+    let g = message-good (s .width) (s .height) (s .mode) m f in
+    subst (λ (q : Pass). PassGood q m) (sym e) (record { region = g .front .region; set = g .front .set; tiles = g .tiles })

@@ -39,13 +39,13 @@ tiles-none : (n : ℕ) (m : List ℕ) → (n ≡ 0 → ⊥) → frameReadingTile
 unfolding frameReading frameReadingTiles _⇒_∣_
 tiles-none n m h = rw (ne-eqb n 0 h)
 
-module _ (s : Session) (m pic : List ℕ) (y cb cr tmp : List ℤ) (pic′ : List ℕ) (y′ cb′ cr′ tmp′ : List ℤ) (r : FrameReading)
-    (done : FrameRead s m pic y cb cr tmp pic′ y′ cb′ cr′ tmp′ r) where
+module _ (word : ℕ) (s : Session) (m pic : List ℕ) (y cb cr tmp : List ℤ) (pic′ : List ℕ) (y′ cb′ cr′ tmp′ : List ℤ) (r : FrameReading)
+    (done : FrameRead word s m pic y cb cr tmp pic′ y′ cb′ cr′ tmp′ r) where
   number : ℕ
-  number = frameNumber (early s pic y cb cr tmp) s m
+  number = frameNumber (early word s pic y cb cr tmp) s m
 
   -- the number is that of 12, then 2, then the message's first fault
-  pub number-is : frameReadingNumber r ≡ frameNumber (early s pic y cb cr tmp) s m
+  pub number-is : frameReadingNumber r ≡ frameNumber (early word s pic y cb cr tmp) s m
   unfolding number
   number-is = ap frameReadingNumber (done .answer) ∙ by-number number m _ refl
 
@@ -58,18 +58,18 @@ module _ (s : Session) (m pic : List ℕ) (y cb cr tmp : List ℤ) (pic′ : Lis
 
   -- what holds where the answer is 0
   pub record Accepted : Type 0 where
-    pub call : CallGood s (length pic) y cb cr tmp
+    pub call : CallGood word s (length pic) y cb cr tmp
     pub message : 0 ≡ frameFault judged (s .width) (s .height) (s .mode) m
-    pub drawn : pic′ ≡ framed (s .mode) (s .width) (s .height) m pic
+    pub drawn : pic′ ≡ framed (s .glass) (s .mode) (s .width) (s .height) m pic
     pub counted : frameReadingTiles r ≡ tileCount m (setPlace m)
 
   pub accepted : frameReadingNumber r ≡ 0 → Accepted
   unfolding number framePicture frameNumber
   accepted k =
       let n : number ≡ 0 = sym number-is ∙ k in
-      let a = both (early s pic y cb cr tmp) (frameFault judged (s .width) (s .height) (s .mode) m) (sym n) in
+      let a = both (early word s pic y cb cr tmp) (frameFault judged (s .width) (s .height) (s .mode) m) (sym n) in
       record {
-        call = call-good s (length pic) y cb cr tmp (a .0);
+        call = call-good word s (length pic) y cb cr tmp (a .0);
         message = a .1;
         drawn = done .picture ∙ sym (passes _ _ _ _ (eq-eqb number 0 n) refl);
         counted = ap frameReadingTiles (done .answer) ∙ tiles-done number m n;
@@ -80,26 +80,26 @@ module _ (s : Session) (m pic : List ℕ) (y cb cr tmp : List ℤ) (pic′ : Lis
       frameReadingNumber r ≡ 0 → (px py : ℕ) → px < s .width → py < s .height →
       getD pic′ (py * s .width + px) 0
       ≡ (inRegion (rectsOf m 14) (rectCount m 14) px py
-      ⇒ wordIn (tileWord (s .mode) (setAt m (setPlace m))) px py (lastTile (frameTiles m) px py) (getD pic (py * s .width + px) 0)
+      ⇒ wordIn (tileWord (s .glass) (s .mode) (setAt m (setPlace m))) px py (lastTile (frameTiles m) px py) (getD pic (py * s .width + px) 0)
       ∣ getD pic (py * s .width + px) 0)
   unfolding framed
   shown-pixel k px py in-w in-h =
       let a = accepted k in
       ap (λ (p : List ℕ). getD p (py * s .width + px) 0) (a .drawn)
-      ∙ tiles-pixel (rectsOf m 14) (rectCount m 14) (tileWord (s .mode) (setAt m (setPlace m))) (s .width) (s .height) (frameTiles m) pic px py in-w in-h (a .call .room)
+      ∙ tiles-pixel (rectsOf m 14) (rectCount m 14) (tileWord (s .glass) (s .mode) (setAt m (setPlace m))) (s .width) (s .height) (frameTiles m) pic px py in-w in-h (a .call .room)
 
   -- every word past it
   pub shown-past : frameReadingNumber r ≡ 0 → (i : ℕ) → s .height * s .width ≤ i → getD pic′ i 0 ≡ getD pic i 0
   unfolding framed
   shown-past k i l =
       ap (λ (p : List ℕ). getD p i 0) (accepted k .drawn)
-      ∙ tiles-past (rectsOf m 14) (rectCount m 14) (tileWord (s .mode) (setAt m (setPlace m))) (s .width) (s .height) (frameTiles m) pic i l
+      ∙ tiles-past (rectsOf m 14) (rectCount m 14) (tileWord (s .glass) (s .mode) (setAt m (setPlace m))) (s .width) (s .height) (frameTiles m) pic i l
 
   pub shown-length : frameReadingNumber r ≡ 0 → length pic′ ≡ length pic
   unfolding framed
   shown-length k =
       ap length (accepted k .drawn)
-      ∙ tiles-length (rectsOf m 14) (rectCount m 14) (tileWord (s .mode) (setAt m (setPlace m))) (s .width) (s .height) (frameTiles m) pic
+      ∙ tiles-length (rectsOf m 14) (rectCount m 14) (tileWord (s .glass) (s .mode) (setAt m (setPlace m))) (s .width) (s .height) (frameTiles m) pic
 
 -- one answer and one content of the lent memory
 pub record SameFrame (pic pic′ : List ℕ) (y cb cr tmp y′ cb′ cr′ tmp′ : List ℤ) (a b : FrameReading) : Type 0 where
@@ -111,10 +111,10 @@ pub record SameFrame (pic pic′ : List ℕ) (y cb cr tmp y′ cb′ cr′ tmp�
   pub tmp-list : tmp ≡ tmp′
 
 pub one-frame :
-    (s : Session) (m pic : List ℕ) (y cb cr tmp : List ℤ) (p₁ : List ℕ) (y₁ b₁ r₁ t₁ : List ℤ) (a₁ : FrameReading)
+    (word : ℕ) (s : Session) (m pic : List ℕ) (y cb cr tmp : List ℤ) (p₁ : List ℕ) (y₁ b₁ r₁ t₁ : List ℤ) (a₁ : FrameReading)
     (p₂ : List ℕ) (y₂ b₂ r₂ t₂ : List ℤ) (a₂ : FrameReading) →
-    FrameRead s m pic y cb cr tmp p₁ y₁ b₁ r₁ t₁ a₁ → FrameRead s m pic y cb cr tmp p₂ y₂ b₂ r₂ t₂ a₂ → SameFrame p₁ p₂ y₁ b₁ r₁ t₁ y₂ b₂ r₂ t₂ a₁ a₂
-one-frame s m pic y cb cr tmp p₁ y₁ b₁ r₁ t₁ a₁ p₂ y₂ b₂ r₂ t₂ a₂ d e =
+    FrameRead word s m pic y cb cr tmp p₁ y₁ b₁ r₁ t₁ a₁ → FrameRead word s m pic y cb cr tmp p₂ y₂ b₂ r₂ t₂ a₂ → SameFrame p₁ p₂ y₁ b₁ r₁ t₁ y₂ b₂ r₂ t₂ a₁ a₂
+one-frame word s m pic y cb cr tmp p₁ y₁ b₁ r₁ t₁ a₁ p₂ y₂ b₂ r₂ t₂ a₂ d e =
     record {
       answer = d .answer ∙ sym (e .answer);
       picture = d .picture ∙ sym (e .picture);

@@ -93,23 +93,23 @@ message-among w h et m = search (numbers, begin-among, region-among, set-among, 
 -- ---- the call
 
 -- before the message: 0, 12 or 2
-call-among : (s : Session) (p a b c t : ℕ) → Among (0 ∷ 12 ∷ 2 ∷ []) (callFault s p a b c t)
+call-among : (word : ℕ) (s : Session) (p a b c t : ℕ) → Among (0 ∷ 12 ∷ 2 ∷ []) (callFault word s p a b c t)
 unfolding callFault among
-call-among s p a b c t = search numbers
+call-among word s p a b c t = search numbers
 
 -- 12 and 2 leave the lists as they were, every other answer leaves zeros
-module _ (s : Session) (m pic : List ℕ) (y cb cr tmp : List ℤ) (pic′ : List ℕ) (y′ cb′ cr′ tmp′ : List ℤ) (r : FrameReading)
-    (done : FrameRead s m pic y cb cr tmp pic′ y′ cb′ cr′ tmp′ r) where
+module _ (word : ℕ) (s : Session) (m pic : List ℕ) (y cb cr tmp : List ℤ) (pic′ : List ℕ) (y′ cb′ cr′ tmp′ : List ℤ) (r : FrameReading)
+    (done : FrameRead word s m pic y cb cr tmp pic′ y′ cb′ cr′ tmp′ r) where
   before : ℕ
-  before = early s pic y cb cr tmp
+  before = early word s pic y cb cr tmp
 
-  number : frameReadingNumber r ≡ frameNumber (early s pic y cb cr tmp) s m
-  number = number-is s m pic y cb cr tmp pic′ y′ cb′ cr′ tmp′ r done
+  number : frameReadingNumber r ≡ frameNumber (early word s pic y cb cr tmp) s m
+  number = number-is word s m pic y cb cr tmp pic′ y′ cb′ cr′ tmp′ r done
 
   -- which numbers the call answers
   pub frame-among : Among (12 ∷ 2 ∷ messageNumbers) (frameReadingNumber r)
   unfolding frameNumber each among
-  frame-among = rw number (among-then _ _ (among-all _ (call-among s _ _ _ _ _) refl) (among-all _ (message-among (s .width) (s .height) (s .mode) m) refl))
+  frame-among = rw number (among-then _ _ (among-all _ (call-among word s _ _ _ _ _) refl) (among-all _ (message-among (s .width) (s .height) (s .mode) m) refl))
 
   -- the four lists are those that came in
   pub record Untouched : Type 0 where
@@ -133,7 +133,7 @@ module _ (s : Session) (m pic : List ℕ) (y cb cr tmp : List ℤ) (pic′ : Lis
   pub cleared : Other (12 ∷ 2 ∷ []) (frameReadingNumber r) → Cleared y′ cb′ cr′ tmp′
   unfolding before frameList frameNumber
   cleared o =
-      let z = eq-eqb before 0 (first-none before _ (call-among s _ _ _ _ _) (subst (Other (12 ∷ 2 ∷ [])) number o)) in
+      let z = eq-eqb before 0 (first-none before _ (call-among word s _ _ _ _ _) (subst (Other (12 ∷ 2 ∷ [])) number o)) in
       record {
         y-is = done .y-list ∙ sym (passes _ _ _ _ z refl);
         cb-is = done .cb-list ∙ sym (passes _ _ _ _ z refl);

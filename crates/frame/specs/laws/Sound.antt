@@ -41,12 +41,12 @@ componentNumber s m t k = judged (s .mode) (setAt m (setPlace m) (indexOf t k)) 
 
 -- THE STATEMENT: a frame call that answers 0 has drawn tiles none of whose components can be refused
 pub drawn-sound :
-    (s : Session) (m pic : List ℕ) (y cb cr tmp : List ℤ) (pic′ : List ℕ) (y′ cb′ cr′ tmp′ : List ℤ) (r : FrameReading) →
-    FrameRead s m pic y cb cr tmp pic′ y′ cb′ cr′ tmp′ r → frameReadingNumber r ≡ 0 →
+    (word : ℕ) (s : Session) (m pic : List ℕ) (y cb cr tmp : List ℤ) (pic′ : List ℕ) (y′ cb′ cr′ tmp′ : List ℤ) (r : FrameReading) →
+    FrameRead word s m pic y cb cr tmp pic′ y′ cb′ cr′ tmp′ r → frameReadingNumber r ≡ 0 →
     (t : Tile) → List·Memᴰ t (frameTiles m) → (k : ℕ) → k < 3 → componentNumber s m t k ≡ 0
 unfolding frameTiles inSet
-drawn-sound s m pic y cb cr tmp pic′ y′ cb′ cr′ tmp′ r done z t l k b =
-    let a = accepted s m pic y cb cr tmp pic′ y′ cb′ cr′ tmp′ r done z in
+drawn-sound word s m pic y cb cr tmp pic′ y′ cb′ cr′ tmp′ r done z t l k b =
+    let a = accepted word s m pic y cb cr tmp pic′ y′ cb′ cr′ tmp′ r done z in
     let g = message-good (s .width) (s .height) (s .mode) m (a .message) in
     let at = setPlace m in
     sym (walked-sound (inSet (s .mode) m at) (s .width) (s .height) (quantCount m at) (dataOf m at) (tileCount m at) 0 (omega arith) (g .tiles) t l k b)

@@ -3,14 +3,16 @@ use Prim.Native.Nat.{ℕ, suc, zero, _+_, _*_, _-_, _≤_, _<_}
 use mathlib.Core.Path.{_≡_, refl, ap, sym, _∙_, subst}
 use mathlib.Core.Bool.{Bool, true, false}
 use mathlib.Core.List.{List}
+use native.Mathlib.Decide.{decLt}
 use native.Mathlib.Omega.{arith}
 use native.Mathlib.Nat.{suc-mul, mul-le-mul-right}
 use lib.Dec.{ltb}
 use lib.ListN.{length, set, length-set}
-use borrow.Author.Tests.{eq-eqb, ne-eqb}
+use borrow.Author.Tests.{eq-eqb, ne-eqb, lt-ltb, le-ltb}
 use Rattle.whole.specs.Row.{_⇒_∣_}
 use Rattle.whole.specs.laws.Row.{case-yes, case-no}
 use Rattle.frame_draw.specs.Draw.{holds, some, inRegion, stores, rowDrawn, rowsDrawn}
+use Rattle.frame_draw.specs.Spans.{partOf}
 
 -- a loop that counts up to n, against a recursion on what is left
 pub left : (n i : ℕ) → i < n → n - i ≡ suc (n - (i + 1))
@@ -57,12 +59,6 @@ stores-same on place value other (suc j) k pic e =
     stores-same on place value other j (k + 1) _ (λ x l. e x (omega arith))
     ∙ ap (λ (v : ℕ). stores on place other j (k + 1) (on k ⇒ set pic (place k) v ∣ pic)) (e k (omega arith))
 
-pub row-same :
-    (rects : List ℕ) (n : ℕ) (val other : ℕ → ℕ) (w tx py : ℕ) (pic : List ℕ) → ((x : ℕ) → x < 64 → val x ≡ other x) →
-    rowDrawn rects n val w tx py pic ≡ rowDrawn rects n other w tx py pic
-unfolding rowDrawn
-row-same rects n val other w tx py pic e = stores-same _ _ val other 64 0 pic e
-
 pub row-length : (rects : List ℕ) (n : ℕ) (val : ℕ → ℕ) (w tx py : ℕ) (pic : List ℕ) → length (rowDrawn rects n val w tx py pic) ≡ length pic
 unfolding rowDrawn
 row-length rects n val w tx py pic = stores-length _ _ _ 64 0 pic
@@ -83,3 +79,26 @@ module _ (rects : List ℕ) (n : ℕ) (val : ℕ → ℕ) (w h tx ty y : ℕ) (p
   pub rows-none : 64 ≤ y → rowsDrawn rects n val w h tx ty (64 - y) y pic ≡ pic
   unfolding rowsDrawn
   rows-none l = let z : 64 - y ≡ 0 = omega arith in rw z refl
+
+  -- a row of the channel
+  pub rows-next :
+      (q : List ℕ) → y < 64 → 64 * ty + y < h → q ≡ rowDrawn rects n (λ (x : ℕ). val (64 * y + x)) w tx (64 * ty + y) pic →
+      rowsDrawn rects n val w h tx ty (64 - y) y pic ≡ rowsDrawn rects n val w h tx ty (64 - (y + 1)) (y + 1) q
+  rows-next q l m e = rows-step l ∙ ap (rowsDrawn rects n val w h tx ty (64 - (y + 1)) (y + 1)) (sym (case-yes _ _ _ _ (lt-ltb _ _ m) e))
+
+-- past the channel no row is drawn
+rows-out :
+    (rects : List ℕ) (n : ℕ) (val : ℕ → ℕ) (w h tx ty j y : ℕ) (pic : List ℕ) → h ≤ 64 * ty + y → rowsDrawn rects n val w h tx ty j y pic ≡ pic
+unfolding rowsDrawn
+rows-out rects n val w h tx ty zero y pic l = refl
+rows-out rects n val w h tx ty (suc j) y pic l =
+    ap (rowsDrawn rects n val w h tx ty j (y + 1)) (sym (case-no _ _ _ _ (le-ltb (64 * ty + y) h l) refl))
+    ∙ rows-out rects n val w h tx ty j (y + 1) pic (omega arith)
+
+pub rows-done :
+    (rects : List ℕ) (n : ℕ) (val : ℕ → ℕ) (w h tx ty y : ℕ) (pic : List ℕ) → partOf h ty ≤ y → rowsDrawn rects n val w h tx ty (64 - y) y pic ≡ pic
+rows-done rects n val w h tx ty y pic l = by (decLt (64 * ty + y) h)
+  where
+    by : Dec (64 * ty + y < h) → rowsDrawn rects n val w h tx ty (64 - y) y pic ≡ pic
+    by (yes k) = rows-none rects n val w h tx ty y pic (omega arith)
+    by (no k) = rows-out rects n val w h tx ty (64 - y) y pic (omega arith)

@@ -8,7 +8,7 @@ use native.Mathlib.Omega.{arith}
 use native.Mathlib.Numerals.{add-one}
 use native.Mathlib.Nat.{zero-add}
 use lib.Dec.{ltb, leb}
-use lib.ListN.{getD, replicate, length-replicate}
+use lib.ListN.{length, getD, replicate, length-replicate}
 use borrow.Author.Tests.{lt-ltb, le-ltb, le-leb, ltb-true, leb-true}
 use Rattle.whole.specs.Row.{_!_⨾_, _⇒_∣_}
 use Rattle.whole.specs.laws.Row.{passes, held}
@@ -16,9 +16,9 @@ use Rattle.frame_draw.specs.declared.clip.Span.{Span}
 use Rattle.frame_draw.specs.Draw.{inside, holds, some, stores, rowOn, rowPlace, rowDrawn}
 use Rattle.frame_draw.specs.laws.Draw.{region-all, region-is}
 use Rattle.frame_draw.specs.laws.Pixels.{split}
-use Rattle.frame_draw.specs.Spans.{always, partOf, spanIn, spanOf, meets, before, rowFirst, noted, spanned, Ends, far}
+use Rattle.frame_draw.specs.Spans.{partOf, spanIn, spanOf, meets, before, rowFirst, noted, spanned, Ends, RowNoted, far}
 use Rattle.frame_draw.specs.laws.Search.{same, behind, alone, not-so, not-none, some-last, some-wider, some-also, before-none, before-most}
-use Rattle.frame_draw.specs.laws.Note.{stores-on, stores-off, stores-first, far-least, far-most, blank, noted-length, noted-most, spanned-noted}
+use Rattle.frame_draw.specs.laws.Note.{stores-on, stores-off, far-least, far-most, blank, noted-length, noted-most, spanned-noted}
 
 -- ---- a rectangle
 
@@ -211,31 +211,60 @@ module _ (rects : List ℕ) (w tx py : ℕ) where
             lt-ltb x (far ends (x + 1)) (omega arith));
       }
 
-  module _ (value : ℕ → ℕ) (pic : List ℕ) where
-    -- the row
-    pub noted-drawn :
-        (n : ℕ) (ends : List ℕ) → 0 < n → Noted rects n w tx py ends →
-        stores (spanned ends) (rowPlace w tx py) value 64 0 pic ≡ rowDrawn rects n value w tx py pic
-    unfolding rowDrawn rowTo rowOn
-    noted-drawn n ends l g =
-        stores-on _ _ _ _ 64 0 pic
-        (λ x a b. g .words x (omega arith) ∙ ap (λ (c : Bool). ltb (64 * tx + x) w ! false ⨾ c) (sym (region-is rects (64 * tx + x) py n l)))
+  -- the notes of a row, by the three ways that they are made: some rectangle has a word of it ..
+  pub row-noted : (n : ℕ) (ends : List ℕ) → 0 < n → Noted rects n w tx py ends → RowNoted rects n w tx py ends true
+  unfolding rowTo rowOn
+  row-noted n ends l g =
+      record {
+        fit = g .fit;
+        words = λ x a. g .words x a ∙ ap (λ (c : Bool). ltb (64 * tx + x) w ! false ⨾ c) (sym (region-is rects (64 * tx + x) py n l));
+        none = λ e. absurd (true≢false e);
+      }
 
-    -- no rectangles: the whole part
-    pub row-whole : (n : ℕ) → n ≡ 0 → stores always (rowPlace w tx py) value (partOf w tx) 0 pic ≡ rowDrawn rects n value w tx py pic
-    unfolding rowDrawn rowOn
-    row-whole n e =
-        stores-first _ _ _ (partOf w tx) 64 pic (omega arith)
-        (λ x l. ap (λ (c : Bool). ltb (64 * tx + x) w ! false ⨾ c) (region-all rects (64 * tx + x) py n e) ∙ (alone (ltb (64 * tx + x) w) ∙ in-part w tx x l))
+  -- .. or none of them has
+  pub row-missed :
+      (n first : ℕ) (ends : List ℕ) → first ≡ rowFirst rects n w tx py → first ≡ n → (n ≡ 0 → ⊥) → ends ≡ replicate 64 0 → RowNoted rects n w tx py ends false
+  unfolding rowTo rowOn
+  row-missed n first ends e f g z =
+      let a : Noted rects first w tx py ends = subst⁻¹ (Noted rects first w tx py) z (noted-starts n first e) in
+      let b = row-noted n ends (not-none n g) (subst (λ (j : ℕ). Noted rects j w tx py ends) f a) in
+      record {
+        fit = b .fit;
+        words = b .words;
+        none = λ o x l. sym (b .words x l) ∙ (a .words x l ∙ row-none n first x e l);
+      }
 
-    -- no rectangle has a word of the row
-    pub row-missed : (n first : ℕ) → first ≡ rowFirst rects n w tx py → first ≡ n → (n ≡ 0 → ⊥) → pic ≡ rowDrawn rects n value w tx py pic
-    unfolding rowDrawn rowOn rowTo
-    row-missed n first e f g =
-        stores-off _ _ _ 64 0 pic
-        (λ x p q.
-        ap (λ (b : Bool). ltb (64 * tx + x) w ! false ⨾ b) (region-is rects (64 * tx + x) py n (not-none n g))
-        ∙ subst (λ (j : ℕ). rowTo rects j w tx py x ≡ false) f (row-none n first x e (omega arith)))
+  -- .. or there are no rectangles, and the whole part is drawn
+  pub row-whole :
+      (n part : ℕ) (ends then : List ℕ) → n ≡ 0 → part ≡ partOf w tx → ends ≡ replicate 64 0 → then ≡ noted (record { from = 0; to = part }) ends →
+      RowNoted rects n w tx py then true
+  unfolding rowOn spanned _⇒_∣_
+  row-whole n part ends then e p z t =
+      let s : Span = record { from = 0; to = part } in
+      let len : length ends ≡ 64 = ap length z ∙ length-replicate {A = ℕ} 64 0 in
+      let empty : (x : ℕ) → getD ends x 0 ≡ 0 = λ x. ap (λ (l : List ℕ). getD l x 0) z ∙ blank 64 x in
+      let made : RowNoted rects n w tx py (noted s ends) true =
+      record {
+        fit = record { len = noted-length s ends ∙ len; most = λ x. noted-most s ends (partOf w tx) x (omega arith) (omega (arith, empty x)) };
+        words = λ x l.
+            let a = far-most ends 0 (x + 1) (λ i. omega (arith, empty i)) in
+            spanned-noted s ends x len (omega arith)
+            ∙ (ap (λ (b : Bool). b ⇒ true ∣ (leb 0 x ! false ⨾ ltb x part)) (le-ltb x (far ends (x + 1)) (omega arith))
+            ∙ (sym (passes _ _ _ _ (le-leb 0 x (omega arith)) (in-part w tx x l ∙ ap (ltb x) (sym p)))
+            ∙ (sym (alone (ltb (64 * tx + x) w)) ∙ ap (λ (c : Bool). ltb (64 * tx + x) w ! false ⨾ c) (sym (region-all rects (64 * tx + x) py n e)))));
+        none = λ o. absurd (true≢false o);
+      } in
+      subst⁻¹ (λ (l : List ℕ). RowNoted rects n w tx py l true) t made
+
+  module _ (value : ℕ → ℕ) (pic : List ℕ) (n : ℕ) (ends : List ℕ) (on : Bool) (g : RowNoted rects n w tx py ends on) where
+    -- the row, drawn from its notes
+    pub noted-drawn : stores (spanned ends) (rowPlace w tx py) value 64 0 pic ≡ rowDrawn rects n value w tx py pic
+    unfolding rowDrawn
+    noted-drawn = stores-on _ _ _ _ 64 0 pic (λ x a b. g .words x (omega arith))
+
+    pub none-drawn : on ≡ false → pic ≡ rowDrawn rects n value w tx py pic
+    unfolding rowDrawn
+    none-drawn e = stores-off _ _ _ 64 0 pic (λ x p q. g .none e x (omega arith))
 
 -- a rectangle's span, made by the code
 pub met : (rects : List ℕ) (a part py k : ℕ) (s : Span) → s ≡ spanOf rects a part py k → meets rects a part py k ≡ ltb (s .from) (s .to)

@@ -154,9 +154,9 @@ module _ (p : List ℕ) (w h mode : ℕ) (q : Quants) (index : ℕ) (s : Sendabl
       ap (λ (x : List ℕ). samplesOf mode (quantOf x) (bytesOf mode zs)) (set-is j l)
       ∙ ap (λ (x : List ℕ). samplesOf mode x (bytesOf mode zs)) e ∙ t .samples
 
-  word-back : (k i : ℕ) → k < tilesNo w h → tileWord mode (setAt m (setPlace m)) (tileOver p w h mode q k) i ≡ wordOver p w h q k i
+  word-back : (glass k i : ℕ) → k < tilesNo w h → tileWord glass mode (setAt m (setPlace m)) (tileOver p w h mode q k) i ≡ wordOver glass p w h q k i
   unfolding tileWord planeOf indexOf codePart tileOver tileWith tilePart wordOver samplesBack quantFor _⇒_∣_
-  word-back k i l =
+  word-back glass k i l =
       let t = tile-taken p w h mode q s k l in
       let n = count-is q (s .luma) (s .chroma) in
       let z = tens p w h mode q s in
@@ -170,74 +170,74 @@ module _ (p : List ℕ) (w h mode : ℕ) (q : Quants) (index : ℕ) (s : Sendabl
   unfolding rectsOf
   region px py a b = rw (taken .rects) (whole-region m w h px py (taken .rect .0) (taken .rect .1 .0) (taken .rect .1 .1 .0) (taken .rect .1 .1 .1) a b)
 
-  shown-word : (px py old : ℕ) → px < w → py < h →
-      (inRegion (rectsOf m 14) (rectCount m 14) px py ⇒ wordIn (tileWord mode (setAt m (setPlace m))) px py (lastTile (frameTiles m) px py) old ∣ old)
-      ≡ wordOver p w h q (tileNo w px py) (64 * (py % 64) + px % 64)
+  shown-word : (glass px py old : ℕ) → px < w → py < h →
+      (inRegion (rectsOf m 14) (rectCount m 14) px py ⇒ wordIn (tileWord glass mode (setAt m (setPlace m))) px py (lastTile (frameTiles m) px py) old ∣ old)
+      ≡ wordOver glass p w h q (tileNo w px py) (64 * (py % 64) + px % 64)
   unfolding wordIn
-  shown-word px py old a b =
+  shown-word glass px py old a b =
       case-is _ _ _ _ (region px py a b) refl
-      ∙ ap (λ (f : Found). wordIn (tileWord mode (setAt m (setPlace m))) px py f old) (ap (λ (ts : List Tile). lastTile ts px py) (taken .tiles) ∙ its-tile p w h mode q px py a b)
-      ∙ word-back (tileNo w px py) (64 * (py % 64) + px % 64) (tile-among p w h mode q px py a b)
+      ∙ ap (λ (f : Found). wordIn (tileWord glass mode (setAt m (setPlace m))) px py f old) (ap (λ (ts : List Tile). lastTile ts px py) (taken .tiles) ∙ its-tile p w h mode q px py a b)
+      ∙ word-back glass (tileNo w px py) (64 * (py % 64) + px % 64) (tile-among p w h mode q px py a b)
 
   -- the frame call on it, with the record that our headers give, lists of 4,096 and a picture long enough
-  module _ (good : sizeGood w h ≡ true) (pic : List ℕ) (y cb cr tmp : List ℤ) (pic′ : List ℕ) (y′ cb′ cr′ tmp′ : List ℤ) (r : FrameReading)
+  module _ (glass : ℕ) (either : glass ≤ 1) (good : sizeGood w h ≡ true) (pic : List ℕ) (y cb cr tmp : List ℤ) (pic′ : List ℕ) (y′ cb′ cr′ tmp′ : List ℤ) (r : FrameReading)
       (ly : length y ≡ 4096) (lb : length cb ≡ 4096) (lr : length cr ≡ 4096) (lt : length tmp ≡ 4096) (room : h * w ≤ length pic)
-      (done : FrameRead (recordOf 0 4 w h mode) m pic y cb cr tmp pic′ y′ cb′ cr′ tmp′ r) where
-    call-fine : 0 ≡ early (recordOf 0 4 w h mode) pic y cb cr tmp
+      (done : FrameRead glass (recordOf glass 4 w h mode) m pic y cb cr tmp pic′ y′ cb′ cr′ tmp′ r) where
+    call-fine : 0 ≡ early glass (recordOf glass 4 w h mode) pic y cb cr tmp
     unfolding callFault full
     call-fine =
-        passes _ _ _ _ (ready-at 0 w h mode (omega arith) good (s .allowed)) (passes _ _ _ _
+        passes _ _ _ _ (ready-at glass w h mode either good (s .allowed)) (passes _ _ _ _
         (sym (passes _ _ _ _ (eq-eqb (length y) 4096 ly) (passes _ _ _ _ (eq-eqb (length cb) 4096 lb) (passes _ _ _ _ (eq-eqb (length cr) 4096 lr) (sym (eq-eqb (length tmp) 4096 lt))))))
-        (passes _ _ _ _ (eq-eqb 0 0 refl) (passes _ _ _ _ (le-leb (h * w) (length pic) room) refl)))
+        (passes _ _ _ _ (eq-eqb glass glass refl) (passes _ _ _ _ (le-leb (h * w) (length pic) room) refl)))
 
     number-0 : frameReadingNumber r ≡ 0
     unfolding frameNumber
-    number-0 = number-is (recordOf 0 4 w h mode) m pic y cb cr tmp pic′ y′ cb′ cr′ tmp′ r done ∙ sym (goes-on _ _ _ (sym call-fine) (taken .fault))
+    number-0 = number-is glass (recordOf glass 4 w h mode) m pic y cb cr tmp pic′ y′ cb′ cr′ tmp′ r done ∙ sym (goes-on _ _ _ (sym call-fine) (taken .fault))
 
-    pub shown : ShownOver p w h q pic pic′ r
+    pub shown : ShownOver glass p w h q pic pic′ r
     shown = record {
       number = number-0;
-      tiles = accepted (recordOf 0 4 w h mode) m pic y cb cr tmp pic′ y′ cb′ cr′ tmp′ r done number-0 .counted ∙ taken .count;
-      word = λ px py a b. shown-pixel (recordOf 0 4 w h mode) m pic y cb cr tmp pic′ y′ cb′ cr′ tmp′ r done number-0 px py a b ∙ shown-word px py _ a b;
-      past = shown-past (recordOf 0 4 w h mode) m pic y cb cr tmp pic′ y′ cb′ cr′ tmp′ r done number-0;
-      long = shown-length (recordOf 0 4 w h mode) m pic y cb cr tmp pic′ y′ cb′ cr′ tmp′ r done number-0;
+      tiles = accepted glass (recordOf glass 4 w h mode) m pic y cb cr tmp pic′ y′ cb′ cr′ tmp′ r done number-0 .counted ∙ taken .count;
+      word = λ px py a b. shown-pixel glass (recordOf glass 4 w h mode) m pic y cb cr tmp pic′ y′ cb′ cr′ tmp′ r done number-0 px py a b ∙ shown-word glass px py _ a b;
+      past = shown-past glass (recordOf glass 4 w h mode) m pic y cb cr tmp pic′ y′ cb′ cr′ tmp′ r done number-0;
+      long = shown-length glass (recordOf glass 4 w h mode) m pic y cb cr tmp pic′ y′ cb′ cr′ tmp′ r done number-0;
     }
 
 -- THE STATEMENT OVER THE CALLS. Whenever our two writers are done, for the same size and mode: four header calls on our headers, from any
--- record at all, answer 0 and end in (4, w, h, mode); and the frame call on our frame, with that record on the glass of 16 bits, work lists of 4,096 and a picture long
+-- record at all, answer 0 and end in (4, w, h, mode); and the frame call on our frame, with that record on either glass, a picture of its words, work lists of 4,096 and a picture long
 -- enough, answers 0, reports the number of tiles and shows at every place of the channel the word that decoding gives for the rounded
 -- coefficients of the given pixels; nothing else changes.
 -- Over both sets, each component by its own:
 pub our-own-frames-over :
-    (s₀ : Session) (w h mode : ℕ) (ho ho′ : List ℕ) (hr : Writing) → HeadersWritten w h mode ho ho′ hr → writingNumber hr ≡ 0 →
+    (glass : ℕ) (s₀ : Session) (w h mode : ℕ) (ho ho′ : List ℕ) (hr : Writing) → glass ≤ 1 → HeadersWritten w h mode ho ho′ hr → writingNumber hr ≡ 0 →
     (q : Quants) (index : ℕ) (p : List ℕ) (list list′ scratch scratch′ : List ℤ) (out out′ : List ℕ) (r : Writing) →
     length (q .luma .v) ≡ 10 → length (q .chroma .v) ≡ 10 →
     FrameWrittenOver w h mode q index p list list′ scratch scratch′ out out′ r → writingNumber r ≡ 0 →
     (pic : List ℕ) (y cb cr tmp : List ℤ) (pic′ : List ℕ) (y′ cb′ cr′ tmp′ : List ℤ) (answer : FrameReading) →
     length y ≡ 4096 → length cb ≡ 4096 → length cr ≡ 4096 → length tmp ≡ 4096 → h * w ≤ length pic →
-    FrameRead (recordOf 0 4 w h mode) (take (writingLength r) out′) pic y cb cr tmp pic′ y′ cb′ cr′ tmp′ answer →
-    AllTaken s₀ w h mode (take (writingLength hr) ho′) × ShownOver p w h q pic pic′ answer
-our-own-frames-over s₀ w h mode ho ho′ hr hw e q index p list list′ scratch scratch′ out out′ r luma chroma fw f
+    FrameRead glass (recordOf glass 4 w h mode) (take (writingLength r) out′) pic y cb cr tmp pic′ y′ cb′ cr′ tmp′ answer →
+    AllTaken s₀ w h mode (take (writingLength hr) ho′) × ShownOver glass p w h q pic pic′ answer
+our-own-frames-over glass s₀ w h mode ho ho′ hr either hw e q index p list list′ scratch scratch′ out out′ r luma chroma fw f
     pic y cb cr tmp pic′ y′ cb′ cr′ tmp′ answer ly lb lr lt room done =
     let u = written-is w h mode q index p list list′ scratch scratch′ out out′ r luma chroma fw f in
-    let d = subst (λ (x : List ℕ). FrameRead (recordOf 0 4 w h mode) x pic y cb cr tmp pic′ y′ cb′ cr′ tmp′ answer) (u .bytes) done in
-    (our-headers s₀ w h mode ho ho′ hr hw e, shown p w h mode q index (u .sendable) (u .size) pic y cb cr tmp pic′ y′ cb′ cr′ tmp′ answer ly lb lr lt room d)
+    let d = subst (λ (x : List ℕ). FrameRead glass (recordOf glass 4 w h mode) x pic y cb cr tmp pic′ y′ cb′ cr′ tmp′ answer) (u .bytes) done in
+    (our-headers s₀ w h mode ho ho′ hr hw e, shown p w h mode q index (u .sendable) glass either (u .size) pic y cb cr tmp pic′ y′ cb′ cr′ tmp′ answer ly lb lr lt room d)
 
 -- with one set for both it is what 01 says
-one-shown : (p : List ℕ) (w h : ℕ) (q pic pic′ : List ℕ) (r : FrameReading) → ShownOver p w h (oneFor q) pic pic′ r → Shown p w h q pic pic′ r
+one-shown : (glass : ℕ) (p : List ℕ) (w h : ℕ) (q pic pic′ : List ℕ) (r : FrameReading) → ShownOver glass p w h (oneFor q) pic pic′ r → Shown glass p w h q pic pic′ r
 unfolding wordOver wordBack quantFor _⇒_∣_
-one-shown p w h q pic pic′ r s = record { number = s .number; tiles = s .tiles; word = s .word; past = s .past; long = s .long }
+one-shown glass p w h q pic pic′ r s = record { number = s .number; tiles = s .tiles; word = s .word; past = s .past; long = s .long }
 
 pub our-own-frames :
-    (s₀ : Session) (w h mode : ℕ) (ho ho′ : List ℕ) (hr : Writing) → HeadersWritten w h mode ho ho′ hr → writingNumber hr ≡ 0 →
+    (glass : ℕ) (s₀ : Session) (w h mode : ℕ) (ho ho′ : List ℕ) (hr : Writing) → glass ≤ 1 → HeadersWritten w h mode ho ho′ hr → writingNumber hr ≡ 0 →
     (q : List ℕ) (index : ℕ) (p : List ℕ) (list list′ scratch scratch′ : List ℤ) (out out′ : List ℕ) (r : Writing) → length q ≡ 10 →
     FrameWritten w h mode q index p list list′ scratch scratch′ out out′ r → writingNumber r ≡ 0 →
     (pic : List ℕ) (y cb cr tmp : List ℤ) (pic′ : List ℕ) (y′ cb′ cr′ tmp′ : List ℤ) (answer : FrameReading) →
     length y ≡ 4096 → length cb ≡ 4096 → length cr ≡ 4096 → length tmp ≡ 4096 → h * w ≤ length pic →
-    FrameRead (recordOf 0 4 w h mode) (take (writingLength r) out′) pic y cb cr tmp pic′ y′ cb′ cr′ tmp′ answer →
-    AllTaken s₀ w h mode (take (writingLength hr) ho′) × Shown p w h q pic pic′ answer
-our-own-frames s₀ w h mode ho ho′ hr hw e q index p list list′ scratch scratch′ out out′ r ten fw f
+    FrameRead glass (recordOf glass 4 w h mode) (take (writingLength r) out′) pic y cb cr tmp pic′ y′ cb′ cr′ tmp′ answer →
+    AllTaken s₀ w h mode (take (writingLength hr) ho′) × Shown glass p w h q pic pic′ answer
+our-own-frames glass s₀ w h mode ho ho′ hr either hw e q index p list list′ scratch scratch′ out out′ r ten fw f
     pic y cb cr tmp pic′ y′ cb′ cr′ tmp′ answer ly lb lr lt room done =
-    let both = our-own-frames-over s₀ w h mode ho ho′ hr hw e (oneFor q) index p list list′ scratch scratch′ out out′ r ten ten
+    let both = our-own-frames-over glass s₀ w h mode ho ho′ hr either hw e (oneFor q) index p list list′ scratch scratch′ out out′ r ten ten
     (as-over w h mode q index p list list′ scratch scratch′ out out′ r fw) f pic y cb cr tmp pic′ y′ cb′ cr′ tmp′ answer ly lb lr lt room done in
-    (both .0, one-shown p w h q pic pic′ answer (both .1))
+    (both .0, one-shown glass p w h q pic pic′ answer (both .1))

@@ -19,11 +19,11 @@ pub header-call : (s s′ : Session) (m : List ℕ) (n : ℕ) (h : HeaderReading
 header-call s s′ m n h e f g = record { number = f ∙ ap headerNumber e; session = g ∙ ap (λ (x : HeaderReading). headerRecord x s) e }
 
 pub frame-call :
-    (s : Session) (m pic : List ℕ) (y cb cr tmp : List ℤ) (pic′ : List ℕ) (y′ cb′ cr′ tmp′ : List ℤ) (tiles n : ℕ) (r : FrameReading) →
-    FrameRead s m pic y cb cr tmp pic′ y′ cb′ cr′ tmp′ r → tiles ≡ frameReadingTiles r → n ≡ frameReadingNumber r →
-    ReadFrameCall s s m pic y cb cr tmp pic′ y′ cb′ cr′ tmp′ tiles n
-frame-call s m pic y cb cr tmp pic′ y′ cb′ cr′ tmp′ tiles n r p e f =
-    record { number = f ∙ ap frameReadingNumber (p .answer); count = e ∙ ap frameReadingTiles (p .answer); session = refl; lists = subst (FrameRead s m pic y cb cr tmp pic′ y′ cb′ cr′ tmp′) (p .answer) p }
+    (word : ℕ) (s : Session) (m pic : List ℕ) (y cb cr tmp : List ℤ) (pic′ : List ℕ) (y′ cb′ cr′ tmp′ : List ℤ) (tiles n : ℕ) (r : FrameReading) →
+    FrameRead word s m pic y cb cr tmp pic′ y′ cb′ cr′ tmp′ r → tiles ≡ frameReadingTiles r → n ≡ frameReadingNumber r →
+    ReadFrameCall word s s m pic y cb cr tmp pic′ y′ cb′ cr′ tmp′ tiles n
+frame-call word s m pic y cb cr tmp pic′ y′ cb′ cr′ tmp′ tiles n r p e f =
+    record { number = f ∙ ap frameReadingNumber (p .answer); count = e ∙ ap frameReadingTiles (p .answer); session = refl; lists = subst (FrameRead word s m pic y cb cr tmp pic′ y′ cb′ cr′ tmp′) (p .answer) p }
 
 pub component-call :
     (mode : ℕ) (s : List ℕ) (before after : List ℤ) (bits n : ℕ) (r : Reading) → ComponentRead mode s before after r → bits ≡ readingBits r → n ≡ readingNumber r →

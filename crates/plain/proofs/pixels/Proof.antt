@@ -11,7 +11,7 @@ use Rattle.plain.proofs.pixels.Statement.{statement}
 use Rattle.plain.proofs.pixels.Tie as tie
 
 abbrev Inv-loop : tie.InvT-loop
-Inv-loop ys cbs crs words₀ i₀ words i = (i ≤ 4096) × (length words ≡ length words₀) × ((n : ℕ) → n < i → getD words n 0 ≡ wordAt ys cbs crs n)
+Inv-loop ys cbs crs words₀ i₀ words i = (i ≤ 4096) × (length words ≡ length words₀) × ((n : ℕ) → n < i → getD words n 0 ≡ wordAt 0 ys cbs crs n)
 
 abbrev μ-loop : tie.MeasureT-loop
 μ-loop ys cbs crs words₀ i₀ words i = 4096 - i
@@ -32,7 +32,7 @@ loop-again c =
     let a = args in (
       omega (arith, c .before .loop-test .taken),
       length-set (l .words) (l .i) _ ∙ l .inv .1,
-      put-any 0 (λ n. n) (wordAt (now (a .ys)) (now (a .cbs)) (now (a .crs))) (l .words) (l .i) _ (omega (arith, pre .0, l .inv, c .before .loop-test .taken))
+      put-any 0 (λ n. n) (wordAt 0 (now (a .ys)) (now (a .cbs)) (now (a .crs))) (l .words) (l .i) _ (omega (arith, pre .0, l .inv, c .before .loop-test .taken))
           (λ n k. omega arith) (c .pixel .ensures) (l .inv .2),
     )
 

@@ -1,12 +1,13 @@
 -- `word` meets its contract. Assumes nothing.
-use Rattle.colour.specs.Colour.{wordOf}
+use Rattle.whole.specs.Row.{_⇒_∣_}
+use Rattle.colour.specs.Colour.{packOf, wordOf}
 use mir.Facts.{toZ-ofZ}
 use borrow.Author.Needs.{needs}
 use Rattle.plain.proofs.word.Statement.{statement}
 use Rattle.plain.proofs.word.Tie as tie
 
 returns : tie.Need-returns
-unfolding wordOf
+unfolding wordOf packOf _⇒_∣_
 returns c =
     let fits = c .before .before .before .before .fits in
     cc (toZ-ofZ (fits .y), toZ-ofZ (fits .cb), toZ-ofZ (fits .cr))

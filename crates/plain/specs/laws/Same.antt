@@ -23,10 +23,10 @@ plain-same = record {
   number = λ mode q s before a other b r t c d. c .number ∙ sym (d .number);
   samples-number = λ mode q s before a other b r t c d. c .number ∙ sym (d .number);
   samples = samples-are;
-  pixels = λ mode p q r s t u ys cbs crs oy ob or a b c words row y x w v h j.
+  pixels = λ glass mode p q r s t u ys cbs crs oy ob or a b c words row y x w v h j.
       w .word (64 * y + x) (omega arith)
-      ∙ (words-alike (samples-are mode p s ys oy a) (samples-are mode q t cbs ob b) (samples-are mode r u crs or c) (64 * y + x) ∙ sym (v .word x j));
+      ∙ (words-alike glass (samples-are mode p s ys oy a) (samples-are mode q t cbs ob b) (samples-are mode r u crs or c) (64 * y + x) ∙ sym (v .word x j));
 }
   where
-    words-alike : {ys cbs crs oy ob or : List ℤ} → ys ≡ oy → cbs ≡ ob → crs ≡ or → (i : ℕ) → wordAt ys cbs crs i ≡ wordAt oy ob or i
-    words-alike a b c i = rw (a, b, c)
+    words-alike : (glass : ℕ) {ys cbs crs oy ob or : List ℤ} → ys ≡ oy → cbs ≡ ob → crs ≡ or → (i : ℕ) → wordAt glass ys cbs crs i ≡ wordAt glass oy ob or i
+    words-alike glass a b c i = rw (a, b, c)

@@ -1,60 +1,31 @@
-use mathlib.Core.Path.{_≡_, refl, _∙_}
-use Prim.Native.Nat.{ℕ, _+_, _*_, _-_, _≤_, _<_}
+-- `words_row` meets its contract. Invariant: the first x words are made.
+use mathlib.Core.Path.{refl, sym, _∙_}
+use Prim.Native.Nat.{_-_}
 use native.Mathlib.Omega.{arith}
-use lib.ListN.{length, getD, length-set}
-use denote.Ref.{now}
-use borrow.Author.Count.{below-none}
-use Rattle.whole.specs.laws.Put.{put-any}
-use Rattle.tile_back.specs.Word.{wordAt}
+use Rattle.tile_back.specs.laws.Word.{Made, made-none, made-next, made-all}
 use Rattle.tile_back.proofs.words_row.Statement.{statement}
 use Rattle.tile_back.proofs.words_row.Tie as tie
-use Rattle.tile_back.proofs.words_row.Reads as reads
-use Rattle.tile_back.proofs.words_row.Lts as lts
-use Rattle.tile_back.proofs.pixel.Reads as pixel-reads
 
 abbrev Inv-loop : tie.InvT-loop
-Inv-loop ys cbs crs y row₀ x₀ row x = (x ≤ 64) × (length row ≡ length row₀) × ((n : ℕ) → n < x → getD row n 0 ≡ wordAt ys cbs crs (64 * y + n))
+Inv-loop ys cbs crs y row₀ x₀ row x = Made 0 ys cbs crs y x row
 
 abbrev μ-loop : tie.MeasureT-loop
 μ-loop ys cbs crs y row₀ x₀ row x = 64 - x
 
 loop-holds : tie.Need-loop-holds Inv-loop μ-loop
-loop-holds c = (omega arith, refl, below-none _)
-
-mul-pixel : tie.Need-mul-pixel Inv-loop μ-loop
-mul-pixel c = omega (arith, c .before .before .before .pre .0, c .before .before .before .pre .1, c .before .loop .inv)
-
-add-pixel : tie.Need-add-pixel Inv-loop μ-loop
-add-pixel c = omega (arith, c .before .before .before .pre .0, c .before .before .before .pre .1, c .before .loop .inv)
+loop-holds c = made-none _ _ _ _ _ _ _ (c .before .pre .1) refl
 
 pixel-requires : tie.Need-pixel-requires Inv-loop μ-loop
-pixel-requires c κs = (omega (arith, c .before .before .before .pre .0), c .before .before .before .pre .2, c .before .before .before .pre .3, c .before .before .before .pre .4)
-
-mul-row : tie.Need-mul-row Inv-loop μ-loop
-mul-row c = omega (arith, c .before .before .before .before .pre .0, c .before .before .before .before .pre .1, c .before .before .loop .inv)
-
-slice-write-row : tie.Need-slice-write-row Inv-loop μ-loop
-slice-write-row c = omega (arith, c .before .before .before .before .pre .0, c .before .before .before .before .pre .1, c .before .before .loop .inv)
-
-add-x : tie.Need-add-x Inv-loop μ-loop
-add-x c = omega (arith, c .before .before .before .before .pre .0, c .before .before .before .before .pre .1, c .before .before .loop .inv)
-
-loop-less : tie.Need-loop-less Inv-loop μ-loop
-loop-less c = omega (arith, c .before .before .before .before .pre .0, c .before .before .before .before .pre .1, c .before .before .loop .inv)
+pixel-requires c κs = let s = c .before .before .before in (omega (arith, s .pre .0), s .pre .2, s .pre .3, s .pre .4)
 
 loop-again : tie.Need-loop-again Inv-loop μ-loop
-loop-again c =
-    let l = c .before .before .loop in (
-      omega arith,
-      length-set (l .row) (l .x) _ ∙ l .inv .1,
-      put-any 0 (λ n. n) (λ n. wordAt (now (c .before .before .before .before .args .ys)) (now (c .before .before .before .before .args .cbs)) (now (c .before .before .before .before .args .crs)) (64 * c .before .before .before .before .args .y + n)) (l .row) (l .x) _ (omega (arith, c .before .before .before .before .pre .1, l .inv)) (λ n k. omega arith) (c .pixel .ensures) (l .inv .2),
-    )
+loop-again c = made-next _ _ _ _ _ _ _ _ (c .before .loop-test .taken) (c .before .before .loop .inv) (c .pixel .ensures)
 
 same-length : tie.Need-same-length Inv-loop μ-loop
-same-length c = c .before .loop .inv .1
+same-length c = c .before .loop .inv .len ∙ sym (c .before .before .before .pre .1)
 
 returns : tie.Need-returns Inv-loop μ-loop
-returns c = record { len = c .before .loop .inv .1 ∙ c .before .before .before .pre .1; word = λ x h. c .before .loop .inv .2 x (omega (arith, c .before .loop .inv .0)) }
+returns c = made-all _ _ _ _ _ _ _ (c .loop-test .left) (c .before .loop .inv)
 
 pub words-row-spec : {M : Type 1} → statement M
 words-row-spec =
@@ -63,13 +34,13 @@ words-row-spec =
     Inv-loop
     μ-loop
     loop-holds
-    mul-pixel
-    add-pixel
+    (λ c. omega (arith, c .before .before .before .pre .0))
+    (λ c. omega (arith, c .before .before .before .pre .0))
     pixel-requires
-    mul-row
-    slice-write-row
-    add-x
-    loop-less
+    (λ c. omega (arith, c .before .before .loop .inv .len))
+    (λ c. omega (arith, c .before .before .loop .inv .len))
+    (λ c. omega arith)
+    (λ c. omega arith)
     loop-again
     same-length
     returns)

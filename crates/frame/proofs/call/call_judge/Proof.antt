@@ -23,7 +23,7 @@ returns c =
     let r = f .before .before in
     let a = r .before .args in
     passes _ _ _ _ (sym (r .is-ready .ensures) ∙ f .before .if1 .taken) (passes _ _ _ _ (sym (f .is-full .ensures) ∙ c .before .before .if2 .taken)
-    (fails _ _ _ _ (ne-eqb (a .s .glass) 0 (c .if3 .taken)) refl))
+    (fails _ _ _ _ (ne-eqb (a .word) (a .s .glass) (c .if3 .taken)) refl))
 
 cast-if4 : tie.Need-cast-if4
 cast-if4 c = search needs
@@ -37,7 +37,7 @@ returns-2 c =
     let a = r .before .args in
     let e = sym (r .is-ready .ensures) ∙ f .before .if1 .taken in
     let w = right-words (a .s) (ready-good (a .s) e .right) in
-    passes _ _ _ _ e (passes _ _ _ _ (sym (f .is-full .ensures) ∙ g .before .before .if2 .taken) (passes _ _ _ _ (eq-eqb (a .s .glass) 0 (g .if3 .left))
+    passes _ _ _ _ e (passes _ _ _ _ (sym (f .is-full .ensures) ∙ g .before .before .if2 .taken) (passes _ _ _ _ (eq-eqb (a .word) (a .s .glass) (g .if3 .left))
     (passes _ _ _ _ (le-leb (a .s .height * a .s .width) (a .p) (omega (arith, w, c .if4 .taken))) refl)))
 
 returns-3 : tie.Need-returns-3
@@ -49,7 +49,7 @@ returns-3 c =
     let a = r .before .args in
     let e = sym (r .is-ready .ensures) ∙ f .before .if1 .taken in
     let w = right-words (a .s) (ready-good (a .s) e .right) in
-    passes _ _ _ _ e (passes _ _ _ _ (sym (f .is-full .ensures) ∙ g .before .before .if2 .taken) (passes _ _ _ _ (eq-eqb (a .s .glass) 0 (g .if3 .left))
+    passes _ _ _ _ e (passes _ _ _ _ (sym (f .is-full .ensures) ∙ g .before .before .if2 .taken) (passes _ _ _ _ (eq-eqb (a .word) (a .s .glass) (g .if3 .left))
     (fails _ _ _ _ (lt-leb (a .s .height * a .s .width) (a .p) (omega (arith, w, c .if4 .left))) refl)))
 
 returns-4 : tie.Need-returns-4

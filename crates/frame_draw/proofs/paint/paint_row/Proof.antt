@@ -1,20 +1,57 @@
--- `paint::paint_row` meets its contract: no rectangle has a word of the row, or the row is drawn by its words.
-use mathlib.Core.Path.{_∙_}
-use borrow.Author.Tests.{eqb-false, not-true}
-use Rattle.frame_draw.specs.laws.Draw.{row-same}
-use Rattle.frame_draw.specs.laws.Span.{row-missed}
-use borrow.Author.Needs.{needs}
+-- `paint::paint_row` meets its contract: the row's words are put one by one, or its whole part. Invariant: `Putting`.
+use Prim.Native.Nat.{_-_, max}
+use mathlib.Core.Path.{sym, ap, _∙_}
+use mathlib.Core.Logic.{⊎-elim}
+use native.Mathlib.Omega.{arith}
+use Rattle.frame_draw.specs.laws.Paint.{Putting, put-none, put-place, put-in, put-out, put-all, put-whole}
 use Rattle.frame_draw.proofs.paint.paint_row.Statement.{statement}
 use Rattle.frame_draw.proofs.paint.paint_row.Tie as tie
 
-returns : tie.Need-returns
-returns c = row-missed _ _ _ _ _ _ _ _ (c .before .before .row-first .ensures) (c .before .if1 .taken) (eqb-false _ _ (not-true _ (c .if2 .taken)))
+abbrev Inv-loop : tie.InvT-loop
+Inv-loop picture₀ y ys cbs crs ends w tx py row end₀ x₀ picture end x = Putting ends row w tx py picture₀ end x picture
 
-returns-2 : tie.Need-returns-2
-returns-2 c = c .before .before .draw-row .ensures ∙ row-same _ _ _ _ _ _ _ _ (c .before .before .before .before .before .before .words-row .ensures .word)
+abbrev μ-loop : tie.MeasureT-loop
+μ-loop picture₀ y ys cbs crs ends w tx py row end₀ x₀ picture end x = 64 - x
+
+words-row-requires : tie.Need-words-row-requires Inv-loop μ-loop
+words-row-requires c κs = (c .before .before .before .pre .1, omega arith, c .before .before .before .pre .4, c .before .before .before .pre .5, c .before .before .before .pre .6)
+
+put-part-requires : tie.Need-put-part-requires Inv-loop μ-loop
+put-part-requires c κs = (c .before .before .before .before .before .before .before .before .before .before .before .pre .0, omega (arith, c .before .before .before .before .before .before .before .words-row .ensures .len), c .before .before .before .before .before .before .before .before .before .before .before .pre .2)
+
+same-length : tie.Need-same-length Inv-loop μ-loop
+same-length c = c .before .before .put-part .kept .0
+
+returns : tie.Need-returns Inv-loop μ-loop
+returns c =
+    let whole = sym (c .before .before .before .before .before .before .before .wide .ensures .0) ∙ (c .before .before .before .before .before .if1 .taken ∙ c .before .before .before .before .before .before .part-of .ensures) in
+    put-whole _ _ _ _ _ _ _ _ _ _ _ _ (c .before .before .before .before .before .before .before .before .before .before .words-row .ensures) (c .before .before .before .before .before .before .before .before .before .before .before .before .before .before .pre .3) whole (c .before .before .put-part .ensures)
+
+slice-write-picture : tie.Need-slice-write-picture Inv-loop μ-loop
+slice-write-picture c =
+    let l = c .before .before .before .before .before .loop in
+    let end = c .before .greater .ensures ∙ ap (max (l .end)) (c .before .before .wide2 .ensures .0) in
+    let in-w = put-place _ _ _ _ _ _ _ _ _ _ (l .picture) (l .inv) end (c .before .before .before .before .loop-test .taken) (c .before .before .before .before .before .before .before .before .before .before .before .before .before .before .before .pre .3) (c .if2 .taken) in
+    omega (arith, in-w, c .before .before .before .before .before .before .before .before .before .before .before .before .before .before .before .pre .0, l .inv .len)
+
+loop-again : tie.Need-loop-again Inv-loop μ-loop
+loop-again c =
+    let l = c .before .before .before .before .before .loop in
+    let end = c .before .greater .ensures ∙ ap (max (l .end)) (c .before .before .wide2 .ensures .0) in
+    ⊎-elim
+    (λ v. put-in _ _ _ _ _ _ _ _ _ _ _ (l .inv) end (c .before .before .before .before .loop-test .taken) (v .0 .taken) (v .1))
+    (λ v. put-out _ _ _ _ _ _ _ _ _ _ _ (l .inv) end (c .before .before .before .before .loop-test .taken) (v .0 .left) (v .1))
+    (c .if2 .came)
+
+returns-2 : tie.Need-returns-2 Inv-loop μ-loop
+returns-2 c = put-all _ _ _ _ _ _ _ _ _ _ _ _ (c .before .before .before .before .before .before .before .words-row .ensures) _ _ (c .before .loop .inv) (c .loop-test .left)
 
 pub paint-row-spec : {M : Type 1} → statement M
 paint-row-spec =
     tie.close
-    (tie.spec (λ c κs. search needs) returns (λ c. search needs) (λ c κs. search needs) (λ c. search needs) (λ c κs. search needs) (λ c. search needs)
-    returns-2)
+    (tie.spec Inv-loop μ-loop
+    (λ c. omega arith) words-row-requires (λ c. omega (arith, c .before .before .before .before .before .before .pre .3 .len)) (λ c κs. omega arith)
+    (λ c κs. omega arith) (λ c. omega (arith, c .before .before .before .before .before .before .before .words-row .ensures .len)) put-part-requires same-length
+    returns (λ c. put-none _ _ _ _ _ _) (λ c. omega arith) (λ c κs. omega arith) (λ c κs. omega arith) (λ c. omega arith) (λ c. omega arith)
+    (λ c. omega arith) (λ c. omega arith) (λ c. omega arith) (λ c. omega arith) (λ c. omega arith) slice-write-picture (λ c. omega arith)
+    (λ c. omega arith) loop-again (λ c. c .before .loop .inv .len) returns-2)

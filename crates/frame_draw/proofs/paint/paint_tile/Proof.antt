@@ -1,86 +1,42 @@
--- `paint::paint_tile` meets its contract. Invariant: what is left of the rows, from the picture as it is, is all of them, each held
--- against as many rectangles as the tile asks.
-use Prim.Native.Nat.{ℕ, _≤_, _-_, _*_, _+_}
-use mathlib.Core.Path.{_≡_, refl, ap, sym, _∙_}
+-- `paint::paint_tile` meets its contract: row by row, each drawn from its notes or missed. Invariant: `Painting`.
+use Prim.Native.Nat.{_+_, _*_, _-_}
+use mathlib.Core.Path.{refl, _∙_}
 use mathlib.Core.Logic.{⊎-elim}
 use native.Mathlib.Omega.{arith}
-use native.Mathlib.Nat.{sub-zero}
-use denote.Ref.{now}
-use lib.Dec.{ltb}
-use lib.ListN.{length}
-use borrow.Author.Tests.{lt-ltb, le-ltb}
-use Rattle.whole.specs.Row.{_⇒_∣_}
-use Rattle.whole.specs.laws.Row.{case-yes, case-no}
-use Rattle.frame_draw.specs.Draw.{rowDrawn, rowsDrawn, tileDrawn}
-use Rattle.frame_draw.specs.laws.Draw.{row-room, rows-step, rows-none}
-use Rattle.frame_draw.specs.laws.Asked.{asked-same, asked-most}
 use Rattle.tile_back.specs.Word.{wordAt}
+use Rattle.frame_draw.specs.laws.Draw.{row-room}
+use Rattle.frame_draw.specs.laws.Paint.{Painting, paint-none, paint-row, paint-missed, paint-all}
 use Rattle.frame_draw.proofs.paint.paint_tile.Statement.{statement}
 use Rattle.frame_draw.proofs.paint.paint_tile.Tie as tie
 
 abbrev Inv-loop : tie.InvT-loop
-Inv-loop picture₀ ys cbs crs rects clips w h tx ty n y₀ picture y =
-    (y ≤ 64) × (length picture ≡ length picture₀)
-    × (rowsDrawn rects n (wordAt ys cbs crs) w h tx ty 64 0 picture₀ ≡ rowsDrawn rects n (wordAt ys cbs crs) w h tx ty (64 - y) y picture)
+Inv-loop picture₀ ys cbs crs rects clips w h tx ty n rows y₀ picture y = Painting rects n (wordAt 0 ys cbs crs) w h tx ty picture₀ y picture
 
 abbrev μ-loop : tie.MeasureT-loop
-μ-loop picture₀ ys cbs crs rects clips w h tx ty n y₀ picture y = 64 - y
+μ-loop picture₀ ys cbs crs rects clips w h tx ty n rows y₀ picture y = 64 - y
 
--- the picture behind a row
-joined :
-    (c : tie.Joined1 Inv-loop μ-loop) →
-    let s = c .before .before .before .before .before .before in
-    let a = s .before .before .before .args in
-    let l = c .before .before .loop in
-    let word = wordAt (now (a .ys)) (now (a .cbs)) (now (a .crs)) in
-    let row = rowDrawn (now (a .rects)) (s .asked-of .result) (λ (x : ℕ). word (64 * l .y + x)) (a .s .w) (a .s .tx) (64 * a .s .ty + l .y) (l .picture) in
-    c .if1 .picture ≡ (ltb (64 * a .s .ty + l .y) (a .s .h) ⇒ row ∣ l .picture)
-joined c =
-    ⊎-elim
-    (λ v. case-yes _ _ _ _ (lt-ltb _ _ (v .0 .taken)) (v .6 ∙ v .3 .ensures))
-    (λ v. case-no _ _ _ _ (le-ltb _ _ (v .0 .left)) (v .1))
-    (c .if1 .came)
-
-same :
-    (c : tie.Joined1 Inv-loop μ-loop) →
-    length (c .if1 .picture) ≡ length (now (c .before .before .before .before .before .before .before .before .before .args .picture))
-same c =
-    ⊎-elim (λ v. ap length (v .6) ∙ v .3 .kept .0) (λ v. ap length (v .1)) (c .if1 .came)
-    ∙ c .before .before .loop .inv .1
-
-clip-rects-requires : tie.Need-clip-rects-requires Inv-loop μ-loop
-clip-rects-requires c κs = let m = asked-most _ _ _ _ _ _ _ (c .before .asked-of .ensures) in (omega arith, omega arith, omega arith)
-
-loop-holds : tie.Need-loop-holds Inv-loop μ-loop
-loop-holds c = (omega arith, refl, rw sub-zero)
+note-row-requires : tie.Need-note-row-requires Inv-loop μ-loop
+note-row-requires c κs = (c .before .before .before .before .before .before .pre .2, c .before .before .before .before .before .before .pre .1, refl)
 
 paint-row-requires : tie.Need-paint-row-requires Inv-loop μ-loop
 paint-row-requires c κs =
-    let t = c .before .before .before .before .before .before in
-    let s = t .before .before .before .before .before in
-    let r = row-room _ _ (s .args .s .w) (c .before .before .if1 .taken) in
-    (omega arith, omega arith, omega arith, t .clip-rects .ensures, s .pre .5, s .pre .6, s .pre .7)
+    let r = row-room (64 * c .before .before .before .before .before .before .before .before .before .before .before .args .s .ty + c .before .before .before .before .before .before .before .loop .y) (c .before .before .before .before .before .before .before .before .before .before .before .args .s .h) (c .before .before .before .before .before .before .before .before .before .before .before .args .s .w) (omega (arith, c .before .before .before .before .before .before .loop-test .taken, c .before .before .before .before .before .before .before .before .part-of .ensures)) in
+    (omega (arith, r, c .before .before .before .before .before .before .before .before .before .before .before .pre .0, c .before .before .before .before .before .before .before .loop .inv .len), omega (arith, c .before .before .before .before .before .before .loop-test .taken, c .before .before .before .before .before .before .before .before .part-of .ensures), c .before .before .before .before .before .before .before .before .before .before .before .pre .2, c .before .before .before .before .note-row .ensures .fit, c .before .before .before .before .before .before .before .before .before .before .before .pre .4, c .before .before .before .before .before .before .before .before .before .before .before .pre .5, c .before .before .before .before .before .before .before .before .before .before .before .pre .6)
 
 loop-again : tie.Need-loop-again Inv-loop μ-loop
 loop-again c =
-    let l = c .before .before .loop in
-    (omega arith, same c, l .inv .2 ∙ (rows-step _ _ _ _ _ _ _ (l .y) _ (c .before .loop-test .taken) ∙ ap (rowsDrawn _ _ _ _ _ _ _ _ _) (sym (joined c))))
-
-same-length : tie.Need-same-length Inv-loop μ-loop
-same-length c = c .before .loop .inv .1
-
-same-length-2 : tie.Need-same-length-2 Inv-loop μ-loop
-same-length-2 c = c .before .before .before .clip-rects .kept .1 .1 .1 .1 .0
+    let l = c .before .before .before .before .before .loop in
+    ⊎-elim
+    (λ v. paint-row _ _ _ _ _ _ _ _ _ _ _ (l .inv) _ (c .before .before .before .before .before .before .part-of .ensures) (c .before .before .before .before .loop-test .taken) _ _ (c .before .before .note-row .ensures) (v .6 ∙ v .3 .ensures))
+    (λ v. paint-missed _ _ _ _ _ _ _ _ _ _ _ (l .inv) _ (c .before .before .before .before .before .before .part-of .ensures) (c .before .before .before .before .loop-test .taken) _ _ (c .before .before .note-row .ensures) (v .0 .left) (v .1))
+    (c .if1 .came)
 
 returns : tie.Need-returns Inv-loop μ-loop
-unfolding tileDrawn
-returns c =
-    let l = c .before .loop in
-    let asked = c .before .before .before .before .before .asked-of .ensures in
-    sym (l .inv .2 ∙ rows-none _ _ _ _ _ _ _ (l .y) _ (c .loop-test .left)) ∙ asked-same _ _ _ _ _ _ _ asked _ _
+returns c = paint-all _ _ _ _ _ _ _ _ _ _ (c .before .loop .inv) _ (c .before .before .part-of .ensures) (c .loop-test .left)
 
 pub paint-tile-spec : {M : Type 1} → statement M
 paint-tile-spec =
     tie.close
-    (tie.spec Inv-loop μ-loop (λ c κs. omega arith) clip-rects-requires loop-holds (λ c. omega arith) (λ c. omega arith) paint-row-requires
-    (λ c. omega arith) (λ c. omega arith) loop-again same-length same-length-2 returns)
+    (tie.spec Inv-loop μ-loop
+    (λ c κs. omega arith) (λ c. paint-none _ _ _ _ _ _ _ _) (λ c. omega arith) (λ c. omega arith) (λ c. omega arith) note-row-requires
+    (λ c. omega arith) paint-row-requires (λ c. omega arith) (λ c. omega arith) loop-again (λ c. c .before .loop .inv .len) returns)

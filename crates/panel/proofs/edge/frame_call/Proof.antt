@@ -1,3 +1,4 @@
+-- `edge::frame_call` meets its contract: one law over the word size (`frame-call`).
 use Rattle.panel.specs.laws.Edge.{frame-call}
 use borrow.Author.Needs.{needs}
 use Rattle.panel.proofs.edge.frame_call.Statement.{statement}
@@ -28,7 +29,7 @@ same-length-5 : tie.Need-same-length-5
 same-length-5 c = search needs
 
 returns : tie.Need-returns
-returns c = frame-call _ _ _ _ _ _ _ _ _ _ _ _ _ _ _ (c .before .before .before .before .before .before .before .before .read-frame .ensures) (c .before .frame-tiles .ensures) (c .frame-number .ensures)
+returns c = frame-call _ _ _ _ _ _ _ _ _ _ _ _ _ _ _ _ (c .before .before .before .before .before .before .before .before .read-frame .ensures) (c .before .frame-tiles .ensures) (c .frame-number .ensures)
 
 pub frame-call-spec : {M : Type 1} → statement M
 frame-call-spec =

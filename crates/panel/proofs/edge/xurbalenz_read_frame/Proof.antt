@@ -95,7 +95,7 @@ module _ {M : Type 1} (𝓤 : URA M) (H : Heap 𝓤) (A : Atoms 𝓤) (W : Given
   mach = T′.lowered h
 
   abbrev Said : List ℕ → List ℤ → List ℤ → List ℤ → List ℤ → ℕ → ℕ → Type 0
-  Said zp zy zc zd zt zw r = ReadFrameCall h h (now m) (now p) (now y) (now c) (now d) (now t) zp zy zc zd zt zw r
+  Said zp zy zc zd zt zw r = ReadFrameCall 0 h h (now m) (now p) (now y) (now c) (now d) (now t) zp zy zc zd zt zw r
 
   abbrev Post : Val → SProp 𝓤
   Post = walkOf 𝓤 H A frame′.ended stayed (frame′.clauses 𝓤 H A at-mem run) .post (((κ, (κ₁, (κ₂, (κ₃, (κ₄, (κ₅, (κ₆, (κ₇, tt)))))))), (q, (q₁, (q₂, (q₃, (q₄, (q₅, (q₆, (q₇, tt)))))))), bounds, a, vals), tt)

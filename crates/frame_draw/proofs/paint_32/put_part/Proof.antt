@@ -1,4 +1,4 @@
--- `draw::put_part` meets its contract. Invariant: what is left of the stores, from the picture as it is, is all of them.
+-- `put_part` meets its contract. Invariant: what is left of the stores, from the picture as it is, is all of them.
 use Prim.Native.Nat.{ℕ, _≤_, _-_}
 use mathlib.Core.Path.{_≡_, refl, sym, _∙_}
 use native.Mathlib.Omega.{arith}
@@ -8,8 +8,8 @@ use Rattle.whole.specs.Row.{_⇒_∣_}
 use Rattle.frame_draw.specs.Draw.{stores, rowPlace}
 use Rattle.frame_draw.specs.laws.Draw.{store-step, store-none}
 use Rattle.frame_draw.specs.Spans.{always}
-use Rattle.frame_draw.proofs.row.put_part.Statement.{statement}
-use Rattle.frame_draw.proofs.row.put_part.Tie as tie
+use Rattle.frame_draw.proofs.paint_32.put_part.Statement.{statement}
+use Rattle.frame_draw.proofs.paint_32.put_part.Tie as tie
 
 abbrev Inv-loop : tie.InvT-loop
 Inv-loop picture₀ w tx py row part x₀ picture x =

@@ -1,0 +1,57 @@
+-- `paint_32::paint_row` meets its contract: the row's words are put one by one, or its whole part. Invariant: `Putting`.
+use Prim.Native.Nat.{_-_, max}
+use mathlib.Core.Path.{sym, ap, _∙_}
+use mathlib.Core.Logic.{⊎-elim}
+use native.Mathlib.Omega.{arith}
+use Rattle.frame_draw.specs.laws.Paint.{Putting, put-none, put-place, put-in, put-out, put-all, put-whole}
+use Rattle.frame_draw.proofs.paint_32.paint_row.Statement.{statement}
+use Rattle.frame_draw.proofs.paint_32.paint_row.Tie as tie
+
+abbrev Inv-loop : tie.InvT-loop
+Inv-loop picture₀ y ys cbs crs ends w tx py row end₀ x₀ picture end x = Putting ends row w tx py picture₀ end x picture
+
+abbrev μ-loop : tie.MeasureT-loop
+μ-loop picture₀ y ys cbs crs ends w tx py row end₀ x₀ picture end x = 64 - x
+
+words-row-32-requires : tie.Need-words-row-32-requires Inv-loop μ-loop
+words-row-32-requires c κs = (c .before .before .before .pre .1, omega arith, c .before .before .before .pre .4, c .before .before .before .pre .5, c .before .before .before .pre .6)
+
+put-part-requires : tie.Need-put-part-requires Inv-loop μ-loop
+put-part-requires c κs = (c .before .before .before .before .before .before .before .before .before .before .before .pre .0, omega (arith, c .before .before .before .before .before .before .before .words-row-32 .ensures .len), c .before .before .before .before .before .before .before .before .before .before .before .pre .2)
+
+same-length : tie.Need-same-length Inv-loop μ-loop
+same-length c = c .before .before .put-part .kept .0
+
+returns : tie.Need-returns Inv-loop μ-loop
+returns c =
+    let whole = sym (c .before .before .before .before .before .before .before .wide .ensures .0) ∙ (c .before .before .before .before .before .if1 .taken ∙ c .before .before .before .before .before .before .part-of .ensures) in
+    put-whole _ _ _ _ _ _ _ _ _ _ _ _ (c .before .before .before .before .before .before .before .before .before .before .words-row-32 .ensures) (c .before .before .before .before .before .before .before .before .before .before .before .before .before .before .pre .3) whole (c .before .before .put-part .ensures)
+
+slice-write-picture : tie.Need-slice-write-picture Inv-loop μ-loop
+slice-write-picture c =
+    let l = c .before .before .before .before .before .loop in
+    let end = c .before .greater .ensures ∙ ap (max (l .end)) (c .before .before .wide2 .ensures .0) in
+    let in-w = put-place _ _ _ _ _ _ _ _ _ _ (l .picture) (l .inv) end (c .before .before .before .before .loop-test .taken) (c .before .before .before .before .before .before .before .before .before .before .before .before .before .before .before .pre .3) (c .if2 .taken) in
+    omega (arith, in-w, c .before .before .before .before .before .before .before .before .before .before .before .before .before .before .before .pre .0, l .inv .len)
+
+loop-again : tie.Need-loop-again Inv-loop μ-loop
+loop-again c =
+    let l = c .before .before .before .before .before .loop in
+    let end = c .before .greater .ensures ∙ ap (max (l .end)) (c .before .before .wide2 .ensures .0) in
+    ⊎-elim
+    (λ v. put-in _ _ _ _ _ _ _ _ _ _ _ (l .inv) end (c .before .before .before .before .loop-test .taken) (v .0 .taken) (v .1))
+    (λ v. put-out _ _ _ _ _ _ _ _ _ _ _ (l .inv) end (c .before .before .before .before .loop-test .taken) (v .0 .left) (v .1))
+    (c .if2 .came)
+
+returns-2 : tie.Need-returns-2 Inv-loop μ-loop
+returns-2 c = put-all _ _ _ _ _ _ _ _ _ _ _ _ (c .before .before .before .before .before .before .before .words-row-32 .ensures) _ _ (c .before .loop .inv) (c .loop-test .left)
+
+pub paint-row-spec : {M : Type 1} → statement M
+paint-row-spec =
+    tie.close
+    (tie.spec Inv-loop μ-loop
+    (λ c. omega arith) words-row-32-requires (λ c. omega (arith, c .before .before .before .before .before .before .pre .3 .len)) (λ c κs. omega arith)
+    (λ c κs. omega arith) (λ c. omega (arith, c .before .before .before .before .before .before .before .words-row-32 .ensures .len)) put-part-requires same-length
+    returns (λ c. put-none _ _ _ _ _ _) (λ c. omega arith) (λ c κs. omega arith) (λ c κs. omega arith) (λ c. omega arith) (λ c. omega arith)
+    (λ c. omega arith) (λ c. omega arith) (λ c. omega arith) (λ c. omega arith) (λ c. omega arith) slice-write-picture (λ c. omega arith)
+    (λ c. omega arith) loop-again (λ c. c .before .loop .inv .len) returns-2)

@@ -1,0 +1,90 @@
+-- `row::note_row` meets its contract: a law of specs/laws/Span for each way out. Invariant: the first k rectangles are noted.
+use Prim.Native.Nat.{ℕ, _≤_, _-_, _+_, _*_}
+use mathlib.Core.Path.{_≡_, refl, ap, sym, subst⁻¹, _∙_}
+use mathlib.Core.List.{List}
+use native.Mathlib.Omega.{arith}
+use denote.Ref.{now}
+use lib.ListN.{length, replicate, length-replicate}
+use Rattle.frame_draw.specs.Spans.{partOf, spanOf}
+use Rattle.frame_draw.specs.laws.Clip.{clip-room, clip-counts, clip-is}
+use Rattle.frame_draw.specs.laws.Search.{not-none}
+use Rattle.frame_draw.specs.laws.Span.{Noted, first-most, noted-starts, noted-next, noted-all, noted-whole, row-noted, row-whole, row-missed, span-small}
+use Rattle.frame_draw.proofs.row.note_row.Statement.{statement}
+use Rattle.frame_draw.proofs.row.note_row.Tie as tie
+
+abbrev Inv-rectangles : tie.InvT-rectangles
+Inv-rectangles rects clips ends₀ w tx py n part first k₀ ends k = (k ≤ n) × Noted rects k w tx py ends
+
+abbrev μ-rectangles : tie.MeasureT-rectangles
+μ-rectangles rects clips ends₀ w tx py n part first k₀ ends k = n - k
+
+-- the notes that were given
+given : (ends : List ℕ) → ends ≡ replicate 64 0 → length ends ≡ 64
+given ends e = ap length e ∙ length-replicate {A = ℕ} 64 0
+
+note-requires : tie.Need-note-requires Inv-rectangles μ-rectangles
+note-requires c κs = (given _ (c .before .before .before .before .before .pre .2), omega (arith, c .before .before .part-of .ensures))
+
+same-length : tie.Need-same-length Inv-rectangles μ-rectangles
+same-length c = c .before .before .note .kept .1 .0
+
+returns : tie.Need-returns Inv-rectangles μ-rectangles
+returns c = row-whole _ _ _ _ _ _ _ _ (c .before .before .before .before .if1 .taken) (c .before .before .before .before .before .part-of .ensures) (c .before .before .before .before .before .before .before .before .pre .2) (c .before .before .note .ensures)
+
+returns-2 : tie.Need-returns-2 Inv-rectangles μ-rectangles
+returns-2 c = row-missed _ _ _ _ _ _ _ (c .before .row-first .ensures) (c .if2 .taken) (c .before .before .if1 .left) (c .before .before .before .before .before .before .pre .2)
+
+rectangles-holds : tie.Need-rectangles-holds Inv-rectangles μ-rectangles
+rectangles-holds c =
+    let first = c .before .row-first .ensures in
+    (first-most _ _ _ _ _ _ first, subst⁻¹ (Noted _ _ _ _ _) (c .before .before .before .before .before .before .pre .2) (noted-starts _ _ _ _ _ _ first))
+
+clip-span-requires : tie.Need-clip-span-requires Inv-rectangles μ-rectangles
+clip-span-requires c κs =
+    let g = c .before .before .before .before .before .before .before .before .pre .1 in
+    let l = c .rectangles-test .taken in
+    (clip-room _ _ _ _ _ g _ 0 l, clip-counts _ _ _ _ _ g _ 0 l)
+
+-- the span of a rectangle, as the promise names it
+span-is :
+    (c : tie.After-clip-span Inv-rectangles μ-rectangles) →
+    let a = c .before .before .before .before .before .before .before .before .before .args in
+    c .clip-span .result ≡ spanOf (now (a .rects)) (64 * a .s .tx) (partOf (a .s .w) (a .s .tx)) (a .s .py) (c .before .before .rectangles .k)
+span-is c = c .clip-span .ensures ∙ clip-is _ _ _ _ _ (c .before .before .before .before .before .before .before .before .before .pre .1) _ _ (c .before .rectangles-test .taken)
+
+note-requires-2 : tie.Need-note-requires-2 Inv-rectangles μ-rectangles
+note-requires-2 c κs = (c .before .before .before .rectangles .inv .1 .fit .len, span-small _ _ _ _ _ _ _ refl (span-is (c .before)))
+
+-- one rectangle more is noted
+next :
+    (c : tie.After-note2 Inv-rectangles μ-rectangles) →
+    let a = c .before .before .before .before .before .before .before .before .before .before .before .args in
+    Noted (now (a .rects)) (c .before .before .before .before .rectangles .k + 1) (a .s .w) (a .s .tx) (a .s .py) (c .note2 .last .1 .0)
+next c = noted-next _ _ _ _ _ _ _ refl (span-is (c .before .before)) _ _ (c .before .before .before .before .rectangles .inv .1) (c .note2 .ensures)
+
+slice-read-wide : tie.Need-slice-read-wide Inv-rectangles μ-rectangles
+slice-read-wide c = omega (arith, next (c .before .before .before) .fit .len)
+
+rectangles-again : tie.Need-rectangles-again Inv-rectangles μ-rectangles
+rectangles-again c = (omega (arith, c .before .before .before .before .before .before .before .before .rectangles-test .taken), next (c .before .before .before .before .before))
+
+same-length-2 : tie.Need-same-length-2 Inv-rectangles μ-rectangles
+same-length-2 c = c .before .rectangles .inv .1 .fit .len ∙ sym (given _ (c .before .before .before .before .before .before .before .before .pre .2))
+
+returns-3 : tie.Need-returns-3 Inv-rectangles μ-rectangles
+returns-3 c = row-noted _ _ _ _ _ _ (not-none _ (c .before .before .before .before .if1 .left)) (noted-all _ _ _ _ _ _ _ (c .before .rectangles .inv .0) (c .rectangles-test .left) (c .before .rectangles .inv .1))
+
+same-length-3 : tie.Need-same-length-3 Inv-rectangles μ-rectangles
+same-length-3 c = next (c .before .before .before .before .before) .fit .len ∙ sym (given _ (c .before .before .before .before .before .before .before .before .before .before .before .before .before .before .before .before .pre .2))
+
+returns-4 : tie.Need-returns-4 Inv-rectangles μ-rectangles
+returns-4 c =
+    let whole = sym (c .before .wide .ensures .0) ∙ (c .if3 .taken ∙ c .before .before .before .before .before .before .before .before .before .before .before .before .before .part-of .ensures) in
+    row-noted _ _ _ _ _ _ (not-none _ (c .before .before .before .before .before .before .before .before .before .before .before .before .if1 .left)) (noted-whole _ _ _ _ _ _ _ (omega (arith, c .before .before .before .before .before .before .before .before .rectangles-test .taken)) (next (c .before .before .before .before .before)) whole)
+
+pub note-row-spec : {M : Type 1} → statement M
+note-row-spec =
+    tie.close
+    (tie.spec Inv-rectangles μ-rectangles (λ c κs. omega arith) note-requires same-length returns (λ c κs. c .before .before .before .before .pre .1)
+    returns-2 rectangles-holds clip-span-requires note-requires-2 slice-read-wide (λ c κs. omega arith) (λ c. omega arith) (λ c. omega arith)
+    rectangles-again same-length-2 returns-3 same-length-3 returns-4)
