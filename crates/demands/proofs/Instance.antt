@@ -23,11 +23,11 @@ use Rattle.wire.specs.declared.Writing.the-variants.{Done}
 use Rattle.headers.specs.Headers.{headersOf, headersFault}
 use Rattle.frame.specs.Frame.{callFault, frameNumber, framePicture, frameList, frameReading}
 use Rattle.frame_write.specs.Encode.{pictureFrame}
-use Rattle.frame_write.specs.FrameWrite.{pixelsGood, argFault, sendFault}
+use Rattle.frame_write.specs.FrameWrite.{argFault, sendFault}
 use Rattle.quants.specs.Quants.{oneFor}
 use Rattle.frame_write.specs.laws.FrameWrite.{cleared}
 use Rattle.frame_write.specs.laws.OneSet.{one-refusals}
-use Rattle.frame_pieces.specs.Parts.{tilesNo}
+use Rattle.frame_pieces.specs.Parts.{tilesNo, pixelsGood}
 use Rattle.frame_readback.specs.laws.OurTiles.{Sendable}
 use Rattle.frame_readback.specs.laws.Grey.{grey, sixes, sendable-1, sendable-4}
 use Rattle.calls.specs.Calls.{ReadHeader, sessionAfter, ReadFrame, WriteHeaders, WriteFrame, sentBy}

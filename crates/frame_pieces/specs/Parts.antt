@@ -1,6 +1,8 @@
 -- The pieces of a frame while it is written: heads by their lengths, which are 0 until they are filled in.
 use Prim.Native.Nat.{ℕ, _+_, _*_, _-_, _/_}
+use mathlib.Core.Bool.{Bool}
 use mathlib.Core.List.{List, _∷_, _++_}
+use lib.Dec.{eqb}
 use Rattle.wire.specs.Le.{bytes16, bytes32, patch}
 use Rattle.frame_layout.specs.Bytes.{Tile, beginOf, regionOf, propsOf, setCount, endOf}
 use Rattle.quants.specs.Quants.{quantBytes}
@@ -38,3 +40,7 @@ colsOf w = (w + 63) / 64
 
 unfoldable pub tilesNo : ℕ → ℕ → ℕ
 tilesNo w h = colsOf w * colsOf h
+
+-- not 2: "a writer's pixels are not 3 x width x height bytes"
+unfoldable pub pixelsGood : ℕ → ℕ → ℕ → Bool
+pixelsGood w h pixels = eqb pixels (3 * (w * h))

@@ -7,7 +7,7 @@ ghost use Rattle.wire.specs.Le.{patch};
 ghost use Rattle.frame_layout.specs.Bytes.{beginOf, regionOf, propsOf, endOf};
 ghost use Rattle.bands.specs.Bands.{QuantGood};
 ghost use Rattle.quants.specs.Quants.{setsOf, chromaIndex};
-ghost use Rattle.frame_pieces.specs.Parts.{headOf, filled, setHeadOf, frontWith, closed, colsOf, tilesNo};
+ghost use Rattle.frame_pieces.specs.Parts.{headOf, filled, setHeadOf, frontWith, closed, colsOf, tilesNo, pixelsGood};
 use quants::Quants;
 
 // The first 19 bytes of a tile, its lengths still 0; Y's quantiser index is 0, and chroma's as given.
@@ -124,4 +124,12 @@ pub fn tiles_no(w: usize, h: usize) -> usize
     ensures { λ r. ⌜ (r ≡ tilesNo w h) × (r ≤ 2048) ⌝ }
 {
     cols_of(w) * cols_of(h)
+}
+
+// Is a picture's length three bytes a pixel?
+pub fn is_pixels(w: usize, h: usize, pixels: usize) -> bool
+    requires { ⌜ (w ≤ 4096) × (h ≤ 2048) ⌝ }
+    ensures { λ r. ⌜ r ≡ pixelsGood w h pixels ⌝ }
+{
+    pixels == 3 * (w * h)
 }

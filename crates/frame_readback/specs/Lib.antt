@@ -1,3 +1,4 @@
 pub mod Own
+pub mod Picked
 pub mod Request
 pub mod laws

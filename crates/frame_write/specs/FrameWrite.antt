@@ -1,8 +1,7 @@
 -- The frame writer: what it answers and what it leaves, for every input. 01, last paragraph of "Colour", and "Numbers the fitter sees".
 -- (01 is this project's scope document, 02 its change requests, 001 is MS-RDPRFX: README, "What 01 is".)
-use Prim.Native.Nat.{ℕ, zero, suc, _*_}
+use Prim.Native.Nat.{ℕ, zero, suc}
 use mathlib.Core.Path.{_≡_}
-use mathlib.Core.Bool.{Bool}
 use mathlib.Core.List.{List}
 use lib.Dec.{leb, eqb}
 use lib.IntN.{ℤ, pos}
@@ -13,12 +12,8 @@ use Rattle.wire.specs.Wrote.{Wrote}
 use Rattle.wire.specs.declared.Writing.{Writing}
 use Rattle.session.specs.Header.{sizeGood}
 use Rattle.bands.specs.Bands.{isGood}
-use Rattle.frame_pieces.specs.Parts.{tilesNo}
+use Rattle.frame_pieces.specs.Parts.{tilesNo, pixelsGood}
 use Rattle.frame_write.specs.Encode.{refusals, pictureFrame}
-
--- not 2: "a writer's pixels are not 3 x width x height bytes"
-unfoldable pub pixelsGood : ℕ → ℕ → ℕ → Bool
-pixelsGood w h pixels = eqb pixels (3 * (w * h))
 
 -- "size or mode 5, quantiser 7, pixel or work list length 2", by the lengths of the pixels and of the two work lists
 unfoldable pub argFault : ℕ → ℕ → ℕ → List ℕ → ℕ → ℕ → ℕ → ℕ

@@ -17,9 +17,9 @@ use Rattle.bands.specs.Bands.{isGood, QuantGood}
 use Rattle.quants.specs.Quants.{quantFor, setsOf, chromaIndex}
 use Rattle.quants.specs.declared.Quants.{Quants}
 use Rattle.frame_layout.specs.Bytes.{Tile, frameOf}
-use Rattle.frame_pieces.specs.Parts.{tileWith, colsOf, tilesNo}
+use Rattle.frame_pieces.specs.Parts.{tileWith, colsOf, tilesNo, pixelsGood}
 use Rattle.frame_write.specs.Encode.{listOf, tilePart, partRefusal}
-use Rattle.frame_write.specs.FrameWrite.{pixelsGood, workLeft}
+use Rattle.frame_write.specs.FrameWrite.{workLeft}
 
 -- list, bytes and refusal of component c of tile k, by its own quantisers
 abbrev pub listOver : List ℕ → ℕ → ℕ → Quants → ℕ → ℕ → List ℤ

@@ -8,17 +8,9 @@ ghost use mathlib.Core.Path.{_≡_};
 ghost use Prim.Native.Nat.{_+_, _*_, _≤_};
 ghost use lib.ListN.{length};
 ghost use Rattle.wire.specs.Wrote.{Wrote};
-ghost use Rattle.frame_write.specs.FrameWrite.{pixelsGood, FrameWritten};
-ghost use Rattle.frame_write.specs.Sets.{goodSets, frameOver, argFaultOver, sendFaultOver, FrameWrittenOver};
-ghost use Rattle.frame_write.specs.Job.{JobReady};
-
-// Is the picture's length three bytes a pixel?
-fn is_pixels(w: usize, h: usize, pixels: usize) -> bool
-    requires { ⌜ (w ≤ 4096) × (h ≤ 2048) ⌝ }
-    ensures { λ r. ⌜ r ≡ pixelsGood w h pixels ⌝ }
-{
-    pixels == 3 * (w * h)
-}
+ghost use Rattle.frame_write.specs.FrameWrite.{FrameWritten};
+ghost use Rattle.frame_write.specs.Sets.{goodSets, argFaultOver, FrameWrittenOver};
+ghost use Rattle.frame_write.specs.Job.{frameSent, faultSent, JobReady, JobSends};
 
 // Are luma's quantisers good, and chroma's?
 fn is_good(q: Quants) -> bool
@@ -33,7 +25,7 @@ fn is_good(q: Quants) -> bool
 }
 
 // What is judged of the arguments alone: 5, 7, 2.
-fn arg_judge(
+pub fn arg_judge(
     w: usize,
     h: usize,
     mode: u8,
@@ -53,7 +45,7 @@ fn arg_judge(
     if !is_good(q) {
         return 7;
     }
-    if !is_pixels(w, h, pixels) {
+    if !frame_pieces::is_pixels(w, h, pixels) {
         return 2;
     }
     if list != 4096 {
@@ -65,13 +57,20 @@ fn arg_judge(
     0
 }
 
-// What is left to refuse once the arguments are good: 9, 6, 13; then the frame is written.
-fn send(out: &mut [u8], list: &mut [i32], scratch: &mut [i32], pixels: &[u8], job: Job) -> Writing
-    requires { ⌜ JobReady job (now pixels) (now list) (now scratch) ⌝ }
-    ensures { λ r. ⌜ Wrote (sendFaultOver (job .index) (job .width) (job .height) (job .mode) (job .quants) (now (pixels .entry)) (length (now (out .entry)))) (frameOver (job .index) (job .width) (job .height) (job .mode) (job .quants) (now (pixels .entry))) (now (out .entry)) (now (out .exit)) r ⌝ }
+// What is left to refuse once the arguments and the list are good: 9, 6, 13; then the frame of the n tiles is written.
+pub fn send(
+    out: &mut [u8],
+    list: &mut [i32],
+    scratch: &mut [i32],
+    pixels: &[u8],
+    picks: &[u32],
+    job: Job,
+    n: usize,
+) -> Writing
+    requires { ⌜ JobReady job (now pixels) (now list) (now scratch) × JobSends job (now picks) n ⌝ }
+    ensures { λ r. ⌜ Wrote (faultSent job (now (pixels .entry)) (now (picks .entry)) n (length (now (out .entry)))) (frameSent job (now (pixels .entry)) (now (picks .entry)) n) (now (out .entry)) (now (out .exit)) r ⌝ }
 {
-    let n = frame_pieces::tiles_no(job.width, job.height);
-    let s = crate::size::tiles_size(job, pixels, n, list, scratch);
+    let s = crate::size::tiles_size(job, pixels, picks, n, list, scratch);
     let number = s.number;
     let size = s.size;
     if number != 0 {
@@ -82,7 +81,7 @@ fn send(out: &mut [u8], list: &mut [i32], scratch: &mut [i32], pixels: &[u8], jo
     if out.len() < around + size {
         return Writing::Refused(13);
     }
-    let end = crate::put::put_frame(out, list, scratch, pixels, job, n);
+    let end = crate::put::put_frame(out, list, scratch, pixels, picks, job, n);
     Writing::Done(end)
 }
 
@@ -119,7 +118,8 @@ pub fn write_frame_sets(
         index: index as usize,
         quants: q,
     };
-    let r = send(out, list, scratch, pixels, job);
+    let n = frame_pieces::tiles_no(width, height);
+    let r = send(out, list, scratch, pixels, &[], job, n);
     whole::clear(list);
     whole::clear(scratch);
     r

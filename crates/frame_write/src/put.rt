@@ -7,7 +7,7 @@ ghost use Rattle.quants.specs.Quants.{chromaIndex};
 ghost use lib.ListN.{length};
 ghost use Rattle.wire.specs.Le.{patch, written};
 ghost use Rattle.frame_layout.specs.Bytes.{tileLen, tileOf, tilesOf};
-ghost use Rattle.frame_write.specs.Job.{partIn, tileIn, frameIn, jobTiles, partStop, tileStop, tilesStop, JobReady};
+ghost use Rattle.frame_write.specs.Job.{partIn, tileIn, jobTiles, partStop, tileStop, tileSent, stopsSent, frameSent, JobReady, JobSends};
 
 // Component c of tile k, written at a place. The answer is the place past it.
 fn put_part(
@@ -52,23 +52,25 @@ fn put_tile(
     e
 }
 
-// All n tiles from a place on. The answer is the place past them.
+// The n tiles that are sent, from a place on. The answer is the place past them.
 fn put_tiles(
     out: &mut [u8],
     from: usize,
     list: &mut [i32],
     scratch: &mut [i32],
     pixels: &[u8],
+    picks: &[u32],
     job: Job,
     n: usize,
 ) -> usize
-    requires { ⌜ JobReady job (now pixels) (now list) (now scratch) × (n ≡ jobTiles job) × (0 ≡ tilesStop job (now pixels) n) × (from + length (tilesOf (tileIn job (now pixels)) n 0) ≤ length (now out)) ⌝ }
-    ensures { λ r. ⌜ (now (out .exit) ≡ patch (now (out .entry)) from (tilesOf (tileIn job (now (pixels .entry))) n 0)) × (r ≡ from + length (tilesOf (tileIn job (now (pixels .entry))) n 0)) ⌝ }
+    requires { ⌜ JobReady job (now pixels) (now list) (now scratch) × JobSends job (now picks) n × (0 ≡ stopsSent job (now pixels) (now picks) n) × (from + length (tilesOf (tileSent job (now pixels) (now picks)) n 0) ≤ length (now out)) ⌝ }
+    ensures { λ r. ⌜ (now (out .exit) ≡ patch (now (out .entry)) from (tilesOf (tileSent job (now (pixels .entry)) (now (picks .entry))) n 0)) × (r ≡ from + length (tilesOf (tileSent job (now (pixels .entry)) (now (picks .entry))) n 0)) ⌝ }
 {
     let mut at = from;
     let mut i = 0;
     while i < n {
-        at = put_tile(out, at, list, scratch, pixels, job, i);
+        let k = crate::size::number_at(picks, i);
+        at = put_tile(out, at, list, scratch, pixels, job, k);
         i += 1;
     }
     at
@@ -80,11 +82,12 @@ pub fn put_frame(
     list: &mut [i32],
     scratch: &mut [i32],
     pixels: &[u8],
+    picks: &[u32],
     job: Job,
     n: usize,
 ) -> usize
-    requires { ⌜ JobReady job (now pixels) (now list) (now scratch) × (n ≡ jobTiles job) × (0 ≡ tilesStop job (now pixels) n) × (72 + 5 * chromaIndex (job .quants) + length (tilesOf (tileIn job (now pixels)) n 0) ≤ length (now out)) ⌝ }
-    ensures { λ r. ⌜ (now (out .exit) ≡ written (frameIn job (now (pixels .entry)) n) (now (out .entry))) × (r ≡ length (frameIn job (now (pixels .entry)) n)) ⌝ }
+    requires { ⌜ JobReady job (now pixels) (now list) (now scratch) × JobSends job (now picks) n × (0 ≡ stopsSent job (now pixels) (now picks) n) × (72 + 5 * chromaIndex (job .quants) + length (tilesOf (tileSent job (now pixels) (now picks)) n 0) ≤ length (now out)) ⌝ }
+    ensures { λ r. ⌜ (now (out .exit) ≡ written (frameSent job (now (pixels .entry)) (now (picks .entry)) n) (now (out .entry))) × (r ≡ length (frameSent job (now (pixels .entry)) (now (picks .entry)) n)) ⌝ }
 {
     let all = job.quants;
     let from = 64 + 5 * quants::chroma_index(all) as usize;
@@ -97,7 +100,7 @@ pub fn put_frame(
         job.mode as usize,
         n,
     );
-    let e = put_tiles(out, from, list, scratch, pixels, job, n);
+    let e = put_tiles(out, from, list, scratch, pixels, picks, job, n);
     frame_pieces::close_frame(out, from, e);
     e + 8
 }

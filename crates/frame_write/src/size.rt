@@ -6,7 +6,7 @@ ghost use mathlib.Core.Path.{_≡_};
 ghost use Prim.Native.Nat.{_<_};
 ghost use lib.ListN.{length};
 ghost use Rattle.frame_layout.specs.Bytes.{tileLen, tilesOf};
-ghost use Rattle.frame_write.specs.Job.{listIn, partIn, tileIn, jobTiles, partStop, tileStop, tilesStop, JobReady, Sizes};
+ghost use Rattle.frame_write.specs.Job.{listIn, partIn, tileIn, jobTiles, partStop, tileStop, sentAt, tileSent, stopsSent, JobReady, JobSends, Sizes};
 
 // What the writer is asked, beside the pixels: size, mode, the frame's index, and the quantisers.
 pub struct Job {
@@ -90,15 +90,33 @@ fn tile_size(job: Job, pixels: &[u8], k: usize, list: &mut [i32], scratch: &mut 
     }
 }
 
-// All n tiles: the first refusal, or the bytes of all.
-pub fn tiles_size(job: Job, pixels: &[u8], n: usize, list: &mut [i32], scratch: &mut [i32]) -> Sized
-    requires { ⌜ JobReady job (now pixels) (now list) (now scratch) × (n ≡ jobTiles job) ⌝ }
-    ensures { λ r. ⌜ Sizes (tilesStop job (now (pixels .entry)) n) (length (tilesOf (tileIn job (now (pixels .entry))) n 0)) r ⌝ }
+// The number of the i-th tile that is sent: the one listed there. Past the list's end it is i itself: with no list every tile is sent, row by row.
+pub fn number_at(picks: &[u32], i: usize) -> usize
+    ensures { λ r. ⌜ r ≡ sentAt (now (picks .entry)) i ⌝ }
+{
+    if i < picks.len() {
+        return picks[i] as usize;
+    }
+    i
+}
+
+// The n tiles that are sent: the first refusal, or the bytes of all.
+pub fn tiles_size(
+    job: Job,
+    pixels: &[u8],
+    picks: &[u32],
+    n: usize,
+    list: &mut [i32],
+    scratch: &mut [i32],
+) -> Sized
+    requires { ⌜ JobReady job (now pixels) (now list) (now scratch) × JobSends job (now picks) n ⌝ }
+    ensures { λ r. ⌜ Sizes (stopsSent job (now (pixels .entry)) (now (picks .entry)) n) (length (tilesOf (tileSent job (now (pixels .entry)) (now (picks .entry))) n 0)) r ⌝ }
 {
     let mut total = 0;
     let mut i = 0;
     while i < n {
-        let s = tile_size(job, pixels, i, list, scratch);
+        let k = number_at(picks, i);
+        let s = tile_size(job, pixels, k, list, scratch);
         if s.number != 0 {
             return s;
         }

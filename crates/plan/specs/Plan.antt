@@ -8,7 +8,7 @@ use lib.ListN.{length, getD}
 use lib.Dec.{leb, ltb, eqb}
 use Rattle.whole.specs.Row.{_!_⨾_, _⇒_∣_, _⨟_}
 use Rattle.session.specs.Header.{sizeGood}
-use Rattle.frame_pieces.specs.Parts.{colsOf, tilesNo}
+use Rattle.frame_pieces.specs.Parts.{colsOf, tilesNo, pixelsGood}
 use Rattle.tile_forth.specs.TileForth.{edge, pixelPlace}
 
 -- every number below n meets a test
@@ -58,10 +58,6 @@ unfoldable pub covers : List ℕ → List ℕ → ℕ → ℕ → List ℕ → B
 covers old new w h ks = allBelow (λ k. changedTile old new w h k ⇒ isListed k ks ∣ true) (tilesNo w h)
 
 -- ---- the checker's answer
-
--- a picture's length: "three bytes a pixel (R, G, B)" (01)
-unfoldable pub pixelsGood : ℕ → ℕ → ℕ → Bool
-pixelsGood w h pixels = eqb pixels (3 * (w * h))
 
 -- "before all, a size that 01 refuses is 5, then wrong picture lengths 2": by the lengths of the old and of the new picture
 unfoldable pub picturesFault : ℕ → ℕ → ℕ → ℕ → ℕ

@@ -2,18 +2,8 @@
 // tile 8, a changed tile missing 17, first in this order; before all, a size that 01 refuses is 5, then wrong picture lengths 2."
 ghost use mathlib.Core.Path.{_≡_};
 ghost use mathlib.Core.Bool.{true};
-ghost use Prim.Native.Nat.{_≤_};
-ghost use lib.ListN.{length};
-ghost use Rattle.plan.specs.Plan.{Pictures, pixelsGood, picturesFault, rising, below, covers, picksFault, planFault};
+ghost use Rattle.plan.specs.Plan.{Pictures, picturesFault, rising, below, covers, picksFault, planFault};
 ghost use Rattle.plan.specs.Runs.{listedAt};
-
-// Is a picture's length three bytes a pixel?
-fn is_pixels(w: usize, h: usize, pixels: usize) -> bool
-    requires { ⌜ (w ≤ 4096) × (h ≤ 2048) ⌝ }
-    ensures { λ r. ⌜ r ≡ pixelsGood w h pixels ⌝ }
-{
-    pixels == 3 * (w * h)
-}
 
 // What is judged of the size and of the two pictures' lengths: 5, 2.
 pub fn pictures_judge(w: usize, h: usize, old: usize, new: usize) -> u8
@@ -22,10 +12,10 @@ pub fn pictures_judge(w: usize, h: usize, old: usize, new: usize) -> u8
     if !session::is_size(w, h) {
         return 5;
     }
-    if !is_pixels(w, h, old) {
+    if !frame_pieces::is_pixels(w, h, old) {
         return 2;
     }
-    if !is_pixels(w, h, new) {
+    if !frame_pieces::is_pixels(w, h, new) {
         return 2;
     }
     0
@@ -91,7 +81,7 @@ fn is_covering(w: usize, h: usize, old: &[u8], new: &[u8], picks: &[u32]) -> boo
 }
 
 // What is judged of the list: 16, 8, 17.
-fn picks_judge(w: usize, h: usize, old: &[u8], new: &[u8], picks: &[u32]) -> u8
+pub fn picks_judge(w: usize, h: usize, old: &[u8], new: &[u8], picks: &[u32]) -> u8
     requires { ⌜ Pictures w h (now old) (now new) ⌝ }
     ensures { λ r. ⌜ r ≡ picksFault (now (old .entry)) (now (new .entry)) w h (now (picks .entry)) ⌝ }
 {

@@ -225,6 +225,10 @@ few-tiles a b w h p q lw lh =
     let y : b ≤ 32 = omega arith in
     mul-le-mul {n₂ = 64} {m₂ = 32} x y
 
+-- a size that 01 allows: no product of it is too big
+pub size-small : (w h : ℕ) → w ≤ 4096 → h ≤ 2048 → w * h ≤ 8388608
+size-small w h a b = mul-le-mul {n₂ = 4096} {m₂ = 2048} a b
+
 pub some-cols : (w : ℕ) → 1 ≤ w → 1 ≤ colsOf w
 unfolding colsOf
 some-cols w h = omega arith

@@ -6,7 +6,7 @@ use Prim.Native.Nat.{ℕ, _+_, _*_, _/_, _%_, _≤_, _<_}
 use mathlib.Core.Path.{_≡_, refl, ap, ap₂, sym, _∙_, subst}
 use mathlib.Core.Bool.{true, false}
 use mathlib.Core.List.{List, _++_}
-use mathlib.Core.Logic.{⊎-elim}
+use mathlib.Core.Logic.{_⊎_, ⊎-elim}
 use native.Mathlib.Omega.{arith}
 use native.Mathlib.Nat.{div-add-mod', mul-comm}
 use lib.IntN.{ℤ}
@@ -40,7 +40,7 @@ use Rattle.frame_blocks.specs.Judged.{judged}
 use Rattle.whole.specs.laws.Tab.{row-in}
 use Rattle.frame_draw.specs.laws.Pixels.{split}
 use Rattle.frame_draw.specs.Draw.{inRegion}
-use Rattle.frame_draw.specs.Shown.{inTile, Found, found, lastTile, wordIn}
+use Rattle.frame_draw.specs.Shown.{inTile, Found, found, none, lastTile, wordIn}
 use Rattle.frame_draw.specs.Show.{planeOf, tileWord}
 use Rattle.frame.specs.declared.call.FrameReading.{FrameReading}
 use Rattle.frame.specs.Frame.{full, callFault, early, frameNumber, frameReadingNumber, FrameRead}
@@ -52,13 +52,14 @@ use Rattle.frame_write.specs.FrameWrite.{FrameWritten}
 use Rattle.frame_write.specs.Sets.{tileOver, frameOver, refusalsOver, argFaultOver, sendFaultOver, FrameWrittenOver}
 use Rattle.frame_write.specs.laws.OneSet.{as-over}
 use Rattle.frame_write.specs.laws.FrameWrite.{args-good}
-use Rattle.frame_readback.specs.laws.OurTiles.{PartTaken, Sendable, luma-back, chroma-back, tens, tile-taken, sent, our-frame}
+use Rattle.frame_readback.specs.laws.OurTiles.{PartTaken, Sendable, SendablePicks, all-sendable, luma-back, chroma-back, tens, tile-taken, sent, our-frame}
 use Rattle.frame_readback.specs.Own.{samplesBack, wordBack, wordOver, tileNo, Shown, ShownOver}
-use Rattle.frame_readback.specs.laws.Own.{last-found, tile-place, whole-region}
+use Rattle.frame_readback.specs.Picked.{ShownPicked}
+use Rattle.frame_readback.specs.laws.Own.{Seen, Unseen, last-picked, tile-place, whole-region}
 
 -- ---- what the writer's 0 gives
 
-mode-of : (w h mode : ℕ) (q : Quants) (pixels list scratch : ℕ) → 0 ≡ argFaultOver w h mode q pixels list scratch →
+pub mode-of : (w h mode : ℕ) (q : Quants) (pixels list scratch : ℕ) → 0 ≡ argFaultOver w h mode q pixels list scratch →
     (sizeGood w h ≡ true) × (isMode mode ≡ true)
 unfolding argFaultOver
 mode-of w h mode q pixels list scratch e =
@@ -116,15 +117,22 @@ module _ (p : List ℕ) (w h mode : ℕ) (q : Quants) (px py : ℕ) (in-w : px <
       (λ (a : eqb (px / 64) (j % colsOf w) ≡ false). sym (fails _ _ _ _ a refl))
       (split (eqb (px / 64) (j % colsOf w)))
 
-  among : tileNo w px py < 0 + tilesNo w h
-  unfolding tileNo tilesNo
-  among = omega (arith, row-in (py / 64) (colsOf h) (colsOf w) row-in-h, col-in, mul-comm (colsOf w) (colsOf h))
-
-  pub its-tile : lastTile (listed (tileOver p w h mode q) (tilesNo w h) 0) px py ≡ found (tileOver p w h mode q (tileNo w px py))
-  its-tile = last-found (tileOver p w h mode q) px py (tileNo w px py) here other (tilesNo w h) 0 (omega arith) among
-
   pub tile-among : tileNo w px py < tilesNo w h
-  tile-among = omega (arith, among)
+  unfolding tileNo tilesNo
+  tile-among = omega (arith, row-in (py / 64) (colsOf h) (colsOf w) row-in-h, col-in, mul-comm (colsOf w) (colsOf h))
+
+  module _ (n : ℕ) (pick : ℕ → ℕ) where
+    abbrev last : Found
+    last = lastTile (listed (λ (i : ℕ). tileOver p w h mode q (pick i)) n 0) px py
+
+    picked : Seen (tileOver p w h mode q) pick px py (tileNo w px py) n 0 ⊎ Unseen (tileOver p w h mode q) pick px py (tileNo w px py) n 0
+    picked = last-picked (tileOver p w h mode q) pick px py (tileNo w px py) here other n 0
+
+    pub its-tile : (i : ℕ) → i < n → pick i ≡ tileNo w px py → last ≡ found (tileOver p w h mode q (tileNo w px py))
+    its-tile i l e = ⊎-elim (λ s. s .last) (λ u. absurd (u .not i (omega arith) (omega arith) e)) picked
+
+    pub no-tile : ((i : ℕ) → i < n → pick i ≡ tileNo w px py → ⊥) → last ≡ none
+    no-tile f = ⊎-elim (λ s. absurd (f (s .place) (omega (arith, s .to)) (s .is))) (λ u. u .last) picked
 
 -- ---- what our frame is to the frame call
 
@@ -132,20 +140,20 @@ judges : (mode : ℕ) (set code : List ℕ) → judged mode set code ≡ compone
 unfolding judged
 judges mode set code = refl
 
-module _ (p : List ℕ) (w h mode : ℕ) (q : Quants) (index : ℕ) (s : Sendable p w h mode q) where
+module _ (p : List ℕ) (w h mode : ℕ) (q : Quants) (index n : ℕ) (pick : ℕ → ℕ) (s : SendablePicks p w h mode q n pick) where
   abbrev pub m : List ℕ
-  m = frameOver index w h mode q p
+  m = frameOf index w h mode (setsOf q) n (λ (i : ℕ). tileOver p w h mode q (pick i))
 
-  taken : Taken judged w h mode (tilesNo w h) (tileOver p w h mode q) m
-  taken = our-frame p w h mode q s judged (judges mode) index
+  taken : Taken judged w h mode n (λ (i : ℕ). tileOver p w h mode q (pick i)) m
+  taken = our-frame p w h mode q n pick s judged (judges mode) index
 
   set-is : (j : ℕ) → j < setCount (setsOf q) → setAt m (setPlace m) j ≡ sentSet (setsOf q) j
-  unfolding frameOver frameOf setPlace sizeAt
+  unfolding frameOf setPlace sizeAt
   set-is j l =
-      let t = sent p w h mode q s judged (judges mode) in
-      let D = tilesOf (tileOver p w h mode q) (tilesNo w h) 0 in
-      let f = front index w h mode (setsOf q) (tilesNo w h) (length D) (D ++ endOf) (t .wide) (t .high) (t .mode) (omega (arith, t .few))
-      (sent-small judged w h mode (setsOf q) (tilesNo w h) (tileOver p w h mode q) t) (t .sets .tens) in
+      let t = sent p w h mode q n pick s judged (judges mode) in
+      let D = tilesOf (λ (i : ℕ). tileOver p w h mode q (pick i)) n 0 in
+      let f = front index w h mode (setsOf q) n (length D) (D ++ endOf) (t .wide) (t .high) (t .mode) (omega (arith, t .few))
+      (sent-small judged w h mode (setsOf q) n (λ (i : ℕ). tileOver p w h mode q (pick i)) t) (t .sets .tens) in
       rw (f .region .1 .0) (set-found m (setsOf q) (D ++ endOf) j (t .sets .tens) l (f .quants))
 
   part-back : (j : ℕ) (v : List ℕ) (zs : List ℤ) → j < setCount (setsOf q) → quantOf (sentSet (setsOf q) j) ≡ v → PartTaken mode v zs →
@@ -154,12 +162,12 @@ module _ (p : List ℕ) (w h mode : ℕ) (q : Quants) (index : ℕ) (s : Sendabl
       ap (λ (x : List ℕ). samplesOf mode (quantOf x) (bytesOf mode zs)) (set-is j l)
       ∙ ap (λ (x : List ℕ). samplesOf mode x (bytesOf mode zs)) e ∙ t .samples
 
-  word-back : (glass k i : ℕ) → k < tilesNo w h → tileWord glass mode (setAt m (setPlace m)) (tileOver p w h mode q k) i ≡ wordOver glass p w h q k i
+  word-back : (glass k i : ℕ) → k < n → tileWord glass mode (setAt m (setPlace m)) (tileOver p w h mode q (pick k)) i ≡ wordOver glass p w h q (pick k) i
   unfolding tileWord planeOf indexOf codePart tileOver tileWith tilePart wordOver samplesBack quantFor _⇒_∣_
   word-back glass k i l =
-      let t = tile-taken p w h mode q s k l in
-      let n = count-is q (s .luma) (s .chroma) in
-      let z = tens p w h mode q s in
+      let t = tile-taken p w h mode q n pick s k l in
+      let sets = count-is q (s .luma) (s .chroma) in
+      let z = tens p w h mode q n pick s in
       rw (
         part-back 0 _ _ (omega arith) (luma-back q z) (t .y),
         part-back (chromaIndex q) _ _ (omega arith) (chroma-back q z) (t .cb),
@@ -170,14 +178,26 @@ module _ (p : List ℕ) (w h mode : ℕ) (q : Quants) (index : ℕ) (s : Sendabl
   unfolding rectsOf
   region px py a b = rw (taken .rects) (whole-region m w h px py (taken .rect .0) (taken .rect .1 .0) (taken .rect .1 .1 .0) (taken .rect .1 .1 .1) a b)
 
-  shown-word : (glass px py old : ℕ) → px < w → py < h →
+  shown-as : (glass px py old : ℕ) (f : Found) → px < w → py < h → lastTile (listed (λ (i : ℕ). tileOver p w h mode q (pick i)) n 0) px py ≡ f →
+      (inRegion (rectsOf m 14) (rectCount m 14) px py ⇒ wordIn (tileWord glass mode (setAt m (setPlace m))) px py (lastTile (frameTiles m) px py) old ∣ old)
+      ≡ wordIn (tileWord glass mode (setAt m (setPlace m))) px py f old
+  shown-as glass px py old f a b e =
+      case-is _ _ _ _ (region px py a b) refl
+      ∙ ap (λ (z : Found). wordIn (tileWord glass mode (setAt m (setPlace m))) px py z old) (ap (λ (ts : List Tile). lastTile ts px py) (taken .tiles) ∙ e)
+
+  shown-word : (glass px py old i : ℕ) → px < w → py < h → i < n → pick i ≡ tileNo w px py →
       (inRegion (rectsOf m 14) (rectCount m 14) px py ⇒ wordIn (tileWord glass mode (setAt m (setPlace m))) px py (lastTile (frameTiles m) px py) old ∣ old)
       ≡ wordOver glass p w h q (tileNo w px py) (64 * (py % 64) + px % 64)
   unfolding wordIn
-  shown-word glass px py old a b =
-      case-is _ _ _ _ (region px py a b) refl
-      ∙ ap (λ (f : Found). wordIn (tileWord glass mode (setAt m (setPlace m))) px py f old) (ap (λ (ts : List Tile). lastTile ts px py) (taken .tiles) ∙ its-tile p w h mode q px py a b)
-      ∙ word-back glass (tileNo w px py) (64 * (py % 64) + px % 64) (tile-among p w h mode q px py a b)
+  shown-word glass px py old i a b l e =
+      shown-as glass px py old _ a b (its-tile p w h mode q px py a b n pick i l e)
+      ∙ subst (λ (k : ℕ). tileWord glass mode (setAt m (setPlace m)) (tileOver p w h mode q k) (64 * (py % 64) + px % 64) ≡ wordOver glass p w h q k (64 * (py % 64) + px % 64)) e
+      (word-back glass i (64 * (py % 64) + px % 64) l)
+
+  shown-other : (glass px py old : ℕ) → px < w → py < h → ((i : ℕ) → i < n → pick i ≡ tileNo w px py → ⊥) →
+      (inRegion (rectsOf m 14) (rectCount m 14) px py ⇒ wordIn (tileWord glass mode (setAt m (setPlace m))) px py (lastTile (frameTiles m) px py) old ∣ old) ≡ old
+  unfolding wordIn
+  shown-other glass px py old a b f = shown-as glass px py old none a b (no-tile p w h mode q px py a b n pick f)
 
   -- the frame call on it, with the record that our headers give, lists of 4,096 and a picture long enough
   module _ (glass : ℕ) (either : glass ≤ 1) (good : sizeGood w h ≡ true) (pic : List ℕ) (y cb cr tmp : List ℤ) (pic′ : List ℕ) (y′ cb′ cr′ tmp′ : List ℤ) (r : FrameReading)
@@ -194,14 +214,26 @@ module _ (p : List ℕ) (w h mode : ℕ) (q : Quants) (index : ℕ) (s : Sendabl
     unfolding frameNumber
     number-0 = number-is glass (recordOf glass 4 w h mode) m pic y cb cr tmp pic′ y′ cb′ cr′ tmp′ r done ∙ sym (goes-on _ _ _ (sym call-fine) (taken .fault))
 
-    pub shown : ShownOver glass p w h q pic pic′ r
+    pub shown : ShownPicked glass p w h q n pick pic pic′ r
     shown = record {
       number = number-0;
       tiles = accepted glass (recordOf glass 4 w h mode) m pic y cb cr tmp pic′ y′ cb′ cr′ tmp′ r done number-0 .counted ∙ taken .count;
-      word = λ px py a b. shown-pixel glass (recordOf glass 4 w h mode) m pic y cb cr tmp pic′ y′ cb′ cr′ tmp′ r done number-0 px py a b ∙ shown-word glass px py _ a b;
+      word = λ px py a b i l e. shown-pixel glass (recordOf glass 4 w h mode) m pic y cb cr tmp pic′ y′ cb′ cr′ tmp′ r done number-0 px py a b ∙ shown-word glass px py _ i a b l e;
+      others = λ px py a b f. shown-pixel glass (recordOf glass 4 w h mode) m pic y cb cr tmp pic′ y′ cb′ cr′ tmp′ r done number-0 px py a b ∙ shown-other glass px py _ a b f;
       past = shown-past glass (recordOf glass 4 w h mode) m pic y cb cr tmp pic′ y′ cb′ cr′ tmp′ r done number-0;
       long = shown-length glass (recordOf glass 4 w h mode) m pic y cb cr tmp pic′ y′ cb′ cr′ tmp′ r done number-0;
     }
+
+-- all tiles sent: every word of the channel
+all-shown : (glass : ℕ) (p : List ℕ) (w h mode : ℕ) (q : Quants) (pic pic′ : List ℕ) (r : FrameReading) →
+    ShownPicked glass p w h q (tilesNo w h) (λ k. k) pic pic′ r → ShownOver glass p w h q pic pic′ r
+all-shown glass p w h mode q pic pic′ r s = record {
+  number = s .number;
+  tiles = s .tiles;
+  word = λ px py a b. s .word px py a b (tileNo w px py) (tile-among p w h mode q px py a b) refl;
+  past = s .past;
+  long = s .long;
+}
 
 -- THE STATEMENT OVER THE CALLS. Whenever our two writers are done, for the same size and mode: four header calls on our headers, from any
 -- record at all, answer 0 and end in (4, w, h, mode); and the frame call on our frame, with that record on either glass, a picture of its words, work lists of 4,096 and a picture long
@@ -217,11 +249,14 @@ pub our-own-frames-over :
     length y ≡ 4096 → length cb ≡ 4096 → length cr ≡ 4096 → length tmp ≡ 4096 → h * w ≤ length pic →
     FrameRead glass (recordOf glass 4 w h mode) (take (writingLength r) out′) pic y cb cr tmp pic′ y′ cb′ cr′ tmp′ answer →
     AllTaken s₀ w h mode (take (writingLength hr) ho′) × ShownOver glass p w h q pic pic′ answer
+unfolding frameOver
 our-own-frames-over glass s₀ w h mode ho ho′ hr either hw e q index p list list′ scratch scratch′ out out′ r luma chroma fw f
     pic y cb cr tmp pic′ y′ cb′ cr′ tmp′ answer ly lb lr lt room done =
     let u = written-is w h mode q index p list list′ scratch scratch′ out out′ r luma chroma fw f in
     let d = subst (λ (x : List ℕ). FrameRead glass (recordOf glass 4 w h mode) x pic y cb cr tmp pic′ y′ cb′ cr′ tmp′ answer) (u .bytes) done in
-    (our-headers s₀ w h mode ho ho′ hr hw e, shown p w h mode q index (u .sendable) glass either (u .size) pic y cb cr tmp pic′ y′ cb′ cr′ tmp′ answer ly lb lr lt room d)
+    let x = shown p w h mode q index (tilesNo w h) (λ k. k) (all-sendable p w h mode q (u .sendable)) glass either (u .size) pic y cb cr tmp pic′ y′ cb′ cr′ tmp′ answer
+    ly lb lr lt room d in
+    (our-headers s₀ w h mode ho ho′ hr hw e, all-shown glass p w h mode q pic pic′ answer x)
 
 -- with one set for both it is what 01 says
 one-shown : (glass : ℕ) (p : List ℕ) (w h : ℕ) (q pic pic′ : List ℕ) (r : FrameReading) → ShownOver glass p w h (oneFor q) pic pic′ r → Shown glass p w h q pic pic′ r

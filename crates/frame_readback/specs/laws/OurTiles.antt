@@ -14,7 +14,7 @@ use Rattle.whole.specs.laws.Row.{both, goes-on}
 use Rattle.quants.specs.Quants.{same, quantFor, setsOf, chromaIndex}
 use Rattle.quants.specs.laws.Quants.{quant-back, sets-one, sets-two, index-one, index-two, luma-at, chroma-at}
 use Rattle.quants.specs.declared.Quants.{Quants}
-use Rattle.frame_layout.specs.Bytes.{setCount}
+use Rattle.frame_layout.specs.Bytes.{setCount, frameOf}
 use Rattle.frame_layout.specs.Reader.{codesFault}
 use Rattle.frame_layout.specs.laws.Tiles.{Good}
 use Rattle.frame_layout.specs.laws.ReadBack.{Each, Sets, sentSet, FrameSent, Taken, read-back}
@@ -29,9 +29,11 @@ use Rattle.tile_back.specs.laws.Judged.{reader-takes, reader-samples}
 use Rattle.frame_pieces.specs.Parts.{tileWith, tilesNo}
 use Rattle.frame_pieces.specs.laws.Parts.{count-is, tens-of}
 use Rattle.frame_write.specs.Encode.{listOf, tilePart, partRefusal}
-use Rattle.frame_write.specs.Sets.{listOver, tileOver, frameOver, refusalsOver, PictureOver}
+use Rattle.frame_write.specs.Sets.{listOver, tileOver, tileRefusalOver, refusalsOver, PictureOver}
 use Rattle.frame_write.specs.laws.Encode.{place-good, few, list-long, part-small}
-use Rattle.frame_write.specs.laws.Put.{tile-fine, one-fine}
+use Rattle.frame_write.specs.laws.Put.{tile-fine}
+use Rattle.frame_write.specs.laws.Stops.{stops-none}
+use Rattle.frame_write.specs.laws.Picked.{along}
 
 -- ---- the sets of a frame, as the layout asks for them
 
@@ -105,6 +107,28 @@ pub record Sendable (p : List ℕ) (w h mode : ℕ) (q : Quants) : Type 0 where
   pub allowed : isMode mode ≡ true
   pub none : 0 ≡ refusalsOver p w h mode q (tilesNo w h) 0
 
+-- the same of n tiles, each by its number
+pub record SendablePicks (p : List ℕ) (w h mode : ℕ) (q : Quants) (n : ℕ) (pick : ℕ → ℕ) : Type 0 where
+  pub picture : PictureOver p w h q
+  pub luma : length (q .luma .v) ≡ 10
+  pub chroma : length (q .chroma .v) ≡ 10
+  pub allowed : isMode mode ≡ true
+  pub few : n ≤ 2048
+  pub there : (i : ℕ) → i < n → pick i < tilesNo w h
+  pub none : (i : ℕ) → i < n → 0 ≡ tileRefusalOver p w h mode q (pick i)
+
+-- all tiles
+pub all-sendable : (p : List ℕ) (w h mode : ℕ) (q : Quants) → Sendable p w h mode q → SendablePicks p w h mode q (tilesNo w h) (λ k. k)
+all-sendable p w h mode q s = record {
+  picture = s .picture;
+  luma = s .luma;
+  chroma = s .chroma;
+  allowed = s .allowed;
+  few = few w h (s .picture .wider) (s .picture .higher);
+  there = λ i l. l;
+  none = λ i l. stops-none (tileRefusalOver p w h mode q) (tilesNo w h) 0 (s .none ∙ along p w h mode q (tilesNo w h) 0) i (omega arith) (omega arith);
+}
+
 -- the three components of tile k, read
 pub record TileTaken (p : List ℕ) (w h mode : ℕ) (q : Quants) (k : ℕ) : Type 0 where
   pub y : PartTaken mode (quantFor q 0 .v) (listOver p w h q k 0)
@@ -114,13 +138,14 @@ pub record TileTaken (p : List ℕ) (w h mode : ℕ) (q : Quants) (k : ℕ) : Ty
 mode-16 : (mode : ℕ) → isMode mode ≡ true → mode < 16
 mode-16 mode e = ⊎-elim {C = mode < 16} (λ z. omega arith) (λ z. omega arith) (mode-is mode e)
 
-module _ (p : List ℕ) (w h mode : ℕ) (q : Quants) (s : Sendable p w h mode q) where
+module _ (p : List ℕ) (w h mode : ℕ) (q : Quants) (n : ℕ) (pick : ℕ → ℕ) (s : SendablePicks p w h mode q n pick) where
   pub tens : Tens q
   tens = record { luma = s .luma; chroma = s .chroma; luma-good = s .picture .luma; chroma-good = s .picture .chroma }
 
-  pub tile-taken : (k : ℕ) → k < tilesNo w h → TileTaken p w h mode q k
-  tile-taken k l =
-      let f = tile-fine p w h mode q k (one-fine p w h mode q (tilesNo w h) k (s .none) l) in
+  pub tile-taken : (i : ℕ) → i < n → TileTaken p w h mode q (pick i)
+  tile-taken i l =
+      let k = pick i in
+      let f = tile-fine p w h mode q k (s .none i l) in
       record {
         y = part-taken mode (quantFor q 0 .v) (listOver p w h q k 0) (s .allowed) (list-long p w h (quantFor q 0 .v) k 0) (f .y);
         cb = part-taken mode (quantFor q 1 .v) (listOver p w h q k 1) (s .allowed) (list-long p w h (quantFor q 1 .v) k 1) (f .cb);
@@ -131,14 +156,15 @@ module _ (p : List ℕ) (w h mode : ℕ) (q : Quants) (s : Sendable p w h mode q
     taken-by : (set v : List ℕ) (zs : List ℤ) → quantOf set ≡ v → PartTaken mode v zs → 0 ≡ comp mode set (bytesOf mode zs)
     taken-by set v zs e t = t .fault ∙ (ap (λ (x : List ℕ). componentFault mode x (bytesOf mode zs)) (sym e) ∙ sym (judges set (bytesOf mode zs)))
 
-    tile-good : (k : ℕ) → k < tilesNo w h →
-        Good (λ (j : ℕ) (code : List ℕ). comp mode (sentSet (setsOf q) j) code) w h (setCount (setsOf q)) (tileOver p w h mode q k)
+    tile-good : (i : ℕ) → i < n →
+        Good (λ (j : ℕ) (code : List ℕ). comp mode (sentSet (setsOf q) j) code) w h (setCount (setsOf q)) (tileOver p w h mode q (pick i))
     unfolding tileOver tileWith tilePart codesFault quantFor _⇒_∣_
-    tile-good k l =
-        let f = tile-fine p w h mode q k (one-fine p w h mode q (tilesNo w h) k (s .none) l) in
-        let t = tile-taken k l in
-        let pl = place-good w h k (s .picture .wide) l in
-        let n = count-is q (s .luma) (s .chroma) in
+    tile-good i l =
+        let k = pick i in
+        let f = tile-fine p w h mode q k (s .none i l) in
+        let t = tile-taken i l in
+        let pl = place-good w h k (s .picture .wide) (s .there i l) in
+        let sets = count-is q (s .luma) (s .chroma) in
         record {
           fits = record {
             x = omega (arith, pl .0, s .picture .wider);
@@ -156,17 +182,16 @@ module _ (p : List ℕ) (w h mode : ℕ) (q : Quants) (s : Sendable p w h mode q
               (goes-on _ _ _ (sym (taken-by _ _ _ (chroma-back q tens) (t .cb))) (taken-by _ _ _ (chroma-back q tens) (t .cr)));
         }
 
-    pub sent : FrameSent comp w h mode (setsOf q) (tilesNo w h) (tileOver p w h mode q)
+    pub sent : FrameSent comp w h mode (setsOf q) n (λ (i : ℕ). tileOver p w h mode q (pick i))
     sent = record {
       wide = omega (arith, s .picture .wider);
       high = omega (arith, s .picture .higher);
       mode = mode-16 mode (s .allowed);
-      few = few w h (s .picture .wider) (s .picture .higher);
+      few = s .few;
       sets = sets-good q tens;
       tiles = tile-good;
     }
 
     -- our frame, for the same size and mode: no fault, as many tiles, the ones written, one rectangle over the whole
-    pub our-frame : (index : ℕ) → Taken comp w h mode (tilesNo w h) (tileOver p w h mode q) (frameOver index w h mode q p)
-    unfolding frameOver
-    our-frame index = read-back comp index w h mode (setsOf q) (tilesNo w h) (tileOver p w h mode q) sent
+    pub our-frame : (index : ℕ) → Taken comp w h mode n (λ (i : ℕ). tileOver p w h mode q (pick i)) (frameOf index w h mode (setsOf q) n (λ (i : ℕ). tileOver p w h mode q (pick i)))
+    our-frame index = read-back comp index w h mode (setsOf q) n (λ (i : ℕ). tileOver p w h mode q (pick i)) sent

@@ -1,11 +1,12 @@
 -- The tile of a pixel among tiles row by row, and the words of a tile of our own.
 -- Assumes nothing.
-use Prim.Native.Nat.{ℕ, zero, suc, _+_, _*_, _-_, _/_, _%_, _≤_, _<_}
-use mathlib.Core.Path.{_≡_, refl, ap, ap₂, sym, _∙_, subst}
+use Prim.Native.Nat.{ℕ, zero, suc, _+_, _*_, _/_, _%_, _≤_, _<_}
+use mathlib.Core.Path.{_≡_, refl, ap, ap₂, sym, _∙_}
 use mathlib.Core.Bool.{true, false}
 use mathlib.Core.List.{List}
-use mathlib.Core.Logic.{_⊎_, ⊎-elim}
+use mathlib.Core.Logic.{_⊎_, inl, inr, ⊎-elim}
 use native.Mathlib.Omega.{arith}
+use native.Mathlib.Decide.{ℕ-discrete}
 use native.Mathlib.Nat.{eq-or-lt-of-le}
 use lib.Arith.{digits-div, digits-mod}
 use lib.ListN.{getD, take, drop}
@@ -19,25 +20,52 @@ use Rattle.frame_draw.specs.Draw.{inside, holds, some, inRegion}
 use Rattle.frame_draw.specs.laws.Draw.{region-is}
 use Rattle.frame_draw.specs.Shown.{inTile, found, none, orElse, lastTile}
 
--- ---- the last tile that holds a pixel, where just one does
+-- ---- the last of tiles that holds a pixel, where the tiles are sent by their numbers and just the k-th holds it
 
-module _ (tile : ℕ → Tile) (px py k : ℕ) (here : inTile (tile k) px py ≡ true) (else : (j : ℕ) → (j ≡ k → ⊥) → inTile (tile j) px py ≡ false) where
-  -- tiles past it do not hold it
-  last-none : (n i : ℕ) → k < i → lastTile (listed tile n i) px py ≡ none
-  unfolding lastTile listed orElse
-  last-none zero i l = refl
-  last-none (suc n) i l =
-      rw (last-none n (i + 1) (omega arith)) (sym (case-no (inTile (tile i) px py) (found (tile i)) none none (else i (λ e. omega arith)) refl))
+-- it is sent, and so it is found
+pub record Seen (tile : ℕ → Tile) (pick : ℕ → ℕ) (px py k n i : ℕ) : Type 0 where
+  pub place : ℕ
+  pub from : i ≤ place
+  pub to : place < i + n
+  pub is : pick place ≡ k
+  pub last : lastTile (listed (λ (j : ℕ). tile (pick j)) n i) px py ≡ found (tile k)
 
-  pub last-found : (n i : ℕ) → i ≤ k → k < i + n → lastTile (listed tile n i) px py ≡ found (tile k)
+-- it is not, and so none is
+pub record Unseen (tile : ℕ → Tile) (pick : ℕ → ℕ) (px py k n i : ℕ) : Type 0 where
+  pub not : (j : ℕ) → i ≤ j → j < i + n → pick j ≡ k → ⊥
+  pub last : lastTile (listed (λ (j : ℕ). tile (pick j)) n i) px py ≡ none
+
+module _ (tile : ℕ → Tile) (pick : ℕ → ℕ) (px py k : ℕ) (here : inTile (tile k) px py ≡ true) (else : (j : ℕ) → (j ≡ k → ⊥) → inTile (tile j) px py ≡ false) where
+  seen-later : (n i : ℕ) → Seen tile pick px py k n (i + 1) → Seen tile pick px py k (suc n) i
   unfolding lastTile listed orElse
-  last-found zero i a b = absurd (omega arith)
-  last-found (suc n) i a b =
-      ⊎-elim
-      (λ (e : i ≡ k).
-      rw (last-none n (i + 1) (omega arith)) (sym (case-yes (inTile (tile i) px py) (found (tile i)) none (found (tile k)) (subst (λ (j : ℕ). inTile (tile j) px py ≡ true) (sym e) here) (ap (λ (j : ℕ). found (tile j)) (sym e)))))
-      (λ (l : i < k). rw (last-found n (i + 1) (omega arith) (omega arith)) refl)
-      (eq-or-lt-of-le a)
+  seen-later n i s = record { place = s .place; from = omega (arith, s .from); to = omega (arith, s .to); is = s .is; last = rw (s .last) refl }
+
+  module _ (n i : ℕ) (u : Unseen tile pick px py k n (i + 1)) where
+    seen-first : pick i ≡ k → Seen tile pick px py k (suc n) i
+    unfolding lastTile listed orElse
+    seen-first e = record {
+      place = i;
+      from = omega arith;
+      to = omega arith;
+      is = e;
+      last = rw (u .last, e) (sym (case-yes (inTile (tile k) px py) (found (tile k)) none (found (tile k)) here refl));
+    }
+
+    unseen : (pick i ≡ k → ⊥) → Unseen tile pick px py k (suc n) i
+    unfolding lastTile listed orElse
+    unseen f = record {
+      not = λ j a b e. ⊎-elim (λ (z : i ≡ j). f (ap pick z ∙ e)) (λ (l : i < j). u .not j (omega arith) (omega arith) e) (eq-or-lt-of-le a);
+      last = rw (u .last) (sym (case-no (inTile (tile (pick i)) px py) (found (tile (pick i))) none none (else (pick i) f) refl));
+    }
+
+  pub last-picked : (n i : ℕ) → Seen tile pick px py k n i ⊎ Unseen tile pick px py k n i
+  unfolding lastTile listed
+  last-picked zero i = inr (record { not = λ j a b e. omega arith; last = refl })
+  last-picked (suc n) i = ⊎-elim (λ s. inl (seen-later n i s)) (λ u. by u (ℕ-discrete (pick i) k)) (last-picked n (i + 1))
+    where
+      by : Unseen tile pick px py k n (i + 1) → Dec (pick i ≡ k) → Seen tile pick px py k (suc n) i ⊎ Unseen tile pick px py k (suc n) i
+      by u (yes e) = inl (seen-first n i u e)
+      by u (no e) = inr (unseen n i u e)
 
 -- ---- tile k of cols a row stands at k % cols, k / cols
 

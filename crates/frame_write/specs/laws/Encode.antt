@@ -6,7 +6,7 @@ use mathlib.Core.Bool.{Bool, true, false}
 use mathlib.Core.List.{List}
 use native.Mathlib.Omega.{arith}
 use native.Mathlib.Decide.{decLt}
-use native.Mathlib.Nat.{div-lt-iff-lt-mul, mod-lt, mul-comm, sub-zero, add-zero}
+use native.Mathlib.Nat.{div-lt-iff-lt-mul, mod-lt, mul-comm, sub-zero}
 use borrow.Author.Tests.{leb-true, eq-eqb, ne-eqb}
 use lib.Dec.{eqb}
 use lib.IntN.{ℤ, pos, natAbs}
@@ -14,7 +14,7 @@ use lib.ListN.{length, getD, length-append, List·getD-eq-default}
 use Rattle.whole.specs.Row.{_⇒_∣_, _⨟_}
 use Rattle.whole.specs.laws.Row.{held, both, stops, goes-on, passes, case-yes, case-no, case-is, case-not}
 use Rattle.whole.specs.Tab.{at}
-use Rattle.frame_layout.specs.Bytes.{tileLen, tileOf, tilesOf}
+use Rattle.frame_layout.specs.Bytes.{Tile, tileLen, tileOf, tilesOf}
 use Rattle.frame_layout.specs.laws.Here.{tile-length}
 use Rattle.bands.specs.Bands.{QuantGood, coefficientsFault, rangeFault, allIn}
 use Rattle.bands.specs.laws.Range.{all-each}
@@ -25,10 +25,12 @@ use Rattle.frame_pieces.specs.Parts.{colsOf, tilesNo}
 use Rattle.frame_pieces.specs.laws.Parts.{tile-parts, tiles-step-length, few-tiles}
 use Rattle.tile_forth.specs.laws.TileForth.{rounded-of-length}
 use Rattle.frame_write.specs.Encode.{listOf, tilePart, partRefusal}
-use Rattle.frame_write.specs.Sets.{listOver, partOver, stopOver, tileOver, tileRefusalOver, refusalsOver}
+use Rattle.frame_write.specs.Sets.{listOver, partOver, stopOver, tileOver, tileRefusalOver}
+use Rattle.frame_write.specs.Picked.{stopsOf}
 use Rattle.quants.specs.Quants.{quantFor, chromaIndex}
 use Rattle.quants.specs.declared.Quants.{Quants}
 use Rattle.frame_write.specs.Job.{Sizes}
+use Rattle.frame_write.specs.laws.Stops.{stops-step}
 
 -- ---- what the sizing pass says, by the two cases: it refuses, or it does not
 
@@ -141,7 +143,7 @@ module _ (p : List ℕ) (w h mode : ℕ) (q : Quants) where
         sizes-done _ _ _ (goes-on _ _ _ (sym (mr .number) ∙ er) (goes-on _ _ _ (sym (ms .number) ∙ es) (sym et ∙ mt .number))) refl
         (omega (arith, tile-long k, size-done _ _ _ mr er, size-done _ _ _ ms es, size-done _ _ _ mt et))
 
-  tile-small : (k : ℕ) → 0 ≡ tileRefusalOver p w h mode q k → tileLen (tileOver p w h mode q k) ≤ 196624
+  pub tile-small : (k : ℕ) → 0 ≡ tileRefusalOver p w h mode q k → tileLen (tileOver p w h mode q k) ≤ 196624
   unfolding tileRefusalOver tilePart
   tile-small k e =
       let a = both _ _ e in
@@ -151,73 +153,59 @@ module _ (p : List ℕ) (w h mode : ℕ) (q : Quants) where
       let z = part-small mode (quantFor q 2 .v) (listOver p w h q k 2) (b .1) in
       omega (arith, tile-long k)
 
-  -- a tile that is among those not refused is not refused
-  pub not-refused : (n i d : ℕ) → 0 ≡ refusalsOver p w h mode q n i → d < n → 0 ≡ tileRefusalOver p w h mode q (i + d)
-  unfolding refusalsOver
-  not-refused zero i d e l = absurd (omega arith)
-  not-refused (suc n) i zero e l = subst (λ (j : ℕ). 0 ≡ tileRefusalOver p w h mode q j) (sym (add-zero i)) (both _ _ e .0)
-  not-refused (suc n) i (suc d) e l =
-      let s : i + 1 + d ≡ i + suc d = omega arith in
-      subst (λ (j : ℕ). 0 ≡ tileRefusalOver p w h mode q j) s (not-refused n (i + 1) d (both _ _ e .1) (omega arith))
-
 -- a part that is sized and not refused
 pub part-sized : (mode : ℕ) (q : List ℕ) (zs : List ℤ) (s : Sized) → Sizes (partRefusal mode q zs) (length (bytesOf mode zs)) s → s .number ≡ 0 → s .size ≤ 65535
 part-sized mode q zs s m e = let a = size-done _ _ _ m e in let b = part-small mode q zs (sym e ∙ m .number) in omega arith
 
 -- ---- the sizing loop: what is left to refuse, and the bytes so far
 
-pub record Sizing (p : List ℕ) (w h mode : ℕ) (q : Quants) (n i total : ℕ) : Type 0 where
-  pub rest : refusalsOver p w h mode q n 0 ≡ refusalsOver p w h mode q (n - i) i
-  pub sum : total + length (tilesOf (tileOver p w h mode q) (n - i) i) ≡ length (tilesOf (tileOver p w h mode q) n 0)
+pub record Sizing (tile : ℕ → Tile) (stop : ℕ → ℕ) (n i total : ℕ) : Type 0 where
+  pub rest : stopsOf stop n 0 ≡ stopsOf stop (n - i) i
+  pub sum : total + length (tilesOf tile (n - i) i) ≡ length (tilesOf tile n 0)
   pub small : total ≤ i * 196624
 
-left : (n i : ℕ) → i < n → n - i ≡ suc (n - (i + 1))
-left n i l = omega arith
-
-module _ (p : List ℕ) (w h mode : ℕ) (q : Quants) where
-  pub sizing-start : (n : ℕ) → Sizing p w h mode q n 0 0
+module _ (tile : ℕ → Tile) (stop : ℕ → ℕ) where
+  pub sizing-start : (n : ℕ) → Sizing tile stop n 0 0
   sizing-start n = record { rest = rw sub-zero; sum = rw sub-zero (omega arith); small = omega arith }
 
-  refusals-step : (n i : ℕ) → i < n → refusalsOver p w h mode q (n - i) i ≡ (tileRefusalOver p w h mode q i ⨟ refusalsOver p w h mode q (n - (i + 1)) (i + 1))
-  unfolding refusalsOver
-  refusals-step n i l = rw (left n i l)
+  pub sizing-ends : (n i total : ℕ) → n ≤ i → Sizing tile stop n i total → Sizes (stopsOf stop n 0) (length (tilesOf tile n 0)) (record { number = 0; size = total })
+  unfolding stopsOf tilesOf
+  sizing-ends n i total l s =
+      let z : n - i ≡ 0 = omega arith in
+      sizes-done _ _ _ (sym (s .rest ∙ ap (λ (k : ℕ). stopsOf stop k i) z)) refl
+      (omega (arith, subst (λ (k : ℕ). total + length (tilesOf tile k i) ≡ length (tilesOf tile n 0)) z (s .sum)))
 
-  module _ (n i total : ℕ) (r : Sized) (l : i < n) (s : Sizing p w h mode q n i total) (m : Sizes (tileRefusalOver p w h mode q i) (tileLen (tileOver p w h mode q i)) r) where
-    pub sizing-stops : (r .number ≡ 0 → ⊥) → Sizes (refusalsOver p w h mode q n 0) (length (tilesOf (tileOver p w h mode q) n 0)) r
-    sizing-stops f = sizes-none _ _ _ (stops _ _ _ (λ e. f (m .number ∙ e)) (m .number) ∙ sym (s .rest ∙ refusals-step n i l)) f (size-none _ _ _ m f)
+  module _ (n i total : ℕ) (r : Sized) (l : i < n) (s : Sizing tile stop n i total) (m : Sizes (stop i) (tileLen (tile i)) r) where
+    pub sizing-stops : (r .number ≡ 0 → ⊥) → Sizes (stopsOf stop n 0) (length (tilesOf tile n 0)) r
+    sizing-stops f = sizes-none _ _ _ (stops _ _ _ (λ e. f (m .number ∙ e)) (m .number) ∙ sym (s .rest ∙ stops-step stop n i l)) f (size-none _ _ _ m f)
 
-    pub sizing-next : r .number ≡ 0 → Sizing p w h mode q n (i + 1) (total + r .size) × (total + r .size ≤ (i + 1) * 196624)
-    sizing-next e =
+    pub sizing-next : (0 ≡ stop i → tileLen (tile i) ≤ 196624) → r .number ≡ 0 →
+        Sizing tile stop n (i + 1) (total + r .size) × (total + r .size ≤ (i + 1) * 196624)
+    sizing-next most e =
         let k = size-done _ _ _ m e in
-        let t = tile-small p w h mode q i (sym e ∙ m .number) in
-        let u = tiles-step-length (tileOver p w h mode q) n i l in
+        let t = most (sym e ∙ m .number) in
+        let u = tiles-step-length tile n i l in
         let a = s .sum in
         let b = s .small in
         let c : total + r .size ≤ (i + 1) * 196624 = omega arith in
-        (record { rest = s .rest ∙ (refusals-step n i l ∙ sym (goes-on _ _ _ (sym (m .number) ∙ e) refl)); sum = omega arith; small = c }, c)
-
-  pub sizing-ends : (n i total : ℕ) → n ≤ i → Sizing p w h mode q n i total → Sizes (refusalsOver p w h mode q n 0) (length (tilesOf (tileOver p w h mode q) n 0)) (record { number = 0; size = total })
-  unfolding refusalsOver tilesOf
-  sizing-ends n i total l s =
-      let z : n - i ≡ 0 = omega arith in
-      sizes-done _ _ _ (sym (s .rest ∙ ap (λ (k : ℕ). refusalsOver p w h mode q k i) z)) refl
-      (omega (arith, subst (λ (k : ℕ). total + length (tilesOf (tileOver p w h mode q) k i) ≡ length (tilesOf (tileOver p w h mode q) n 0)) z (s .sum)))
+        (record { rest = s .rest ∙ (stops-step stop n i l ∙ sym (goes-on _ _ _ (sym (m .number) ∙ e) refl)); sum = omega arith; small = c }, c)
 
   -- the bytes of tiles that are not refused
-  refusals-small : (n i : ℕ) → 0 ≡ refusalsOver p w h mode q n i → length (tilesOf (tileOver p w h mode q) n i) ≤ n * 196624
-  unfolding refusalsOver tilesOf
-  refusals-small zero i e = omega arith
-  refusals-small (suc n) i e =
-      let b = both _ _ e in
-      let s = tile-small p w h mode q i (b .0) in
-      let more = refusals-small n (i + 1) (b .1) in
-      let t = tile-length (tileOver p w h mode q i) in
-      let a = length-append (tileOf (tileOver p w h mode q i)) (tilesOf (tileOver p w h mode q) n (i + 1)) in
-      omega arith
+  module _ (most : (i : ℕ) → 0 ≡ stop i → tileLen (tile i) ≤ 196624) where
+    stops-small : (n i : ℕ) → 0 ≡ stopsOf stop n i → length (tilesOf tile n i) ≤ n * 196624
+    unfolding stopsOf tilesOf
+    stops-small zero i e = omega arith
+    stops-small (suc n) i e =
+        let b = both _ _ e in
+        let s = most i (b .0) in
+        let more = stops-small n (i + 1) (b .1) in
+        let t = tile-length (tile i) in
+        let a = length-append (tileOf (tile i)) (tilesOf tile n (i + 1)) in
+        omega arith
 
-  pub sized-small : (n : ℕ) (s : Sized) → n ≤ 2048 → Sizes (refusalsOver p w h mode q n 0) (length (tilesOf (tileOver p w h mode q) n 0)) s → s .number ≡ 0 →
-      (s .size ≡ length (tilesOf (tileOver p w h mode q) n 0)) × (s .size ≤ 402685952)
-  sized-small n s l m e =
-      let a = size-done _ _ _ m e in
-      let b = refusals-small n 0 (sym e ∙ m .number) in
-      (a, omega arith)
+    pub sized-small : (n : ℕ) (s : Sized) → n ≤ 2048 → Sizes (stopsOf stop n 0) (length (tilesOf tile n 0)) s → s .number ≡ 0 →
+        (s .size ≡ length (tilesOf tile n 0)) × (s .size ≤ 402685952)
+    sized-small n s l m e =
+        let a = size-done _ _ _ m e in
+        let b = stops-small n 0 (sym e ∙ m .number) in
+        (a, omega arith)

@@ -1,17 +1,16 @@
 -- Laws of the frame writer: what good arguments give, and one law for each way out. Its promise leaves one answer and one content of lent memory.
 -- Assumes nothing.
 use Prim.Native.Nat.{ℕ, zero, suc, _+_, _*_, _≤_, _<_}
-use mathlib.Core.Path.{_≡_, refl, ap, sym, _∙_}
+use mathlib.Core.Path.{_≡_, refl, sym, _∙_}
 use mathlib.Core.Bool.{Bool, true, false}
 use mathlib.Core.List.{List}
 use mathlib.Core.Logic.{⊎-elim}
 use native.Mathlib.Omega.{arith}
-use native.Mathlib.Nat.{mul-le-mul}
 use borrow.Author.Tests.{le-leb, lt-leb, eqb-true}
-use lib.Dec.{eqb}
+use lib.Dec.{leb, eqb}
 use lib.IntN.{ℤ, pos}
 use lib.ListN.{length, replicate}
-use Rattle.whole.specs.Row.{_!_⨾_}
+use Rattle.whole.specs.Row.{_!_⨾_, _⨟_}
 use Rattle.whole.specs.laws.Row.{held, stops, goes-on, passes, fails}
 use Rattle.wire.specs.Le.{bytes16, written}
 use Rattle.wire.specs.Mode.{isMode}
@@ -19,18 +18,19 @@ use Rattle.wire.specs.Wrote.{Wrote}
 use Rattle.wire.specs.laws.Wrote.{refused, done, onward, wrote-once}
 use Rattle.wire.specs.declared.Writing.{Writing}
 use Rattle.wire.specs.declared.Writing.the-variants.{Done, Refused}
-use Rattle.frame_layout.specs.Bytes.{tilesOf, beginOf, frontOf, frameOf}
+use Rattle.frame_layout.specs.Bytes.{Tile, tilesOf, beginOf, frontOf, frameOf}
 use Rattle.session.specs.Header.{sizeGood}
 use Rattle.session.specs.laws.Header.{allowed}
 use Rattle.bands.specs.Bands.{isGood}
 use Rattle.bands.specs.laws.Band.{good-set}
 use Rattle.code_write.specs.declared.call.Sized.{Sized}
-use Rattle.frame_pieces.specs.Parts.{tilesNo}
+use Rattle.frame_pieces.specs.Parts.{pixelsGood}
 use Rattle.frame_pieces.specs.laws.Parts.{frame-long, count-is, tens-of}
 use Rattle.quants.specs.Quants.{setsOf, chromaIndex}
 use Rattle.quants.specs.declared.Quants.{Quants}
-use Rattle.frame_write.specs.FrameWrite.{pixelsGood, workLeft}
-use Rattle.frame_write.specs.Sets.{goodSets, tileOver, refusalsOver, frameOver, argFaultOver, sendFaultOver, FrameWrittenOver}
+use Rattle.frame_write.specs.FrameWrite.{workLeft}
+use Rattle.frame_write.specs.Sets.{goodSets, frameOver, argFaultOver, sendFaultOver, FrameWrittenOver}
+use Rattle.frame_write.specs.Picked.{stopsOf}
 use Rattle.frame_write.specs.Job.{ArgsGood, Sizes}
 use Rattle.frame_write.specs.laws.Encode.{size-done}
 
@@ -75,47 +75,33 @@ args-good w h mode q p list scratch e =
 pub still-good : {w h mode : ℕ} {q : Quants} {p : List ℕ} {a b a′ b′ : ℕ} → ArgsGood w h mode q p a b → a′ ≡ a → b′ ≡ b → ArgsGood w h mode q p a′ b′
 still-good g x y = record { picture = g .picture; small = g .small; first = x ∙ g .first; second = y ∙ g .second }
 
--- the size has been judged: no product of it is too big
-pub size-small : (w h : ℕ) → w ≤ 4096 → h ≤ 2048 → w * h ≤ 8388608
-size-small w h a b = mul-le-mul {n₂ = 4096} {m₂ = 2048} a b
-
 -- ---- the answers
 
-module _ (index w h mode : ℕ) (q : Quants) (p out : List ℕ) (n : ℕ) (count : n ≡ tilesNo w h) (s : Sized)
-    (m : Sizes (refusalsOver p w h mode q n 0) (length (tilesOf (tileOver p w h mode q) n 0)) s) where
-  frame-is : frameOf index w h mode (setsOf q) n (tileOver p w h mode q) ≡ frameOver index w h mode q p
-  unfolding frameOver
-  frame-is = ap (λ (k : ℕ). frameOf index w h mode (setsOf q) k (tileOver p w h mode q)) count
+module _ (index w h mode : ℕ) (q : Quants) (out : List ℕ) (n : ℕ) (tile : ℕ → Tile) (stop : ℕ → ℕ) (s : Sized)
+    (m : Sizes (stopsOf stop n 0) (length (tilesOf tile n 0)) s) where
+  -- the frame of n tiles, and what is refused of it
+  abbrev pub frame : List ℕ
+  frame = frameOf index w h mode (setsOf q) n tile
 
-  first-is : s .number ≡ refusalsOver p w h mode q (tilesNo w h) 0
-  first-is = m .number ∙ ap (λ (k : ℕ). refusalsOver p w h mode q k 0) count
+  abbrev pub fault : ℕ
+  fault = stopsOf stop n 0 ⨟ (leb (length frame) (length out) ! 13 ⨾ 0)
 
-  pub send-stop : (s .number ≡ 0 → ⊥) → Wrote (sendFaultOver index w h mode q p (length out)) (frameOver index w h mode q p) out out (Refused (s .number))
-  unfolding sendFaultOver
-  send-stop f = refused _ (s .number) _ out (stops _ _ _ (λ z. f (first-is ∙ z)) first-is) f
+  pub send-stop : (s .number ≡ 0 → ⊥) → Wrote fault frame out out (Refused (s .number))
+  send-stop f = refused _ (s .number) _ out (stops _ _ _ (λ z. f (m .number ∙ z)) (m .number)) f
 
   module _ (l : length (q .luma .v) ≡ 10) (k : length (q .chroma .v) ≡ 10) (e : s .number ≡ 0) where
-    frame-size : length (frameOver index w h mode q p) ≡ 72 + 5 * chromaIndex q + s .size
-    frame-size =
-        sym (ap length frame-is)
-        ∙ omega (arith, frame-long index w h mode (setsOf q) n (tens-of q l k) (tileOver p w h mode q), count-is q l k, size-done _ _ _ m e)
+    frame-size : length frame ≡ 72 + 5 * chromaIndex q + s .size
+    frame-size = omega (arith, frame-long index w h mode (setsOf q) n (tens-of q l k) tile, count-is q l k, size-done _ _ _ m e)
 
-    pub send-room : length out < 72 + 5 * chromaIndex q + s .size →
-        Wrote (sendFaultOver index w h mode q p (length out)) (frameOver index w h mode q p) out out (Refused 13)
-    unfolding sendFaultOver
+    pub send-room : length out < 72 + 5 * chromaIndex q + s .size → Wrote fault frame out out (Refused 13)
     send-room r =
-        refused _ 13 _ out
-        (goes-on _ _ _ (sym first-is ∙ e) (fails _ _ _ _ (lt-leb (length (frameOver index w h mode q p)) (length out) (omega (arith, frame-size))) refl))
+        refused _ 13 _ out (goes-on _ _ _ (sym (m .number) ∙ e) (fails _ _ _ _ (lt-leb (length frame) (length out) (omega (arith, frame-size))) refl))
         (λ y. omega arith)
 
-    pub send-done : 72 + 5 * chromaIndex q + s .size ≤ length out → (out′ : List ℕ) (b : ℕ) →
-        out′ ≡ written (frameOf index w h mode (setsOf q) n (tileOver p w h mode q)) out → b ≡ length (frameOf index w h mode (setsOf q) n (tileOver p w h mode q)) →
-        Wrote (sendFaultOver index w h mode q p (length out)) (frameOver index w h mode q p) out out′ (Done b)
-    unfolding sendFaultOver
+    pub send-done : 72 + 5 * chromaIndex q + s .size ≤ length out → (out′ : List ℕ) (b : ℕ) → out′ ≡ written frame out → b ≡ length frame →
+        Wrote fault frame out out′ (Done b)
     send-done r out′ b w′ lk =
-        done _ b _ out out′
-        (goes-on _ _ _ (sym first-is ∙ e) (passes _ _ _ _ (le-leb (length (frameOver index w h mode q p)) (length out) (omega (arith, frame-size))) refl))
-        (lk ∙ ap length frame-is) (w′ ∙ ap (λ (y : List ℕ). written y out) frame-is)
+        done _ b _ out out′ (goes-on _ _ _ (sym (m .number) ∙ e) (passes _ _ _ _ (le-leb (length frame) (length out) (omega (arith, frame-size))) refl)) lk w′
 
 pub untouched : (f x : ℕ) (xs : List ℤ) → x ≡ f → (x ≡ 0 → ⊥) → xs ≡ workLeft f xs
 unfolding workLeft

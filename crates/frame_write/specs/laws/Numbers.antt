@@ -15,7 +15,9 @@ use Rattle.bands.specs.Bands.{rangeFault, sumsFault, scaleFault, coefficientsFa
 use Rattle.quants.specs.declared.Quants.{Quants}
 use Rattle.frame_write.specs.Encode.{partRefusal}
 use Rattle.frame_write.specs.Sets.{tileRefusalOver, refusalsOver, argFaultOver, sendFaultOver, FrameWrittenOver}
+use Rattle.frame_write.specs.Picked.{stopsOf}
 use Rattle.frame_write.specs.laws.FrameWrite.{untouched, cleared}
+use Rattle.frame_write.specs.laws.Picked.{along}
 
 -- what is judged of the arguments, and after them
 abbrev pub argNumbers : List ℕ
@@ -32,11 +34,17 @@ part-among : (mode : ℕ) (q : List ℕ) (zs : List ℤ) → Among sendNumbers (
 unfolding partRefusal coefficientsFault rangeFault sumsFault scaleFault among
 part-among mode q zs = search numbers depth 9
 
+pub tile-among : (p : List ℕ) (w h mode : ℕ) (q : Quants) (k : ℕ) → Among sendNumbers (tileRefusalOver p w h mode q k)
+unfolding tileRefusalOver
+tile-among p w h mode q k = among-then _ _ (part-among mode _ _) (among-then _ _ (part-among mode _ _) (part-among mode _ _))
+
+pub stops-among : (stop : ℕ → ℕ) → ((i : ℕ) → Among sendNumbers (stop i)) → (n i : ℕ) → Among sendNumbers (stopsOf stop n i)
+unfolding stopsOf among
+stops-among stop h zero i = search numbers
+stops-among stop h (suc n) i = among-then _ _ (h i) (stops-among stop h n (i + 1))
+
 tiles-among : (p : List ℕ) (w h mode : ℕ) (q : Quants) (n i : ℕ) → Among sendNumbers (refusalsOver p w h mode q n i)
-unfolding refusalsOver tileRefusalOver among
-tiles-among p w h mode q zero i = search numbers
-tiles-among p w h mode q (suc n) i =
-    among-then _ _ (among-then _ _ (part-among mode _ _) (among-then _ _ (part-among mode _ _) (part-among mode _ _))) (tiles-among p w h mode q n (i + 1))
+tiles-among p w h mode q n i = rw (along p w h mode q n i) (stops-among (tileRefusalOver p w h mode q) (tile-among p w h mode q) n i)
 
 pub send-among : (index w h mode : ℕ) (q : Quants) (p : List ℕ) (room : ℕ) → Among sendNumbers (sendFaultOver index w h mode q p room)
 unfolding sendFaultOver among

@@ -1,9 +1,8 @@
 -- Laws of the writing pass: what a tile that is not refused allows, and what stands when a tile and the frame have been put.
 -- Assumes nothing.
-use Prim.Native.Nat.{ℕ, _+_, _-_, _/_, _%_, _≤_, _<_}
-use mathlib.Core.Path.{_≡_, ap₂, _∙_, subst}
+use Prim.Native.Nat.{ℕ, _+_, _-_, _/_, _%_, _≤_}
+use mathlib.Core.Path.{_≡_, ap₂, _∙_}
 use mathlib.Core.List.{List}
-use native.Mathlib.Nat.{zero-add}
 use lib.ListN.{length}
 use Rattle.whole.specs.laws.Row.{both}
 use Rattle.wire.specs.Le.{patch}
@@ -12,8 +11,7 @@ use Rattle.quants.specs.declared.Quants.{Quants}
 use Rattle.frame_layout.specs.Bytes.{tileLen, tileOf}
 use Rattle.frame_pieces.specs.Parts.{headOf, filled, colsOf}
 use Rattle.frame_pieces.specs.laws.Parts.{tile-put}
-use Rattle.frame_write.specs.Sets.{partOver, stopOver, tileOver, tileRefusalOver, refusalsOver}
-use Rattle.frame_write.specs.laws.Encode.{not-refused}
+use Rattle.frame_write.specs.Sets.{partOver, stopOver, tileOver, tileRefusalOver}
 
 -- each component of a tile that is not refused
 pub record TileFine (p : List ℕ) (w h mode : ℕ) (q : Quants) (k : ℕ) : Type 0 where
@@ -25,9 +23,6 @@ module _ (p : List ℕ) (w h mode : ℕ) (q : Quants) where
   pub tile-fine : (k : ℕ) → 0 ≡ tileRefusalOver p w h mode q k → TileFine p w h mode q k
   unfolding tileRefusalOver
   tile-fine k e = let a = both _ _ e in let b = both _ _ (a .1) in record { y = a .0; cb = b .0; cr = b .1 }
-
-  pub one-fine : (n k : ℕ) → 0 ≡ refusalsOver p w h mode q n 0 → k < n → 0 ≡ tileRefusalOver p w h mode q k
-  one-fine n k e l = subst (λ (j : ℕ). 0 ≡ tileRefusalOver p w h mode q j) (zero-add k) (not-refused p w h mode q n 0 k e l)
 
   -- o1 .. o4 are the output after the head and after each code; b, c, e the places behind each code
   pub tile-stands :

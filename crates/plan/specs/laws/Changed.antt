@@ -5,7 +5,6 @@ use mathlib.Core.Bool.{Bool, true, false}
 use mathlib.Core.List.{List, [], _∷_, _++_}
 use native.Mathlib.Omega.{arith}
 use native.Mathlib.Numerals.{add-one}
-use native.Mathlib.Nat.{mul-le-mul}
 use native.Mathlib.Decide.{decLt}
 use lib.ListN.{length, getD, set, length-append, length-set, List·getD-append}
 use lib.Seq.{getD-append-seam}
@@ -17,8 +16,8 @@ use Rattle.wire.specs.Mode.{isMode}
 use Rattle.wire.specs.laws.Le.{none-written, set-patch, wrote-next}
 use Rattle.session.specs.Header.{sizeGood}
 use Rattle.session.specs.laws.Header.{Allowed, allowed}
-use Rattle.frame_pieces.specs.Parts.{tilesNo}
-use Rattle.plan.specs.Plan.{those, changedTile, pixelsGood, picturesFault, Pictures, isListed, rising, changed}
+use Rattle.frame_pieces.specs.Parts.{tilesNo, pixelsGood}
+use Rattle.plan.specs.Plan.{those, changedTile, picturesFault, Pictures, isListed, rising, changed}
 use Rattle.plan.specs.Facts.{StrictlyRising}
 use Rattle.plan.specs.laws.All.{yes-not-no}
 use Rattle.plan.specs.laws.Lists.{is-rising, is-listed, listed-is}
@@ -209,9 +208,6 @@ module _ (old new : List ℕ) (w h n : ℕ) (e : n ≡ tilesNo w h) (out₀ out 
 pub size-allowed : (w h : ℕ) → sizeGood w h ≡ true → Allowed w h 1
 unfolding isMode _⇒_∣_
 size-allowed w h e = allowed w h 1 e refl
-
-pub size-small : (w h : ℕ) → w ≤ 4096 → h ≤ 2048 → w * h ≤ 8388608
-size-small w h p q = mul-le-mul {n₂ = 4096} {m₂ = 2048} p q
 
 -- what a passed check says
 pub pictures-are : (w h : ℕ) (old new : List ℕ) → 0 ≡ picturesFault w h (length old) (length new) → Pictures w h old new

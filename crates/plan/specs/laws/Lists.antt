@@ -42,6 +42,18 @@ rising-apart ks r (suc j) i l m = by (decLt i j) (λ h. rising-apart ks r j i h 
     by (yes h) s = omega (arith, s h, next)
     by (no h) s = let e : i ≡ j = omega arith in rw e next
 
+-- it is no less than its place, so that there are no more of them than n, where all exist
+rising-least : (ks : List ℕ) → StrictlyRising ks → (i : ℕ) → i < length ks → i ≤ getD ks i 0
+rising-least ks r zero l = omega arith
+rising-least ks r (suc i) l = omega (arith, rising-least ks r i (omega arith), rising-apart ks r (suc i) i (omega arith) l)
+
+pub rising-few : (n : ℕ) (ks : List ℕ) → StrictlyRising ks → AllExist n ks → length ks ≤ n
+rising-few n ks r b = by (length ks) refl
+  where
+    by : (m : ℕ) → length ks ≡ m → m ≤ n
+    by zero e = omega arith
+    by (suc m) e = omega (arith, rising-least ks r m (omega arith), b m (omega arith))
+
 -- and where a number is below another, it stands before it
 pub rising-before : (ks : List ℕ) → StrictlyRising ks → (i j : ℕ) → i < length ks → getD ks i 0 < getD ks j 0 → i < j
 rising-before ks r i j l h = by (decLt i j) (decLt j i)

@@ -13,8 +13,8 @@ use Rattle.whole.specs.laws.Row.{passes, fails, held, both, stops, goes-on}
 use Rattle.wire.specs.Le.{written}
 use Rattle.wire.specs.Wrote.{lengthSaid, outLeft}
 use Rattle.session.specs.Header.{sizeGood}
-use Rattle.frame_pieces.specs.Parts.{tilesNo}
-use Rattle.plan.specs.Plan.{changedTile, rising, below, isListed, covers, pixelsGood, picturesFault, picksFault, planFault, changed, makeFault}
+use Rattle.frame_pieces.specs.Parts.{tilesNo, pixelsGood}
+use Rattle.plan.specs.Plan.{changedTile, rising, below, isListed, covers, picturesFault, picksFault, planFault, changed, makeFault}
 use Rattle.plan.specs.Plan.{Size, Lengths, Pictures}
 use Rattle.plan.specs.Made.{plannedNumber, plannedCount, PlanMade}
 use Rattle.plan.specs.Facts.{Unchanged, StrictlyRising, AllExist, AllListed, Contains, Acceptable}
@@ -38,7 +38,7 @@ size-good w h s =
 size-is : (w h : ℕ) → sizeGood w h ≡ true → Size w h
 size-is w h e = let s = size-allowed w h e in record { wide = s .some-w; wider = s .most-w; high = s .some-h; higher = s .most-h }
 
-changed-is : (old new : List ℕ) (w h k : ℕ) → changedTile old new w h k ≡ true → Unchanged old new w h k → ⊥
+pub changed-is : (old new : List ℕ) (w h k : ℕ) → changedTile old new w h k ≡ true → Unchanged old new w h k → ⊥
 changed-is old new w h k e u = yes-not-no (sym e ∙ is-unchanged old new w h k u)
 
 is-changed : (old new : List ℕ) (w h k : ℕ) → (Unchanged old new w h k → ⊥) → changedTile old new w h k ≡ true
@@ -94,7 +94,7 @@ module _ (w h : ℕ) (old new : List ℕ) where
 -- ---- the whole answer
 
 module _ (w h : ℕ) (old new ks : List ℕ) where
-  fault-of-list : Pictures w h old new → (x : ℕ) → x ≡ picksFault old new w h ks → planFault w h old new ks ≡ x
+  pub fault-of-list : Pictures w h old new → (x : ℕ) → x ≡ picksFault old new w h ks → planFault w h old new ks ≡ x
   unfolding planFault
   fault-of-list p x e = sym (goes-on _ _ x (pictures-good w h old new p) e)
 
@@ -116,7 +116,7 @@ module _ (w h : ℕ) (old new ks : List ℕ) where
       passes _ _ _ _ (is-rising ks r)
       (passes _ _ _ _ (is-below (tilesNo w h) ks b) (fails _ _ _ _ (other-test (covers old new w h ks) (λ e. n (covers-is old new w h ks e))) refl))
 
-  list-good : StrictlyRising ks → AllExist (tilesNo w h) ks → AllListed old new w h ks → 0 ≡ picksFault old new w h ks
+  pub list-good : StrictlyRising ks → AllExist (tilesNo w h) ks → AllListed old new w h ks → 0 ≡ picksFault old new w h ks
   unfolding picksFault
   list-good r b a =
       passes _ _ _ _ (is-rising ks r) (passes _ _ _ _ (is-below (tilesNo w h) ks b) (passes _ _ _ _ (is-covers old new w h ks a) refl))
@@ -124,7 +124,7 @@ module _ (w h : ℕ) (old new ks : List ℕ) where
   good-accepted : Acceptable w h old new ks → planFault w h old new ks ≡ 0
   good-accepted a = fault-of-list (a .pictures) 0 (list-good (a .order) (a .exist) (a .all))
 
-  accepted-good : planFault w h old new ks ≡ 0 → Acceptable w h old new ks
+  pub accepted-good : planFault w h old new ks ≡ 0 → Acceptable w h old new ks
   unfolding planFault picksFault
   accepted-good e =
       let f = both _ _ (sym e) in

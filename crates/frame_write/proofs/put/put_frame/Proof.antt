@@ -5,7 +5,7 @@ use lib.ListN.{length}
 use denote.Ref.{now}
 use Rattle.quants.specs.Quants.{setsOf}
 use Rattle.frame_pieces.specs.laws.Parts.{frame-put, count-is, tens-of}
-use Rattle.frame_write.specs.Job.{tileIn}
+use Rattle.frame_write.specs.Job.{tileSent}
 use borrow.Author.Needs.{needs}
 use Rattle.frame_write.proofs.put.put_frame.Statement.{statement}
 use Rattle.frame_write.proofs.put.put_frame.Tie as tie
@@ -15,7 +15,7 @@ ten s = search needs
 
 put-front-requires : tie.Need-put-front-requires
 put-front-requires c κs =
-    let s = c .before .before .before .before .before .before in
+    let s = c .before .before .before .before .before .before .before in
     let g = s .pre .0 .picture in
     (omega (arith, s .pre .3), g .luma, g .chroma, s .pre .0 .small)
 
@@ -23,7 +23,7 @@ put-tiles-requires : tie.Need-put-tiles-requires
 put-tiles-requires c κs =
     let f = c .before .before .before .before .before in
     let i = f .before .before .before .chroma-index in
-    let s = c .before .before .before .before .before .before .before .before .before .before .before .before in
+    let s = c .before .before .before .before .before .before .before .before .before .before .before .before .before in
     (s .pre .0, s .pre .1, s .pre .2, omega (arith, s .pre .3, f .put-front .kept .0, i .ensures .0))
 
 close-frame-requires : tie.Need-close-frame-requires
@@ -31,7 +31,7 @@ close-frame-requires c κs =
     let t = c .before .before .before .before .before in
     let f = t .before .before .before .before .before .before in
     let i = f .before .before .before .chroma-index in
-    let s = f .before .before .before .before .before .before .before in (
+    let s = f .before .before .before .before .before .before .before .before in (
       omega arith,
       omega (arith, t .put-tiles .ensures .1),
       omega (arith, s .pre .3, f .put-front .kept .0, t .put-tiles .kept .0, t .put-tiles .ensures .1, i .ensures .0),
@@ -55,13 +55,13 @@ returns c =
     let t = e .before .before .before .before .before .before in
     let f = t .before .before .before .before .before .before in
     let i = f .before .before .before .chroma-index in
-    let s = f .before .before .before .before .before .before .before in
+    let s = f .before .before .before .before .before .before .before .before in
     let a = s .args in
     let j = a .job in
     let l = ten s in
     let n = count-is (j .quants) (l .0) (l .1) in
     frame-put (j .index) (j .width) (j .height) (j .mode) (setsOf (j .quants)) (a .n) (tens-of (j .quants) (l .0) (l .1)) (now (a .out)) _ _ _ _ _
-    (tileIn j (now (a .pixels))) (omega (arith, n, i .ensures .0)) (f .put-front .ensures) (t .put-tiles .ensures .0) (t .put-tiles .ensures .1)
+    (tileSent j (now (a .pixels)) (now (a .picks))) (omega (arith, n, i .ensures .0)) (f .put-front .ensures) (t .put-tiles .ensures .0) (t .put-tiles .ensures .1)
     (e .close-frame .ensures)
 
 pub put-frame-spec : {M : Type 1} → statement M

@@ -1,10 +1,10 @@
 -- `is_pixels` meets its contract: the products of a size that 01 allows fit, and the test is the definition's.
 use mathlib.Core.Path.{refl}
 use native.Mathlib.Omega.{arith}
-use Rattle.plan.specs.Plan.{pixelsGood}
-use Rattle.plan.specs.laws.Changed.{size-small}
-use Rattle.plan.proofs.check.is_pixels.Statement.{statement}
-use Rattle.plan.proofs.check.is_pixels.Tie as tie
+use Rattle.frame_pieces.specs.Parts.{pixelsGood}
+use Rattle.frame_pieces.specs.laws.Parts.{size-small}
+use Rattle.frame_pieces.proofs.is_pixels.Statement.{statement}
+use Rattle.frame_pieces.proofs.is_pixels.Tie as tie
 
 mul-result : tie.Need-mul-result
 mul-result c = omega (arith, size-small (c .args .w) (c .args .h) (c .pre .0) (c .pre .1))

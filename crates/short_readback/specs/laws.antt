@@ -1,0 +1,3 @@
+pub mod AllTiles
+pub mod Request
+pub mod Shows

@@ -1,0 +1,117 @@
+-- All that specs/Request states is so.
+-- Assumes nothing.
+use Prim.Native.Nat.{ℕ, zero, suc}
+use mathlib.Core.Path.{_≡_, refl, sym, _∙_, subst}
+use mathlib.Core.List.{List, [], _∷_}
+use lib.Dec.{leb}
+use lib.ListN.{length, getD}
+use Rattle.whole.specs.Row.{_!_⨾_, _⇒_∣_, _⨟_}
+use Rattle.whole.specs.laws.Row.{stops, goes-on}
+use Rattle.whole.specs.Among.{among, Among}
+use Rattle.whole.specs.laws.Among.{numbers, each, among-then, among-all}
+use Rattle.wire.specs.Wrote.{writingNumber, outLeft}
+use Rattle.bits.specs.laws.Bytes.{Bytes}
+use Rattle.quants.specs.Quants.{quantFor, oneFor}
+use Rattle.frame_write.specs.Picked.{framePicked, refusalsPicked, sendFaultPicked}
+use Rattle.frame_write.specs.laws.Picked.{all-frame, all-picture}
+use Rattle.frame_write.specs.laws.Stops.{none-stops}
+use Rattle.frame_readback.specs.Own.{wordBack, wordOver}
+use Rattle.bounds.specs.laws.Refuses.{tile-taken}
+use Rattle.plan.specs.Plan.{picksFault}
+use Rattle.plan.specs.laws.Request.{fault-of-list}
+use Rattle.short_write.specs.Short.{shortFault, ShortWritten}
+use Rattle.short_write.specs.laws.Short.{OwnGood, own-good, short-once}
+use Rattle.short_write.specs.laws.Numbers as ShortNumbers
+use Rattle.short_readback.specs.Request.{WriteShort, ownOf, checkOf, RequestElevenFrames}
+use Rattle.short_readback.specs.laws.AllTiles.{as-full, no-tiles}
+use Rattle.short_readback.specs.laws.Shows.{checked, bytes-are, leaves-showing}
+
+module _ (c : WriteShort) where
+  abbrev list-fault : ℕ
+  list-fault = picksFault (c .old) (c .new) (c .width) (c .height) (c .picks)
+
+  abbrev send-fault : ℕ
+  send-fault = sendFaultPicked (c .index) (c .width) (c .height) (c .mode) (c .quants) (c .new) (c .picks) (length (c .out))
+
+  number-is : writingNumber (c .answer) ≡ (ownOf c ⨟ (list-fault ⨟ send-fault))
+  unfolding shortFault
+  number-is = c .promise .wrote .number
+
+  good : 0 ≡ ownOf c → OwnGood (c .width) (c .height) (c .mode) (c .quants) (c .old) (c .new) (length (c .list)) (length (c .scratch))
+  good e = own-good (c .width) (c .height) (c .mode) (c .quants) (c .old) (c .new) (length (c .list)) (length (c .scratch)) e
+
+  own-first : (ownOf c ≡ 0 → ⊥) → writingNumber (c .answer) ≡ ownOf c
+  own-first f = number-is ∙ sym (stops _ _ _ f refl)
+
+  then-the-check : ownOf c ≡ 0 → (checkOf c ≡ 0 → ⊥) → writingNumber (c .answer) ≡ checkOf c
+  then-the-check e f =
+      let l = fault-of-list (c .width) (c .height) (c .old) (c .new) (c .picks) (good (sym e) .pictures) list-fault refl in
+      number-is ∙ (sym (goes-on _ _ _ e (stops _ _ _ (λ z. f (l ∙ z)) refl)) ∙ sym l)
+
+  -- ---- 9 and 6 cannot happen
+
+  abbrev most : List ℕ
+  most = 0 ∷ 5 ∷ 7 ∷ 2 ∷ 16 ∷ 8 ∷ 17 ∷ 13 ∷ []
+
+  module _ (bytes : Bytes (c .new)) where
+    abbrev room : ℕ
+    room = leb (length (framePicked (c .index) (c .width) (c .height) (c .mode) (c .quants) (c .new) (c .picks))) (length (c .out)) ! 13 ⨾ 0
+
+    only-room : 0 ≡ ownOf c → send-fault ≡ room
+    unfolding sendFaultPicked refusalsPicked
+    only-room e =
+        let g = good e .args .picture in
+        sym (goes-on _ _ _ (sym (none-stops _ (λ i. tile-taken (c .new) (c .width) (c .height) (c .mode) (c .quants) bytes (g .luma) (g .chroma)
+        (getD (c .picks) i 0)) (length (c .picks)) 0)) refl)
+
+    room-among : Among most room
+    unfolding among
+    room-among = search numbers
+
+    later-among : 0 ≡ ownOf c → Among most (list-fault ⨟ send-fault)
+    unfolding each among
+    later-among e =
+        among-then _ _ (among-all _ (ShortNumbers.list-among (c .old) (c .new) (c .width) (c .height) (c .picks)) refl)
+        (subst (Among most) (sym (only-room e)) room-among)
+
+    never-refuses : Among most (writingNumber (c .answer))
+    unfolding _⨟_ each among
+    never-refuses = subst (Among most) (sym number-is) (by (ownOf c) refl)
+      where
+        by : (f : ℕ) → ownOf c ≡ f → Among most (f ⨟ (list-fault ⨟ send-fault))
+        by zero e = later-among (sym e)
+        by (suc f) e =
+            subst (Among most) e (among-all most
+            (ShortNumbers.own-among (c .width) (c .height) (c .mode) (c .quants) (length (c .old)) (length (c .new)) (length (c .list)) (length (c .scratch))) refl)
+
+-- a refused writer leaves its output
+refused-left : (f : ℕ) (bytes out : List ℕ) → (f ≡ 0 → ⊥) → outLeft f bytes out ≡ out
+unfolding outLeft
+refused-left zero bytes out n = absurd (n refl)
+refused-left (suc f) bytes out n = refl
+
+one-set-words : (p : List ℕ) (w h : ℕ) (v : List ℕ) (k i : ℕ) → wordOver p w h (oneFor v) k i ≡ wordBack p w h v k i
+unfolding wordOver wordBack quantFor _⇒_∣_
+one-set-words p w h v k i = refl
+
+pub requestElevenFrames : RequestElevenFrames
+requestElevenFrames = record {
+  own-first = own-first;
+  then-the-check = then-the-check;
+  done-is-checked = checked;
+  never-refuses = never-refuses;
+  done-bytes = bytes-are;
+  all-bytes = λ index w h mode q p. all-frame p w h mode q index;
+  all-one-set = all-picture;
+  all-tiles = λ c e l. as-full (c .width) (c .height) (c .mode) (c .quants) (c .index) (c .old) (c .new) (c .list) (c .list′) (c .scratch) (c .scratch′)
+      (c .out) (c .out′) (c .answer) l
+      (subst (λ (ks : List ℕ). ShortWritten (c .width) (c .height) (c .mode) (c .quants) (c .index) (c .old) (c .new) ks (c .list) (c .list′)
+      (c .scratch) (c .scratch′) (c .out) (c .out′) (c .answer)) e (c .promise));
+  no-tiles = no-tiles;
+  leaves-showing = leaves-showing;
+  one-set-words = one-set-words;
+  one-answer = λ c list′ scratch′ out′ r x. short-once _ _ _ _ _ _ _ _ _ _ _ _ _ _ _ _ _ _ _ (c .promise) x;
+  work-untouched = λ c e. ShortNumbers.work-untouched _ _ _ _ _ _ _ _ _ _ _ _ _ _ _ (c .promise) e;
+  work-zeros = λ c o. ShortNumbers.work-zeros _ _ _ _ _ _ _ _ _ _ _ _ _ _ _ (c .promise) o;
+  refused-untouched = λ c n. c .promise .wrote .left ∙ refused-left _ _ (c .out) (λ z. n (c .promise .wrote .number ∙ z));
+}
