@@ -50,15 +50,15 @@ ownOf c = ownFault (c .width) (c .height) (c .mode) (c .quants) (length (c .old)
 abbrev pub checkOf : WriteShort → ℕ
 checkOf c = planFault (c .width) (c .height) (c .old) (c .new) (c .picks)
 
--- "the glass shows what a full frame of the picture gives": every word of the channel does (`ShownOver` says it of a full frame: frame_readback/specs/Own)
-abbrev pub Shows : List ℕ → ℕ → ℕ → Quants → List ℕ → Type 0
-Shows p w h q pic = (px py : ℕ) → px < w → py < h → getD pic (py * w + px) 0 ≡ wordOver p w h q (tileNo w px py) (64 * (py % 64) + px % 64)
+-- "the glass shows what a full frame of the picture gives", a glass of 16 bits a word (0) or of 32 (1): every word of the channel does (`ShownOver` says it of a full frame: frame_readback/specs/Own)
+abbrev pub Shows : ℕ → List ℕ → ℕ → ℕ → Quants → List ℕ → Type 0
+Shows glass p w h q pic = (px py : ℕ) → px < w → py < h → getD pic (py * w + px) 0 ≡ wordOver glass p w h q (tileNo w px py) (64 * (py % 64) + px % 64)
 
 -- accepted, so many tiles reported, the glass shows the picture, and words past the channel are what they were
-pub record ShortShown (p : List ℕ) (w h : ℕ) (q : Quants) (count : ℕ) (pic pic′ : List ℕ) (r : FrameReading) : Type 0 where
+pub record ShortShown (glass : ℕ) (p : List ℕ) (w h : ℕ) (q : Quants) (count : ℕ) (pic pic′ : List ℕ) (r : FrameReading) : Type 0 where
   pub number : frameReadingNumber r ≡ 0
   pub tiles : frameReadingTiles r ≡ count
-  pub shows : Shows p w h q pic′
+  pub shows : Shows glass p w h q pic′
   pub past : (i : ℕ) → h * w ≤ i → getD pic′ i 0 ≡ getD pic i 0
   pub long : length pic′ ≡ length pic
 
@@ -86,20 +86,20 @@ pub record RequestElevenFrames : Type 0 where
       (index w h mode : ℕ) (q : Quants) (p : List ℕ) → length (q .luma .v) ≡ 10 → length (q .chroma .v) ≡ 10 →
       length (framePicked index w h mode q p []) ≡ 72 + 5 * chromaIndex q
   -- "If the glass shows what a full frame of the old picture gives, then the short frame leaves it showing what a full frame of the new one would give, with
-  -- the same quantisers, mode and session": the record is that of our headers, work lists of 4,096 and a picture long enough
+  -- the same quantisers, mode and session": the record is that of our headers on either glass, work lists of 4,096 and a picture long enough
   pub leaves-showing :
-      (c : WriteShort) → writingNumber (c .answer) ≡ 0 →
+      (glass : ℕ) → glass ≤ 1 → (c : WriteShort) → writingNumber (c .answer) ≡ 0 →
       (pic : List ℕ) (y cb cr tmp : List ℤ) (pic′ : List ℕ) (y′ cb′ cr′ tmp′ : List ℤ) (answer : FrameReading)
       → length y ≡ 4096
       → length cb ≡ 4096
       → length cr ≡ 4096
       → length tmp ≡ 4096
       → c .height * c .width ≤ length pic
-      → FrameRead (recordOf 4 (c .width) (c .height) (c .mode)) (take (writingLength (c .answer)) (c .out′)) pic y cb cr tmp pic′ y′ cb′ cr′ tmp′ answer
-      → Shows (c .old) (c .width) (c .height) (c .quants) pic
-      → ShortShown (c .new) (c .width) (c .height) (c .quants) (length (c .picks)) pic pic′ answer
+      → FrameRead glass (recordOf glass 4 (c .width) (c .height) (c .mode)) (take (writingLength (c .answer)) (c .out′)) pic y cb cr tmp pic′ y′ cb′ cr′ tmp′ answer
+      → Shows glass (c .old) (c .width) (c .height) (c .quants) pic
+      → ShortShown glass (c .new) (c .width) (c .height) (c .quants) (length (c .picks)) pic pic′ answer
   -- the words, with one set for both
-  pub one-set-words : (p : List ℕ) (w h : ℕ) (v : List ℕ) (k i : ℕ) → wordOver p w h (oneFor v) k i ≡ wordBack p w h v k i
+  pub one-set-words : (glass : ℕ) (p : List ℕ) (w h : ℕ) (v : List ℕ) (k i : ℕ) → wordOver glass p w h (oneFor v) k i ≡ wordBack glass p w h v k i
   -- one answer and one content of lent memory
   pub one-answer :
       (c : WriteShort) (list′ scratch′ : List ℤ) (out′ : List ℕ) (r : Writing)

@@ -90,9 +90,9 @@ unfolding outLeft
 refused-left zero bytes out n = absurd (n refl)
 refused-left (suc f) bytes out n = refl
 
-one-set-words : (p : List ℕ) (w h : ℕ) (v : List ℕ) (k i : ℕ) → wordOver p w h (oneFor v) k i ≡ wordBack p w h v k i
+one-set-words : (glass : ℕ) (p : List ℕ) (w h : ℕ) (v : List ℕ) (k i : ℕ) → wordOver glass p w h (oneFor v) k i ≡ wordBack glass p w h v k i
 unfolding wordOver wordBack quantFor _⇒_∣_
-one-set-words p w h v k i = refl
+one-set-words glass p w h v k i = refl
 
 pub requestElevenFrames : RequestElevenFrames
 requestElevenFrames = record {
@@ -108,7 +108,7 @@ requestElevenFrames = record {
       (subst (λ (ks : List ℕ). ShortWritten (c .width) (c .height) (c .mode) (c .quants) (c .index) (c .old) (c .new) ks (c .list) (c .list′)
       (c .scratch) (c .scratch′) (c .out) (c .out′) (c .answer)) e (c .promise));
   no-tiles = no-tiles;
-  leaves-showing = leaves-showing;
+  leaves-showing = λ glass either c e. leaves-showing c e glass either;
   one-set-words = one-set-words;
   one-answer = λ c list′ scratch′ out′ r x. short-once _ _ _ _ _ _ _ _ _ _ _ _ _ _ _ _ _ _ _ (c .promise) x;
   work-untouched = λ c e. ShortNumbers.work-untouched _ _ _ _ _ _ _ _ _ _ _ _ _ _ _ (c .promise) e;

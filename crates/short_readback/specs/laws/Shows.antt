@@ -43,9 +43,9 @@ module _ (old new : List ℕ) (w h k : ℕ) (e : changedTile old new w h k ≡ f
   unfolding samplesBack listOf
   same-samples v c = ap (λ (zs : List ℤ). tileBack (scaledBy v (summed zs))) (same-list old new w h k e v c)
 
-  pub same-word : (q : Quants) (i : ℕ) → wordOver old w h q k i ≡ wordOver new w h q k i
+  pub same-word : (glass : ℕ) (q : Quants) (i : ℕ) → wordOver glass old w h q k i ≡ wordOver glass new w h q k i
   unfolding wordOver
-  same-word q i = rw (same-samples _ 0, same-samples _ 1, same-samples _ 2) refl
+  same-word glass q i = rw (same-samples _ 0, same-samples _ 1, same-samples _ 2) refl
 
 -- ---- drawn over the old picture it shows the new one
 
@@ -58,15 +58,15 @@ module _ (old new ks : List ℕ) (w h mode : ℕ) (q : Quants) (a : Acceptable w
       by true c = absurd (yes-not-no (sym (a .all k l (changed-is old new w h k c)) ∙ e))
       by false c = refl
 
-  module _ (pic pic′ : List ℕ) (r : FrameReading) (s : ShownPicked new w h q (length ks) (λ (i : ℕ). getD ks i 0) pic pic′ r) (o : Shows old w h q pic) where
+  module _ (glass : ℕ) (pic pic′ : List ℕ) (r : FrameReading) (s : ShownPicked glass new w h q (length ks) (λ (i : ℕ). getD ks i 0) pic pic′ r) (o : Shows glass old w h q pic) where
     word-new : (px py : ℕ) → px < w → py < h → (t : Bool) → isListed (tileNo w px py) ks ≡ t →
-        getD pic′ (py * w + px) 0 ≡ wordOver new w h q (tileNo w px py) (64 * (py % 64) + px % 64)
+        getD pic′ (py * w + px) 0 ≡ wordOver glass new w h q (tileNo w px py) (64 * (py % 64) + px % 64)
     word-new px py x y true e = let z = listed-is (tileNo w px py) ks e in s .word px py x y (z .place) (z .inside) (z .is)
     word-new px py x y false e =
         s .others px py x y (λ i l z. yes-not-no (sym (is-listed (tileNo w px py) ks i l z) ∙ e))
-        ∙ (o px py x y ∙ same-word old new w h (tileNo w px py) (left-out (tileNo w px py) (tile-among new w h mode q px py x y) e) q (64 * (py % 64) + px % 64))
+        ∙ (o px py x y ∙ same-word old new w h (tileNo w px py) (left-out (tileNo w px py) (tile-among new w h mode q px py x y) e) glass q (64 * (py % 64) + px % 64))
 
-    pub now-shows : ShortShown new w h q (length ks) pic pic′ r
+    pub now-shows : ShortShown glass new w h q (length ks) pic pic′ r
     now-shows = record {
       number = s .number;
       tiles = s .tiles;
@@ -126,14 +126,14 @@ module _ (c : WriteShort) (e : writingNumber (c .answer) ≡ 0) where
   bytes-are = wrote-bytes _ _ (c .out) (c .out′) (c .answer) (c .promise .wrote) e
 
   pub leaves-showing :
-      (pic : List ℕ) (y cb cr tmp : List ℤ) (pic′ : List ℕ) (y′ cb′ cr′ tmp′ : List ℤ) (answer : FrameReading)
+      (glass : ℕ) → glass ≤ 1 → (pic : List ℕ) (y cb cr tmp : List ℤ) (pic′ : List ℕ) (y′ cb′ cr′ tmp′ : List ℤ) (answer : FrameReading)
       → length y ≡ 4096 → length cb ≡ 4096 → length cr ≡ 4096 → length tmp ≡ 4096 → c .height * c .width ≤ length pic
-      → FrameRead (recordOf 4 (c .width) (c .height) (c .mode)) (take (writingLength (c .answer)) (c .out′)) pic y cb cr tmp pic′ y′ cb′ cr′ tmp′ answer
-      → Shows (c .old) (c .width) (c .height) (c .quants) pic
-      → ShortShown (c .new) (c .width) (c .height) (c .quants) (length (c .picks)) pic pic′ answer
+      → FrameRead glass (recordOf glass 4 (c .width) (c .height) (c .mode)) (take (writingLength (c .answer)) (c .out′)) pic y cb cr tmp pic′ y′ cb′ cr′ tmp′ answer
+      → Shows glass (c .old) (c .width) (c .height) (c .quants) pic
+      → ShortShown glass (c .new) (c .width) (c .height) (c .quants) (length (c .picks)) pic pic′ answer
   unfolding framePicked
-  leaves-showing pic y cb cr tmp pic′ y′ cb′ cr′ tmp′ answer ly lb lr lt room done o =
-      let d = subst (λ (x : List ℕ). FrameRead (recordOf 4 (c .width) (c .height) (c .mode)) x pic y cb cr tmp pic′ y′ cb′ cr′ tmp′ answer) bytes-are done in
-      let s = shown (c .new) (c .width) (c .height) (c .mode) (c .quants) (c .index) (length (c .picks)) (λ (i : ℕ). getD (c .picks) i 0) sendable (modes .0)
+  leaves-showing glass either pic y cb cr tmp pic′ y′ cb′ cr′ tmp′ answer ly lb lr lt room done o =
+      let d = subst (λ (x : List ℕ). FrameRead glass (recordOf glass 4 (c .width) (c .height) (c .mode)) x pic y cb cr tmp pic′ y′ cb′ cr′ tmp′ answer) bytes-are done in
+      let s = shown (c .new) (c .width) (c .height) (c .mode) (c .quants) (c .index) (length (c .picks)) (λ (i : ℕ). getD (c .picks) i 0) sendable glass either (modes .0)
       pic y cb cr tmp pic′ y′ cb′ cr′ tmp′ answer ly lb lr lt room d in
-      now-shows (c .old) (c .new) (c .picks) (c .width) (c .height) (c .mode) (c .quants) acceptable pic pic′ answer s o
+      now-shows (c .old) (c .new) (c .picks) (c .width) (c .height) (c .mode) (c .quants) acceptable glass pic pic′ answer s o
