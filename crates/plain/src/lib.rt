@@ -9,14 +9,14 @@ ghost use Rattle.whole.specs.laws.Near.{Near};
 ghost use Rattle.whole.specs.Tab.{at};
 ghost use Rattle.whole.specs.laws.Tab.{AllNear};
 ghost use Rattle.bands.specs.Bands.{QuantGood, bandOf, quantAt, inRange};
-ghost use Rattle.wave_back.specs.Line.{rowAvg, colAvg, evenZ, oddZ, evenAt};
+ghost use Rattle.wave_back.specs.Line.{evenZ, oddZ, evenAt};
 ghost use Rattle.wave_back.specs.Tile.{tileBack};
 ghost use Rattle.wave_back.specs.laws.Level.{levelFrom};
 ghost use Rattle.colour.specs.Colour.{clampByte, redOf, greenOf, blueOf, pack565, wordOf};
 ghost use Rattle.tile_back.specs.Word.{Plane, wordAt};
 ghost use Rattle.plain.specs.Plain.{Component, Sampled, Words};
-ghost use Rattle.plain.specs.laws.Fit.{Sums, Scales, Fitted};
-ghost use Rattle.plain.specs.laws.Lines.{Line, lineOf, Level, rowsAt, Passed};
+ghost use Rattle.plain.specs.laws.Fit.{Sums, Scales};
+ghost use Rattle.plain.specs.laws.Lines.{Line, avgOf, lineOf, Level, rowsAt, Passed};
 use bands::Quant;
 
 // ---- bands: sums and scaling
@@ -44,13 +44,7 @@ fn band(k: usize) -> usize
 fn in_range(v: i32) -> bool
     ensures { λ r. ⌜ r ≡ inRange v ⌝ }
 {
-    if v < -32767 {
-        return false;
-    }
-    if v > 32767 {
-        return false;
-    }
-    true
+    -32767 <= v && v <= 32767
 }
 
 fn plus(a: i32, b: i32) -> i32
@@ -60,19 +54,12 @@ fn plus(a: i32, b: i32) -> i32
     a + b
 }
 
-fn times(a: i32, m: i32) -> i32
-    requires { ⌜ Near 32767 a × Near 16384 m ⌝ }
-    ensures { λ r. ⌜ r ≡ a *ℤ m ⌝ }
+// "Scaling is times 2^(q-1)"
+fn scaled(v: i32, q: u8) -> i32
+    requires { ⌜ Near 32767 v × (6 ≤ q) × (q ≤ 15) ⌝ }
+    ensures { λ r. ⌜ r ≡ v *ℤ pos (2 ^ (q - 1)) ⌝ }
 {
-    a * m
-}
-
-// 2^(n-1)
-fn factor(n: u8) -> i32
-    requires { ⌜ (6 ≤ n) × (n ≤ 15) ⌝ }
-    ensures { λ r. ⌜ r ≡ pos (2 ^ (n - 1)) ⌝ }
-{
-    (1u32 << (n - 1)) as i32
+    v * (1u32 << (q - 1)) as i32
 }
 
 // The quantiser of place k.
@@ -80,8 +67,7 @@ fn quant(q: Quant, k: usize) -> u8
     requires { ⌜ QuantGood (q .v) × (k < 4096) ⌝ }
     ensures { λ r. ⌜ (r ≡ quantAt (q .v) k) × (6 ≤ r) × (r ≤ 15) ⌝ }
 {
-    let b = band(k);
-    q.v[b]
+    q.v[band(k)]
 }
 
 // "LL3 holds its first value and then differences; sum first": the last 64 places, 0 or 9.
@@ -90,44 +76,29 @@ fn sum(work: &mut [i32]) -> u8
     ensures { λ r. ⌜ Sums (now (work .entry)) (now (work .exit)) r ⌝ }
 {
     let mut s = 0;
-    let mut i = 0;
-    while i < 64 {
+    for i in 0..64 {
         s = plus(s, work[4032 + i]);
         if !in_range(s) {
             return 9;
         }
         work[4032 + i] = s;
-        i += 1;
     }
     0
 }
 
-// "then scale. Scaling is times 2^(q-1)": every place by its own band's quantiser, 0 or 9.
+// "then scale": every place by its own band's quantiser, 0 or 9.
 fn scale(work: &mut [i32], q: Quant) -> u8
     requires { ⌜ (length (now work) ≡ 4096) × AllNear 32767 (now work) × QuantGood (q .v) ⌝ }
     ensures { λ r. ⌜ Scales (q .v) (now (work .entry)) (now (work .exit)) r ⌝ }
 {
-    let mut k = 0;
-    while k < 4096 {
-        let v = times(work[k], factor(quant(q, k)));
+    for k in 0..4096 {
+        let v = scaled(work[k], quant(q, k));
         if !in_range(v) {
             return 9;
         }
         work[k] = v;
-        k += 1;
     }
     0
-}
-
-fn fit(work: &mut [i32], q: Quant) -> u8
-    requires { ⌜ (length (now work) ≡ 4096) × AllNear 32767 (now work) × QuantGood (q .v) ⌝ }
-    ensures { λ r. ⌜ Fitted (q .v) (now (work .entry)) (now (work .exit)) r ⌝ }
-{
-    let n = sum(work);
-    if n != 0 {
-        return n;
-    }
-    scale(work, q)
 }
 
 // A component: its number, "code, then LL3 sums and scaling (9)", and where it is 0 its coefficients.
@@ -135,17 +106,17 @@ pub fn component(mode: u8, q: Quant, code: &[u8], work: &mut [i32]) -> u8
     requires { ⌜ (length (now work) ≡ 4096) × QuantGood (q .v) ⌝ }
     ensures { λ r. ⌜ Component mode (q .v) (now (code .entry)) (now (work .entry)) (now (work .exit)) r ⌝ }
 {
-    let read = plain_code::read_component(mode, code, work);
-    let n = plain_code::reading_number(read);
+    let n = plain_code::reading_number(plain_code::read_component(mode, code, work));
     if n != 0 {
         return n;
     }
-    let m = fit(work, q);
-    if m != 0 {
-        plain_code::clear(work);
-        return m;
+    if sum(work) == 0 {
+        if scale(work, q) == 0 {
+            return 0;
+        }
     }
-    m
+    plain_code::clear(work);
+    9
 }
 
 // ---- the wavelet, by its indices
@@ -158,19 +129,15 @@ fn even(l: i32, g: i32, h: i32) -> i32
     l - ((g + h + 1) >> 1)
 }
 
-// "x[2n+1] = 2H[n] + floor((x[2n] + x[2n+2])/2)", where the sample has, along a row, the sum over 2 toward zero.
-fn odd_along(h: i32, x: i32, y: i32) -> i32
+// "x[2n+1] = 2H[n] + floor((x[2n] + x[2n+2])/2)", where the sample has, along a row, the sum over 2 toward zero, and down a column the sum of both
+// halves, each toward zero.
+fn odd(along: bool, h: i32, x: i32, y: i32) -> i32
     requires { ⌜ Near 268435456 h × Near 536870913 x × Near 536870913 y ⌝ }
-    ensures { λ r. ⌜ r ≡ oddZ rowAvg h x y ⌝ }
+    ensures { λ r. ⌜ r ≡ oddZ (avgOf along) h x y ⌝ }
 {
-    2 * h + (x + y) / 2
-}
-
-// And down a column the sum of both halves, each toward zero.
-fn odd_down(h: i32, x: i32, y: i32) -> i32
-    requires { ⌜ Near 268435456 h × Near 536870913 x × Near 536870913 y ⌝ }
-    ensures { λ r. ⌜ r ≡ oddZ colAvg h x y ⌝ }
-{
+    if along {
+        return 2 * h + (x + y) / 2;
+    }
     2 * h + (x / 2 + y / 2)
 }
 
@@ -189,33 +156,26 @@ fn next(c: usize, n: usize) -> usize
     if c + 1 < n { c + 1 } else { c }
 }
 
-// x[2c] of the line whose L stands in src from place l on and whose H from place h on, every `step` numbers.
-fn even_at(src: &[i32], l: usize, h: usize, step: usize, n: usize, c: usize) -> i32
-    requires { ⌜ Line (now src) l h step n × (c < n) ⌝ }
-    ensures { λ r. ⌜ r ≡ evenAt (λ (i : ℕ). at (now (src .entry)) (l + step * i)) (λ (i : ℕ). at (now (src .entry)) (h + step * i)) c ⌝ }
+// x[2c] of the line whose L stands in src from place l on and whose H from place h on, every d numbers.
+fn even_at(src: &[i32], l: usize, h: usize, d: usize, n: usize, c: usize) -> i32
+    requires { ⌜ Line (now src) l h d n × (c < n) ⌝ }
+    ensures { λ r. ⌜ r ≡ evenAt (λ (i : ℕ). at (now (src .entry)) (l + d * i)) (λ (i : ℕ). at (now (src .entry)) (h + d * i)) c ⌝ }
 {
-    even(
-        src[l + step * c],
-        src[h + step * prev(c)],
-        src[h + step * c],
-    )
+    even(src[l + d * c], src[h + d * prev(c)], src[h + d * c])
 }
 
 // x[k] of that line, along a row or down a column.
-fn line(src: &[i32], l: usize, h: usize, step: usize, n: usize, k: usize, along: bool) -> i32
-    requires { ⌜ Line (now src) l h step n × (k < 2 * n) ⌝ }
-    ensures { λ r. ⌜ r ≡ lineOf along n (at (now (src .entry))) l h step k ⌝ }
+fn line(src: &[i32], l: usize, h: usize, d: usize, n: usize, k: usize, along: bool) -> i32
+    requires { ⌜ Line (now src) l h d n × (k < 2 * n) ⌝ }
+    ensures { λ r. ⌜ r ≡ lineOf along n (at (now (src .entry))) l h d k ⌝ }
 {
     let c = k / 2;
-    let x = even_at(src, l, h, step, n, c);
+    let x = even_at(src, l, h, d, n, c);
     if k % 2 == 0 {
         return x;
     }
-    let y = even_at(src, l, h, step, n, next(c, n));
-    if along {
-        return odd_along(src[h + step * c], x, y);
-    }
-    odd_down(src[h + step * c], x, y)
+    let y = even_at(src, l, h, d, n, next(c, n));
+    odd(along, src[h + d * c], x, y)
 }
 
 // "Rows first (LL with HL, LH with HH)": place x of row r, of 2n rows. The bands HL, LH, HH, LL stand one after the other from place `from` on.
@@ -224,12 +184,11 @@ fn row(src: &[i32], from: usize, n: usize, r: usize, x: usize) -> i32
     ensures { λ v. ⌜ v ≡ rowsAt n (at (drop from (now (src .entry)))) r x ⌝ }
 {
     let b = n * n;
+    let a = from + r * n;
     if r < n {
-        let a = from + r * n;
         return line(src, a + 3 * b, a, 1, n, x, true);
     }
-    let a = from + (r - n) * n;
-    line(src, a + b, a + 2 * b, 1, n, x, true)
+    line(src, a, a + b, 1, n, x, true)
 }
 
 fn rows(src: &[i32], from: usize, dst: &mut [i32], n: usize)
@@ -237,10 +196,8 @@ fn rows(src: &[i32], from: usize, dst: &mut [i32], n: usize)
     ensures { λ _. ⌜ Passed n (at (drop from (now (src .entry)))) (now (dst .exit)) ⌝ }
 {
     let w = 2 * n;
-    let mut k = 0;
-    while k < w * w {
+    for k in 0..w * w {
         dst[k] = row(src, from, n, k / w, k % w);
-        k += 1;
     }
 }
 
@@ -250,10 +207,8 @@ fn columns(src: &[i32], dst: &mut [i32], from: usize, n: usize)
     ensures { λ _. ⌜ now (dst .exit) ≡ levelFrom from n (now (dst .entry)) ⌝ }
 {
     let w = 2 * n;
-    let mut k = 0;
-    while k < w * w {
+    for k in 0..w * w {
         dst[from + k] = line(src, k % w, n * w + k % w, w, n, k / w, false);
-        k += 1;
     }
 }
 
@@ -281,10 +236,9 @@ pub fn samples(mode: u8, q: Quant, code: &[u8], work: &mut [i32], tmp: &mut [i32
     ensures { λ r. ⌜ Sampled mode (q .v) (now (code .entry)) (now (work .entry)) (now (work .exit)) r ⌝ }
 {
     let n = component(mode, q, code, work);
-    if n != 0 {
-        return n;
+    if n == 0 {
+        tile(work, tmp);
     }
-    tile(work, tmp);
     n
 }
 
@@ -296,10 +250,7 @@ fn clamp(x: i64) -> u8
     if x < 0 {
         return 0;
     }
-    if x > 255 {
-        return 255;
-    }
-    x as u8
+    if x > 255 { 255 } else { x as u8 }
 }
 
 // "S + 91916Cr", with "S = 65536(Y + 4096)"
@@ -353,9 +304,7 @@ pub fn pixels(ys: &[i32], cbs: &[i32], crs: &[i32], words: &mut [u16])
     requires { ⌜ (length (now words) ≡ 4096) × Plane (now ys) × Plane (now cbs) × Plane (now crs) ⌝ }
     ensures { λ _. ⌜ Words 0 (now (ys .entry)) (now (cbs .entry)) (now (crs .entry)) (now (words .exit)) ⌝ }
 {
-    let mut i = 0;
-    while i < 4096 {
+    for i in 0..4096 {
         words[i] = pixel(ys, cbs, crs, i);
-        i += 1;
     }
 }

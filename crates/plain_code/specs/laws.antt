@@ -1,2 +1,3 @@
 pub mod Bit
-pub mod Gone
+pub mod Turn
+pub mod Zeros

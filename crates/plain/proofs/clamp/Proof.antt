@@ -41,4 +41,4 @@ returns-3 c =
     ap natAbs (toZ-ofZ (fits .x)) ∙ mid c .2
 
 pub clamp-spec : {M : Type 1} → statement M
-clamp-spec = tie.close (tie.spec returns returns-2 cast-result returns-3)
+clamp-spec = tie.close (tie.spec returns cast-result returns-2 returns-3)

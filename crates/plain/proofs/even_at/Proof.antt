@@ -90,9 +90,9 @@ returns c =
     let p = pre .0 in
     let h = pre .1 in
     let S : ℕ → ℤ = at (now (a .src)) in
-    back-ok w32 (c .even .result) (c .even .ok) ∙ even-step (λ (i : ℕ). S (a .l + a .step * i)) (λ (i : ℕ). S (a .h + a .step * i)) (a .c)
+    back-ok w32 (c .even .result) (c .even .ok) ∙ even-step (λ (i : ℕ). S (a .l + a .d * i)) (λ (i : ℕ). S (a .h + a .d * i)) (a .c)
     (c .even .ensures) (back w32 (p .near-low (a .c) h) tt)
-    (back w32 (p .near-high (prev .result) (omega (arith, prev .ensures, h))) tt ∙ ap (λ (i : ℕ). S (a .h + a .step * i)) (prev .ensures))
+    (back w32 (p .near-high (prev .result) (omega (arith, prev .ensures, h))) tt ∙ ap (λ (i : ℕ). S (a .h + a .d * i)) (prev .ensures))
     (back w32 (p .near-high (a .c) h) tt)
 
 pub even-at-spec : {M : Type 1} → statement M

@@ -6,11 +6,11 @@ use mathlib.Core.List.{List}
 use native.Mathlib.Omega.{arith}
 use native.Mathlib.Numerals.{add-one}
 use native.Mathlib.Decide.{ℕ-discrete}
-use borrow.Author.Tests.{ltb-true, ltb-false, le-leb, lt-leb}
+use borrow.Author.Tests.{leb-true, leb-false, le-leb, lt-leb}
 use lib.IntN.{ℤ, pos, negsuc, _+ℤ_}
-use lib.Signed.{ltZ}
+use lib.Signed.{leZ}
 use lib.ListN.{length, set}
-use Rattle.whole.specs.Row.{_⨟_}
+use Rattle.whole.specs.Row.{_!_⨾_, _⨟_}
 use Rattle.whole.specs.laws.Row.{passes, fails, and-yes, and-no, and-no′, stops, goes-on}
 use Rattle.whole.specs.Tab.{at, table}
 use Rattle.whole.specs.laws.Tab.{AllNear, at-tab, length-tab, is-tab}
@@ -19,7 +19,7 @@ use Rattle.bands.specs.laws.Part.{Done, done-none, done-put, done-all, front-at
 use Rattle.bands.specs.laws.Range.{sum-more}
 use Rattle.bands.specs.laws.Band.{same-band}
 
--- ---- what the two loops and both together promise: the number, and where it is 0 the list
+-- ---- what the two loops promise, and both together: the number, and where it is 0 the list
 
 pub record Sums (before after : List ℤ) (r : ℕ) : Type 0 where
   pub number : r ≡ sumsFault before
@@ -35,20 +35,15 @@ pub record Fitted (q : List ℕ) (before after : List ℤ) (r : ℕ) : Type 0 wh
 
 -- ---- the range by two tests
 
-pub in-low : (z : ℤ) → ltZ z (negsuc 32766) ≡ true → false ≡ inRange z
+pub in-low : (z : ℤ) → leZ (negsuc 32766) z ≡ true → leZ z (pos 32767) ≡ inRange z
 unfolding inRange
-in-low (pos n) h = absurd (let z : _≡_ {A = ℕ} 0 1 = cc in omega arith)
-in-low (negsuc n) h = sym (lt-leb (suc n) 32767 (omega (arith, ltb-true 32766 n h)))
+in-low (pos n) h = refl
+in-low (negsuc n) h = sym (le-leb (suc n) 32767 (omega (arith, leb-true n 32766 h)))
 
-pub in-high : (z : ℤ) → ltZ (pos 32767) z ≡ true → false ≡ inRange z
+pub in-not : (z : ℤ) → leZ (negsuc 32766) z ≡ false → leZ (negsuc 32766) z ≡ inRange z
 unfolding inRange
-in-high (pos n) h = sym (lt-leb n 32767 (ltb-true 32767 n h))
-in-high (negsuc n) h = absurd (let z : _≡_ {A = ℕ} 0 1 = cc in omega arith)
-
-pub in-mid : (z : ℤ) → ltZ z (negsuc 32766) ≡ false → ltZ (pos 32767) z ≡ false → true ≡ inRange z
-unfolding inRange
-in-mid (pos n) g h = sym (le-leb n 32767 (ltb-false 32767 n h))
-in-mid (negsuc n) g h = sym (le-leb (suc n) 32767 (omega (arith, ltb-false 32766 n g)))
+in-not (pos n) h = absurd (let z : _≡_ {A = ℕ} 0 1 = cc in omega arith)
+in-not (negsuc n) h = h ∙ sym (lt-leb (suc n) 32767 (omega (arith, leb-false n 32766 h)))
 
 -- ---- one place more, and one place that fails
 
@@ -79,8 +74,8 @@ done-next F from k before xs v h e d =
 
 -- ---- the band of a place, by the place where it starts
 
-pub band-from : (a k set : ℕ) → a ≤ k → k < bandAt a .end → set ≡ bandOf a → set ≡ bandOf k
-band-from a k set l h e = rw (bandOf, same-band a k l h) e
+pub band-from : (a end k set : ℕ) → bandAt a .end ≡ end → set ≡ bandOf a → a ≤ k → k < end → set ≡ bandOf k
+band-from a end k set n e l h = rw (bandOf, same-band a k l (subst (λ (m : ℕ). k < m) (sym n) h)) e
 
 -- ---- the sums
 
@@ -176,11 +171,19 @@ module _ (q : List ℕ) (before : List ℤ) (len : length before ≡ 4096) where
         list = λ z. done-all (scaleAt q (at before)) 4096 before now len (subst (λ (i : ℕ). Done (scaleAt q (at before)) i before now) n (w .done));
       }
 
--- ---- both
+-- ---- both: a fault is 9
+
+nine : (b : Bool) (n : ℕ) → n ≡ (b ! 9 ⨾ 0) → (n ≡ 0 → ⊥) → n ≡ 9
+unfolding _!_⨾_
+nine true n e h = absurd (h e)
+nine false n e h = e
 
 module _ (q : List ℕ) (before mid : List ℤ) (n : ℕ) (s : Sums before mid n) where
-  pub fit-stops : (n ≡ 0 → ⊥) → Fitted q before mid n
-  fit-stops h = record { number = stops _ _ _ (λ z. h (s .number ∙ z)) (s .number); list = λ z. absurd (h z) }
+  pub fit-stops : (n ≡ 0 → ⊥) → Fitted q before mid 9
+  unfolding sumsFault
+  fit-stops h =
+      let e = nine (allIn (sumsOf before) 64) n (s .number) h in
+      record { number = sym e ∙ stops _ _ _ (λ z. h (s .number ∙ z)) (s .number); list = λ z. absurd (omega arith) }
 
   module _ (z : n ≡ 0) where
     -- what scaling asks for
@@ -189,8 +192,16 @@ module _ (q : List ℕ) (before mid : List ℤ) (n : ℕ) (s : Sums before mid n
         let g = summed-near before l a (sym z ∙ s .number) in
         (ap length (s .list z) ∙ g .0, subst (AllNear 32767) (sym (s .list z)) (g .1))
 
-    pub fit-goes : (after : List ℤ) (m : ℕ) → Scales q mid after m → Fitted q before after m
-    fit-goes after m t = record {
-      number = goes-on _ _ _ (sym (s .number) ∙ z) (t .number ∙ ap (scaleFault q) (s .list z));
-      list = λ y. t .list y ∙ ap (scaledBy q) (s .list z);
-    }
+    module _ (after : List ℤ) (m : ℕ) (t : Scales q mid after m) where
+      fit-goes : Fitted q before after m
+      fit-goes = record {
+        number = goes-on _ _ _ (sym (s .number) ∙ z) (t .number ∙ ap (scaleFault q) (s .list z));
+        list = λ y. t .list y ∙ ap (scaledBy q) (s .list z);
+      }
+
+      pub fit-done : m ≡ 0 → Fitted q before after 0
+      fit-done y = subst (Fitted q before after) y fit-goes
+
+      pub fit-nine : (m ≡ 0 → ⊥) → Fitted q before after 9
+      unfolding scaleFault
+      fit-nine h = subst (Fitted q before after) (nine (allIn (scaleAt q (at mid)) 4096) m (t .number) h) fit-goes

@@ -3,7 +3,7 @@ use Prim.Native.Nat.{ℕ, _+_, _*_, _-_, _/_, _%_, _≤_, _<_}
 use mathlib.Core.Path.{_≡_, refl, sym, ap, subst, _∙_}
 use mathlib.Core.Bool.{Bool, true, false}
 use mathlib.Core.List.{List}
-use native.Mathlib.Nat.{div-lt-iff-lt-mul, mod-lt}
+use native.Mathlib.Nat.{add-mul, div-lt-iff-lt-mul, mod-lt}
 use native.Mathlib.Decide.{decLt}
 use native.Mathlib.Omega.{arith}
 use borrow.Author.Tests.{lt-ltb, le-ltb}
@@ -89,11 +89,17 @@ module _ (xs : List ℤ) (from n : ℕ) (g : Level xs from n) where
     near-high = λ c h. all-near _;
   }
 
-  pub high-line : (r : ℕ) → n ≤ r → r < 2 * n → Line xs (from + (r - n) * n + n * n) (from + (r - n) * n + 2 * (n * n)) 1 n
+  -- the high rows stand behind the low ones, LH's where HL's end
+  high-at : (r : ℕ) → n ≤ r → r * n ≡ n * n + (r - n) * n
+  high-at r p =
+      let e : r ≡ n + (r - n) = omega arith in
+      ap (λ (m : ℕ). m * n) e ∙ add-mul n (r - n) n
+
+  pub high-line : (r : ℕ) → n ≤ r → r < 2 * n → Line xs (from + r * n) (from + r * n + n * n) 1 n
   high-line r p q = record {
     len = g .len;
-    low = λ c h. omega (arith, row-in (r - n) n n (omega arith), g .fits);
-    high = λ c h. omega (arith, row-in (r - n) n n (omega arith), g .fits);
+    low = λ c h. omega (arith, row-in (r - n) n n (omega arith), high-at r p, g .fits);
+    high = λ c h. omega (arith, row-in (r - n) n n (omega arith), high-at r p, g .fits);
     near-low = λ c h. all-near _;
     near-high = λ c h. all-near _;
   }
@@ -104,13 +110,12 @@ module _ (xs : List ℤ) (from n : ℕ) (g : Level xs from n) where
       case-yes (ltb r n) _ _ _ (lt-ltb r n q)
       (line-cong rowAvg n n _ _ _ _ refl (λ c h. place-is _ (3 * (n * n) + (r * n + c)) (omega arith)) (λ c h. place-is _ (r * n + c) (omega arith)) x j)
 
-  pub high-is : (r x : ℕ) → n ≤ r → x < 2 * n →
-      lineOf true n (at xs) (from + (r - n) * n + n * n) (from + (r - n) * n + 2 * (n * n)) 1 x ≡ rowsAt n f r x
+  pub high-is : (r x : ℕ) → n ≤ r → x < 2 * n → lineOf true n (at xs) (from + r * n) (from + r * n + n * n) 1 x ≡ rowsAt n f r x
   unfolding rowsAt avgOf
   high-is r x p j =
       case-no (ltb r n) _ _ _ (le-ltb r n p)
-      (line-cong rowAvg n n _ _ _ _ refl (λ c h. place-is _ (n * n + ((r - n) * n + c)) (omega arith))
-      (λ c h. place-is _ (2 * (n * n) + ((r - n) * n + c)) (omega arith)) x j)
+      (line-cong rowAvg n n _ _ _ _ refl (λ c h. place-is _ (n * n + ((r - n) * n + c)) (omega (arith, high-at r p)))
+      (λ c h. place-is _ (2 * (n * n) + ((r - n) * n + c)) (omega (arith, high-at r p))) x j)
 
   rows-near : (r x : ℕ) → x < 2 * n → Near 268435456 (rowsAt n f r x)
   unfolding rowsAt

@@ -1,47 +1,33 @@
 -- `clean_tail` meets its contract: too many bits, or the number that they make. Assumes nothing.
+use Prim.Native.Nat.{ℕ, _+_, _*_, _-_}
+use mathlib.Core.Path.{refl, sym, ap, _∙_}
+use native.Mathlib.Omega.{arith}
+use lib.ListN.{length}
 use denote.Ref.{now}
-use Rattle.code.specs.laws.Read.{tail-long, tail-cut, tail-got}
+use borrow.Author.Tests.{le-ltb}
+use Rattle.bits.specs.Bits.{bitsOf}
+use Rattle.bits.specs.laws.Bit.{length-bitsOf}
+use Rattle.bits.specs.declared.Num.the-variants.{Got}
+use Rattle.code.specs.laws.Read.{tail-long, tail-got}
+use Rattle.plain_code.specs.laws.Zeros.{num-whole}
 use borrow.Author.Needs.{needs}
 use Rattle.plain_code.proofs.clean_tail.Statement.{statement}
-use native.Mathlib.Omega.{arith}
 use Rattle.plain_code.proofs.clean_tail.Tie as tie
-
-mul-left : tie.Need-mul-left
-mul-left c = search needs
-
-sub-left : tie.Need-sub-left
-sub-left c = search needs
 
 returns : tie.Need-returns
 returns c =
-    let pre = c .before .before .pre in
-    let args = c .before .before .args in
-    tail-long (now (args .s)) (args .at) (pre .1) (omega arith)
-
-number-requires : tie.Need-number-requires
-number-requires c κs = search needs
-
-enum-told : tie.Need-enum-told
-enum-told c = search needs
-
-enum-known-v : tie.Need-enum-known-v
-enum-known-v c = search needs
+    let args = c .before .before .before .args in
+    let pre = c .before .before .before .pre in
+    let s = now (args .s) in
+    let left = length s * 8 - args .at in
+    tail-got s (args .at) (pre .1) (Got (c .number .result) (args .at + left)) _ _ (λ h. omega arith)
+    (ap (λ (v : ℕ). Got v (args .at + left)) (c .number .ensures) ∙ sym (num-whole left 0 (args .at) (bitsOf s) (omega (arith, length-bitsOf s)))) refl
 
 returns-2 : tie.Need-returns-2
 returns-2 c =
-    let number = c .before .before .number in
-    let pre = c .before .before .before .before .before .pre in
-    let args = c .before .before .before .before .before .args in
-    tail-cut (now (args .s)) (args .at) (pre .1) (number .result) (number .ensures) (c .enum-told .given .1)
-
-returns-3 : tie.Need-returns-3
-returns-3 c =
-    let number = c .before .before .before .number in
-    let pre = c .before .before .before .before .before .before .pre in
-    let args = c .before .before .before .before .before .before .args in
-    tail-got (now (args .s)) (args .at) (pre .1) (number .result) _ _ (λ h. omega arith) (number .ensures) (c .before .v .given .1)
+    let args = c .before .before .args in
+    let pre = c .before .before .pre in
+    le-ltb _ _ (c .if1 .left) ∙ tail-long (now (args .s)) (args .at) (pre .1) (c .if1 .left)
 
 pub clean-tail-spec : {M : Type 1} → statement M
-clean-tail-spec =
-    tie.close
-    (tie.spec mul-left sub-left returns number-requires enum-told enum-known-v returns-2 returns-3)
+clean-tail-spec = tie.close (tie.spec (λ c. search needs) (λ c. search needs) (λ c κs. search needs) returns returns-2)
