@@ -1,8 +1,8 @@
 /*
- * xurbalenz.h - RemoteFX (MS-RDPRFX) pictures for the door glass: fourteen calls, proved for every input.
+ * xurbalenz.h - RemoteFX (MS-RDPRFX) pictures for the door glass: fifteen calls, proved for every input.
  *
  * Link target/staticlib/libxurbalenz.a (made by `tools/archive`, x86-64). Its functions read four header blocks and whole frames into a
- * lent picture of 16-bit words, and write headers, components and frames; and they gather header blocks and frames from a network card's
+ * lent picture of 16-bit or 32-bit words, and write headers, components and frames; and they gather header blocks and frames from a network card's
  * bytes, however these are cut;
  * and they read and write what a client says of its capabilities and the frames that it acknowledges.
  *
@@ -130,7 +130,7 @@ static inline const char *xurbalenz_says(uint8_t number)
 /* ---- the session record ---- */
 
 /* How many headers are in (0 to 4), the mode, the channel's width and height; tile columns, tile rows and words of the picture, which follow from
-   the size; and the glass, 0: words of 16 bits. All 0 when fresh: XurbalenzSession s = XURBALENZ_FRESH;
+   the size; and the glass, 0 for words of 16 bits, 1 for 32. All 0 when fresh: XurbalenzSession s = XURBALENZ_FRESH; A sync keeps the glass.
    Only xurbalenz_read_header changes it. A record that no calls could have made (a stray write, a stale copy, one of the numbers wrong) is
    answered 12 where a record is judged, and a good sync still starts it over. The bytes behind glass are never read. */
 typedef struct XurbalenzSession {
@@ -170,7 +170,17 @@ static inline XurbalenzSession xurbalenz_session_of(uint8_t headers, uint16_t wi
     return s;
 }
 
-/* The bytes of the record, 16. The name carries the layout: the two calls that take a record call this one too (see the end of this header), so
+/* A fresh session for a glass; any other glass makes a record that no calls could have made. */
+#define XURBALENZ_GLASS_16 0 /* pictures of 16-bit words: xurbalenz_read_frame */
+#define XURBALENZ_GLASS_32 1 /* pictures of 32-bit words: xurbalenz_read_frame_32 */
+static inline XurbalenzSession xurbalenz_open(uint8_t glass)
+{
+    XurbalenzSession s = XURBALENZ_FRESH;
+    s.glass = glass;
+    return s;
+}
+
+/* The bytes of the record, 16. The name carries the layout: the three calls that take a record call this one too (see the end of this header), so
    a program compiled with this header does not link with an archive whose record is laid out otherwise. */
 uint8_t xurbalenz_record_16(void);
 
@@ -254,7 +264,7 @@ uint8_t xurbalenz_read_header(XurbalenzSession *s, const uint8_t *message, size_
  * picture: 16-bit words, red 5 bits (high), green 6, blue 5, row by row, width words a row; at least width x height words. Lend the same
  * picture from frame to frame. y, cb, cr, scratch: work lists of 4,096 numbers each.
  *
- * Judged in this order: a record with all four headers (12); the four lists and the picture's length (2); then the blocks in wire order,
+ * Judged in this order: a record with all four headers (12); the four lists, the glass and the picture's length (2); then the blocks in wire order,
  * each: head there (1), kind due (3), blockLen against its fixed or least size (4), whole block there (1), fixed fields (5), counts (6),
  * blockLen against counts (4), contents; the two fields behind a region's rectangles come last of it (5). Contents of the tileset: the
  * quantisers (7), then tile by tile its head, kind, size and presence within the tileset's data (1, 3, 4, 1), lengths (4), quantiser
@@ -270,6 +280,14 @@ uint8_t xurbalenz_read_header(XurbalenzSession *s, const uint8_t *message, size_
 uint8_t xurbalenz_read_frame(XurbalenzSession *s, const uint8_t *message, size_t message_len, uint16_t *picture, size_t picture_len, int32_t *y,
                              size_t y_len, int32_t *cb, size_t cb_len, int32_t *cr, size_t cr_len, int32_t *scratch, size_t scratch_len,
                              size_t *tiles);
+
+/*
+ * The same on a glass of 32 bits. picture: 32-bit words, red x 65,536 + green x 256 + blue. All else is said at xurbalenz_read_frame: the same frame changes the
+ * same places. Each of the two answers 2 to a record of the other's glass.
+ */
+uint8_t xurbalenz_read_frame_32(XurbalenzSession *s, const uint8_t *message, size_t message_len, uint32_t *picture, size_t picture_len, int32_t *y,
+                                size_t y_len, int32_t *cb, size_t cb_len, int32_t *cr, size_t cr_len, int32_t *scratch, size_t scratch_len,
+                                size_t *tiles);
 
 /*
  * Reads one component's code into a list of 4,096 numbers, quantised, in the order of the code: HL1, LH1, HH1, HL2, LH2, HH2, HL3, LH3, HH3,
@@ -360,7 +378,7 @@ uint8_t xurbalenz_write_ack(uint16_t version, uint16_t source, uint32_t share, u
 
 /* ---- the record's layout ---- */
 
-/* What the names xurbalenz_read_header and xurbalenz_read_frame stand for from here on: the calls above, and the name of the layout. */
+/* What the names xurbalenz_read_header, xurbalenz_read_frame and xurbalenz_read_frame_32 stand for from here on: the calls above, and the name of the layout. */
 static inline uint8_t xurbalenz_read_header_16(XurbalenzSession *s, const uint8_t *message, size_t message_len)
 {
     (void)xurbalenz_record_16();
@@ -375,8 +393,17 @@ static inline uint8_t xurbalenz_read_frame_16(XurbalenzSession *s, const uint8_t
     return xurbalenz_read_frame(s, message, message_len, picture, picture_len, y, y_len, cb, cb_len, cr, cr_len, scratch, scratch_len, tiles);
 }
 
+static inline uint8_t xurbalenz_read_frame_32_16(XurbalenzSession *s, const uint8_t *message, size_t message_len, uint32_t *picture,
+                                                 size_t picture_len, int32_t *y, size_t y_len, int32_t *cb, size_t cb_len, int32_t *cr,
+                                                 size_t cr_len, int32_t *scratch, size_t scratch_len, size_t *tiles)
+{
+    (void)xurbalenz_record_16();
+    return xurbalenz_read_frame_32(s, message, message_len, picture, picture_len, y, y_len, cb, cb_len, cr, cr_len, scratch, scratch_len, tiles);
+}
+
 #define xurbalenz_read_header xurbalenz_read_header_16
 #define xurbalenz_read_frame xurbalenz_read_frame_16
+#define xurbalenz_read_frame_32 xurbalenz_read_frame_32_16
 
 /* ---- frames with the work lists in one struct ---- */
 
@@ -389,12 +416,19 @@ typedef struct XurbalenzWork {
     int32_t scratch[XURBALENZ_LIST];
 } XurbalenzWork;
 
-/* xurbalenz_read_frame with these lists: 2 can then only mean the picture. */
+/* xurbalenz_read_frame and xurbalenz_read_frame_32 with these lists: 2 can then only mean the picture. */
 static inline uint8_t xurbalenz_read_frame_with(XurbalenzSession *s, const uint8_t *message, size_t message_len, uint16_t *picture,
                                                 size_t picture_len, XurbalenzWork *work, size_t *tiles)
 {
     return xurbalenz_read_frame(s, message, message_len, picture, picture_len, work->y, XURBALENZ_LIST, work->cb, XURBALENZ_LIST, work->cr,
                                 XURBALENZ_LIST, work->scratch, XURBALENZ_LIST, tiles);
+}
+
+static inline uint8_t xurbalenz_read_frame_32_with(XurbalenzSession *s, const uint8_t *message, size_t message_len, uint32_t *picture,
+                                                   size_t picture_len, XurbalenzWork *work, size_t *tiles)
+{
+    return xurbalenz_read_frame_32(s, message, message_len, picture, picture_len, work->y, XURBALENZ_LIST, work->cb, XURBALENZ_LIST, work->cr,
+                                   XURBALENZ_LIST, work->scratch, XURBALENZ_LIST, tiles);
 }
 
 /* xurbalenz_write_frame with the lists y and scratch of it: 2 can then only mean the pixels. cb and cr are not touched. */

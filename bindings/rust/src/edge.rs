@@ -1,4 +1,4 @@
-//! The fourteen calls as the archive has them, with slices for pointers and lengths: the answer is the number (0 done, 1 to 13 refused) and the
+//! The fifteen calls as the archive has them, with slices for pointers and lengths: the answer is the number (0 done, 1 to 13 refused) and the
 //! value that goes with it.
 //!
 //! Everything here is safe. A Rust slice has what the archive asks of a pointer (never null, aligned, all there, no overlap with what is
@@ -24,6 +24,22 @@ mod archive {
             message: *const u8,
             message_len: usize,
             picture: *mut u16,
+            picture_len: usize,
+            y: *mut i32,
+            y_len: usize,
+            cb: *mut i32,
+            cb_len: usize,
+            cr: *mut i32,
+            cr_len: usize,
+            scratch: *mut i32,
+            scratch_len: usize,
+            tiles: *mut usize,
+        ) -> u8;
+        pub fn xurbalenz_read_frame_32(
+            s: *mut Session,
+            message: *const u8,
+            message_len: usize,
+            picture: *mut u32,
             picture_len: usize,
             y: *mut i32,
             y_len: usize,
@@ -142,6 +158,40 @@ pub fn read_frame(
     record_16();
     let number = unsafe {
         archive::xurbalenz_read_frame(
+            s,
+            message.as_ptr(),
+            message.len(),
+            picture.as_mut_ptr(),
+            picture.len(),
+            y.as_mut_ptr(),
+            y.len(),
+            cb.as_mut_ptr(),
+            cb.len(),
+            cr.as_mut_ptr(),
+            cr.len(),
+            scratch.as_mut_ptr(),
+            scratch.len(),
+            &mut tiles,
+        )
+    };
+    (number, tiles)
+}
+
+/// The same into a picture of 32-bit words. See [`crate::read_frame_32`].
+#[inline]
+pub fn read_frame_32(
+    s: &mut Session,
+    message: &[u8],
+    picture: &mut [u32],
+    y: &mut [i32],
+    cb: &mut [i32],
+    cr: &mut [i32],
+    scratch: &mut [i32],
+) -> (u8, usize) {
+    let mut tiles = 0;
+    record_16();
+    let number = unsafe {
+        archive::xurbalenz_read_frame_32(
             s,
             message.as_ptr(),
             message.len(),

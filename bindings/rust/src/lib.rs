@@ -5,10 +5,10 @@
 //!
 //! - [`Screen`] owns a session with its picture and work lists: the simplest way to show a stream.
 //! - [`Collector`] gathers header blocks and frames from a network card's bytes, however these are cut, and hands each on whole.
-//! - [`read_header`], [`read_frame`], [`read_component`] work in memory that you lend; they allocate nothing.
+//! - [`read_header`], [`read_frame`], [`read_frame_32`], [`read_component`] work in memory that you lend; they allocate nothing.
 //! - [`write_headers`], [`write_component`], [`write_frame`] return what they wrote; `.._into` write into memory that you lend.
 //! - [`Caps`], [`Ack`], [`read_ack_cap`] and [`write_ack_cap_into`] read and write what a client says it can do, and which frames it has shown.
-//! - [`edge`] has the fourteen calls with plain numbers, as C sees them.
+//! - [`edge`] has the fifteen calls with plain numbers, as C sees them.
 //!
 //! The crate needs neither std nor any other crate, but `alloc` for [`Screen`], [`Collector`], [`Caps`] and the writers that return a `Vec`. It links
 //! `target/staticlib/libxurbalenz.a` of the repository (make it with `tools/archive`), or the one in the folder `XURBALENZ_LIB_DIR`. That archive is
@@ -44,7 +44,7 @@ use alloc::{vec, vec::Vec};
 pub use capabilities::{read_ack_cap, write_ack_cap_into, Ack, Caps, CapsEntry, ACK_CAP_SIZE, ACK_SIZE};
 pub use collector::{Collector, Message};
 pub use refusal::{CodeRefusal, Refusal};
-pub use screen::Screen;
+pub use screen::{Screen, Word};
 
 /// Numbers in every component list and work list: a tile of 64 x 64.
 pub const LIST: usize = 4096;
@@ -148,7 +148,23 @@ const _: () = {
     assert!(offset_of!(Session, words) == 8 && offset_of!(Session, glass) == 12);
 };
 
+/// The size of a picture's words, which a session is opened for.
+#[derive(Clone, Copy, Debug, Default, PartialEq, Eq)]
+#[repr(u8)]
+pub enum Glass {
+    /// 5-6-5 words: [`read_frame`].
+    #[default]
+    Bits16 = 0,
+    /// Words of three bytes, red highest: [`read_frame_32`].
+    Bits32 = 1,
+}
+
 impl Session {
+    /// A fresh session for a glass; a sync keeps it.
+    pub const fn open(glass: Glass) -> Session {
+        Session { headers: 0, mode: 0, width: 0, height: 0, columns: 0, rows: 0, words: 0, glass: glass as u8 }
+    }
+
     /// A record that was kept somewhere, by its four numbers; the others are worked out from them. One that no calls could have made is answered
     /// [`Refusal::Order`] wherever a record is judged; a good sync starts it over.
     ///
@@ -275,6 +291,35 @@ pub fn read_frame(
     scratch: &mut [i32],
 ) -> Result<usize, Refusal> {
     let (number, tiles) = edge::read_frame(session, message, picture, y, cb, cr, scratch);
+    judged(number, tiles)
+}
+
+/// [`read_frame`] on a glass of 32 bits: the picture's words are red x 65,536 + green x 256 + blue. Each of the two refuses a session of the other's glass
+/// (`Buffer`).
+///
+/// ```
+/// use xurbalenz::{header_blocks, read_frame_32, read_header, write_frame, write_headers, Glass, Mode, Quant, Refusal, Session, LIST};
+/// let red = write_frame(1, 1, Mode::Rlgr1, Quant::DEFAULT, 0, &[255, 0, 0])?;
+/// let mut session = Session::open(Glass::Bits32);
+/// for block in header_blocks(&write_headers(1, 1, Mode::Rlgr1)?) {
+///     read_header(&mut session, block)?;
+/// }
+/// let mut picture = [0];
+/// let [mut y, mut cb, mut cr, mut scratch] = [[0; LIST]; 4];
+/// assert_eq!(read_frame_32(&mut session, &red, &mut picture, &mut y, &mut cb, &mut cr, &mut scratch), Ok(1));
+/// assert!(picture[0] >> 16 > 250);
+/// # Ok::<(), Refusal>(())
+/// ```
+pub fn read_frame_32(
+    session: &mut Session,
+    message: &[u8],
+    picture: &mut [u32],
+    y: &mut [i32],
+    cb: &mut [i32],
+    cr: &mut [i32],
+    scratch: &mut [i32],
+) -> Result<usize, Refusal> {
+    let (number, tiles) = edge::read_frame_32(session, message, picture, y, cb, cr, scratch);
     judged(number, tiles)
 }
 

@@ -2,7 +2,35 @@
 
 use alloc::{boxed::Box, vec, vec::Vec};
 
-use crate::{read_frame, read_header, Message, Refusal, Session, LIST};
+use crate::{read_frame, read_frame_32, read_header, Glass, Message, Refusal, Session, LIST};
+
+mod sealed {
+    use crate::{Glass, Refusal, Session};
+
+    pub trait Word: Copy + Default {
+        const GLASS: Glass;
+        fn frame(session: &mut Session, message: &[u8], picture: &mut [Self], lists: [&mut [i32]; 4]) -> Result<usize, Refusal>;
+    }
+}
+
+/// A picture's word: `u16` or `u32`.
+pub trait Word: sealed::Word {}
+impl Word for u16 {}
+impl Word for u32 {}
+
+impl sealed::Word for u16 {
+    const GLASS: Glass = Glass::Bits16;
+    fn frame(session: &mut Session, message: &[u8], picture: &mut [u16], [y, cb, cr, scratch]: [&mut [i32]; 4]) -> Result<usize, Refusal> {
+        read_frame(session, message, picture, y, cb, cr, scratch)
+    }
+}
+
+impl sealed::Word for u32 {
+    const GLASS: Glass = Glass::Bits32;
+    fn frame(session: &mut Session, message: &[u8], picture: &mut [u32], [y, cb, cr, scratch]: [&mut [i32]; 4]) -> Result<usize, Refusal> {
+        read_frame_32(session, message, picture, y, cb, cr, scratch)
+    }
+}
 
 /// A session, the picture it draws into, and the work lists that frames need.
 ///
@@ -27,9 +55,9 @@ use crate::{read_frame, read_header, Message, Refusal, Session, LIST};
 /// # Ok::<(), Refusal>(())
 /// ```
 #[derive(Clone, Debug)]
-pub struct Screen {
+pub struct Screen<W = u16> {
     session: Session,
-    picture: Vec<u16>,
+    picture: Vec<W>,
     width: usize,
     height: usize,
     y: Box<[i32]>,
@@ -41,8 +69,21 @@ pub struct Screen {
 impl Screen {
     /// A fresh session with no picture yet.
     pub fn new() -> Screen {
+        Screen::open()
+    }
+}
+
+impl Screen<u32> {
+    /// The same with a picture of 32-bit words: red x 65,536 + green x 256 + blue.
+    pub fn new_32() -> Screen<u32> {
+        Screen::open()
+    }
+}
+
+impl<W: Word> Screen<W> {
+    fn open() -> Screen<W> {
         let list = || vec![0; LIST].into_boxed_slice();
-        Screen { session: Session::default(), picture: Vec::new(), width: 0, height: 0, y: list(), cb: list(), cr: list(), scratch: list() }
+        Screen { session: Session::open(W::GLASS), picture: Vec::new(), width: 0, height: 0, y: list(), cb: list(), cr: list(), scratch: list() }
     }
 
     /// Reads one header block: see [`read_header`].
@@ -57,14 +98,14 @@ impl Screen {
     // A picture of the channel's size; kept if it has that size already.
     fn fit(&mut self, width: usize, height: usize) {
         if (width, height) != (self.width, self.height) {
-            self.picture = vec![0; width * height];
+            self.picture = vec![W::default(); width * height];
             (self.width, self.height) = (width, height);
         }
     }
 
-    /// Reads one frame and draws it: how many tiles it lists. See [`read_frame`].
+    /// Reads one frame and draws it: how many tiles it lists. See [`read_frame`] and [`read_frame_32`].
     pub fn frame(&mut self, message: &[u8]) -> Result<usize, Refusal> {
-        read_frame(&mut self.session, message, &mut self.picture, &mut self.y, &mut self.cb, &mut self.cr, &mut self.scratch)
+        W::frame(&mut self.session, message, &mut self.picture, [&mut self.y, &mut self.cb, &mut self.cr, &mut self.scratch])
     }
 
     /// Reads a message that a [`Collector`](crate::Collector) handed on, by the call that it is for.
@@ -75,8 +116,8 @@ impl Screen {
         }
     }
 
-    /// The picture: 5-6-5 words row by row, [`width`](Screen::width) words a row.
-    pub fn picture(&self) -> &[u16] {
+    /// The picture: words (5-6-5 where they have 16 bits) row by row, [`width`](Screen::width) words a row.
+    pub fn picture(&self) -> &[W] {
         &self.picture
     }
 

@@ -119,7 +119,8 @@ unfolding frameReading
 answer-done n k m e h = case-yes _ _ _ _ (eq-eqb n 0 e) (ap Done h)
 
 -- what is judged before the picture is touched
-module _ (word : ℕ) (s : Session) (p : ℕ) (m : List ℕ) (y cb cr tmp : List ℤ) (f : ℕ) (e : f ≡ callFault word s p (length y) (length cb) (length cr) (length tmp)) where
+module _ (word : ℕ) (s : Session) (p : ℕ) (m : List ℕ) (y cb cr tmp : List ℤ) (f : ℕ)
+    (e : f ≡ callFault word s p (length y) (length cb) (length cr) (length tmp)) where
   -- 12 or 2: nothing was touched
   pub judged-early : (f ≡ 0 → ⊥) → FrameJudged word s p m y cb cr tmp y cb cr tmp f
   unfolding frameNumber frameList
@@ -251,13 +252,15 @@ pass-is s m size e = rw e
 -- a pass with those numbers shows the frame
 pub pass-shown :
     (glass : ℕ) (s : Session) (m : List ℕ) (p : Pass) (pic pic′ : List ℕ) → p ≡ passOf s m →
-    pic′ ≡ tilesDrawn (rectsOf m 14) (rectCount m 14) (tileWord glass (p .mode) (setAt m (p .sp))) (p .w) (p .h) (tilesIn (dataOf m (p .sp)) (tileCount m (p .sp)) 0) pic →
+    pic′ ≡ tilesDrawn (rectsOf m 14) (rectCount m 14) (tileWord glass (p .mode) (setAt m (p .sp))) (p .w) (p .h)
+    (tilesIn (dataOf m (p .sp)) (tileCount m (p .sp)) 0) pic →
     pic′ ≡ framed glass (s .mode) (s .width) (s .height) m pic
 unfolding framed frameTiles
 pass-shown glass s m p pic pic′ e d =
     d
     ∙ ap (λ (q : Pass).
-    tilesDrawn (rectsOf m 14) (rectCount m 14) (tileWord glass (q .mode) (setAt m (q .sp))) (q .w) (q .h) (tilesIn (dataOf m (q .sp)) (tileCount m (q .sp)) 0) pic) e
+    tilesDrawn (rectsOf m 14) (rectCount m 14) (tileWord glass (q .mode) (setAt m (q .sp))) (q .w) (q .h)
+    (tilesIn (dataOf m (q .sp)) (tileCount m (q .sp)) 0) pic) e
 
 pub pass-room : (s : Session) (m : List ℕ) (p : Pass) (n : ℕ) → p ≡ passOf s m → s .height * s .width ≤ n → p .h * p .w ≤ n
 pass-room s m p n e l = subst (λ (q : Pass). q .h * q .w ≤ n) (sym e) l

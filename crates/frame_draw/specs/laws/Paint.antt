@@ -44,7 +44,8 @@ module _ (ends row : List ℕ) (w tx py : ℕ) where
   unfolding far
   put-none pic = record { most = omega arith; end-is = refl; len = refl; left = rw sub-zero }
 
-  module _ (first : List ℕ) (end x next : ℕ) (pic then : List ℕ) (g : Putting ends row w tx py first end x pic) (e : next ≡ max end (getD ends x 0)) (l : x < 64) where
+  module _ (first : List ℕ) (end x next : ℕ) (pic then : List ℕ) (g : Putting ends row w tx py first end x pic)
+      (e : next ≡ max end (getD ends x 0)) (l : x < 64) where
     next-is : next ≡ far ends (x + 1)
     next-is = let n = far-next ends x in omega (arith, g .end-is)
 

@@ -19,17 +19,31 @@ returns : tie.Need-returns
 returns c = judged-early _ _ _ _ _ _ _ _ _ (c .before .call-judge .ensures) (c .if1 .taken)
 
 message-fault-requires : tie.Need-message-fault-requires
-message-fault-requires c κs = let g = good (c .before) in (ready-good (c .before .before .before .before .args .s) (g .is-ready) .right, g .lists .tmp-len)
+message-fault-requires c κs =
+    let p = c .before in
+    let q = p .before .before .before in
+    let g = good p in (ready-good (q .args .s) (g .is-ready) .right, g .lists .tmp-len)
 
 clear-all-requires : tie.Need-clear-all-requires
-clear-all-requires c κs = lists-kept _ _ _ _ _ _ _ _ (good (c .before .before .before .before .before .before .before .before) .lists) refl refl refl (c .before .before .before .before .before .before .message-fault .kept .1 .1 .0)
+clear-all-requires c κs =
+    let p = c .before .before .before .before .before .before in
+    let q = p .before .before in
+    lists-kept _ _ _ _ _ _ _ _ (good q .lists) refl refl refl (p .message-fault .kept .1 .1 .0)
 
 returns-2 : tie.Need-returns-2
 returns-2 c =
-    judged-refused _ _ _ _ _ _ _ _ _ (c .before .before .before .before .before .before .before .before .before .before .before .before .before .before .call-judge .ensures) (c .before .before .before .before .before .before .before .before .before .before .before .before .before .if1 .left) _ _ _ _ _ (c .before .before .before .before .before .before .before .before .before .before .before .message-fault .ensures) (c .before .before .before .before .clear-all .ensures)
+    let p = c .before .before .before .before in
+    let q = p .before .before .before .before .before .before .before in
+    let r = q .before .before in
+    let t = r .before in
+    judged-refused _ _ _ _ _ _ _ _ _ (t .call-judge .ensures) (r .if1 .left) _ _ _ _ _ (q .message-fault .ensures) (p .clear-all .ensures)
 
 returns-3 : tie.Need-returns-3
-returns-3 c = judged-fine _ _ _ _ _ _ _ _ _ (c .before .before .before .before .before .call-judge .ensures) (c .before .before .before .before .if1 .left) _ _ _ _ _ (c .before .before .message-fault .ensures) (c .if2 .left)
+returns-3 c =
+    let p = c .before .before in
+    let q = p .before .before in
+    let r = q .before in
+    judged-fine _ _ _ _ _ _ _ _ _ (r .call-judge .ensures) (q .if1 .left) _ _ _ _ _ (p .message-fault .ensures) (c .if2 .left)
 
 pub judge-frame-spec : {M : Type 1} → statement M
 judge-frame-spec =

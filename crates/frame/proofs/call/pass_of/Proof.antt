@@ -9,13 +9,16 @@ use Rattle.frame.proofs.call.pass_of.Tie as tie
 
 le32-at-requires : tie.Need-le32-at-requires
 le32-at-requires c κs =
-    let a = c .before .before .before .args in
-    let g = message-good (a .s .width) (a .s .height) (a .s .mode) (now (a .m)) (c .before .before .before .pre) in
+    let p = c .before .before .before in
+    let a = p .args in
+    let g = message-good (a .s .width) (a .s .height) (a .s .mode) (now (a .m)) (p .pre) in
     omega (arith, g .front .region .there, g .front .region .size)
 
 returns : tie.Need-returns
 unfolding sizeAt
-returns c = pass-is (c .before .before .before .before .args .s) (now (c .before .before .before .before .args .m)) _ (c .le32-at .ensures .0)
+returns c =
+    let p = c .before .before .before .before in
+    pass-is (p .args .s) (now (p .args .m)) _ (c .le32-at .ensures .0)
 
 pub pass-of-spec : {M : Type 1} → statement M
 pass-of-spec = tie.close (tie.spec (λ c. search needs) (λ c. search needs) le32-at-requires (λ c. search needs) returns)
