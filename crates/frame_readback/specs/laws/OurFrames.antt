@@ -18,7 +18,7 @@ use Rattle.wire.specs.Wrote.{writingNumber, writingLength}
 use Rattle.wire.specs.laws.Wrote.{wrote-bytes}
 use Rattle.wire.specs.declared.Writing.{Writing}
 use Rattle.whole.specs.Row.{_⇒_∣_}
-use Rattle.whole.specs.laws.Row.{passes, fails, both, held, goes-on, case-is, case-no}
+use Rattle.whole.specs.laws.Row.{passes, fails, both, held, goes-on, case-is}
 use Rattle.frame_layout.specs.Bytes.{Tile, setCount, tilesOf, frameOf, endOf}
 use Rattle.quants.specs.Quants.{quantFor, setsOf, chromaIndex, oneFor}
 use Rattle.quants.specs.declared.Quants.{Quants}
@@ -191,8 +191,9 @@ module _ (p : List ℕ) (w h mode : ℕ) (q : Quants) (index n : ℕ) (pick : �
   unfolding wordIn
   shown-word px py old i a b l e =
       shown-as px py old _ a b (its-tile p w h mode q px py a b n pick i l e)
-      ∙ subst (λ (k : ℕ). tileWord mode (setAt m (setPlace m)) (tileOver p w h mode q k) (64 * (py % 64) + px % 64) ≡ wordOver p w h q k (64 * (py % 64) + px % 64)) e
-      (word-back i (64 * (py % 64) + px % 64) l)
+      ∙ subst (λ (k : ℕ).
+      tileWord mode (setAt m (setPlace m)) (tileOver p w h mode q k) (64 * (py % 64) + px % 64) ≡ wordOver p w h q k (64 * (py % 64) + px % 64))
+      e (word-back i (64 * (py % 64) + px % 64) l)
 
   shown-other : (px py old : ℕ) → px < w → py < h → ((i : ℕ) → i < n → pick i ≡ tileNo w px py → ⊥) →
       (inRegion (rectsOf m 14) (rectCount m 14) px py ⇒ wordIn (tileWord mode (setAt m (setPlace m))) px py (lastTile (frameTiles m) px py) old ∣ old) ≡ old
@@ -218,8 +219,10 @@ module _ (p : List ℕ) (w h mode : ℕ) (q : Quants) (index n : ℕ) (pick : �
     shown = record {
       number = number-0;
       tiles = accepted (recordOf 4 w h mode) m pic y cb cr tmp pic′ y′ cb′ cr′ tmp′ r done number-0 .counted ∙ taken .count;
-      word = λ px py a b i l e. shown-pixel (recordOf 4 w h mode) m pic y cb cr tmp pic′ y′ cb′ cr′ tmp′ r done number-0 px py a b ∙ shown-word px py _ i a b l e;
-      others = λ px py a b f. shown-pixel (recordOf 4 w h mode) m pic y cb cr tmp pic′ y′ cb′ cr′ tmp′ r done number-0 px py a b ∙ shown-other px py _ a b f;
+      word = λ px py a b i l e.
+          shown-pixel (recordOf 4 w h mode) m pic y cb cr tmp pic′ y′ cb′ cr′ tmp′ r done number-0 px py a b ∙ shown-word px py _ i a b l e;
+      others = λ px py a b f.
+          shown-pixel (recordOf 4 w h mode) m pic y cb cr tmp pic′ y′ cb′ cr′ tmp′ r done number-0 px py a b ∙ shown-other px py _ a b f;
       past = shown-past (recordOf 4 w h mode) m pic y cb cr tmp pic′ y′ cb′ cr′ tmp′ r done number-0;
       long = shown-length (recordOf 4 w h mode) m pic y cb cr tmp pic′ y′ cb′ cr′ tmp′ r done number-0;
     }

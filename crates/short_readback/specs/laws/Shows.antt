@@ -64,7 +64,8 @@ module _ (old new ks : List ℕ) (w h mode : ℕ) (q : Quants) (a : Acceptable w
     word-new px py x y true e = let z = listed-is (tileNo w px py) ks e in s .word px py x y (z .place) (z .inside) (z .is)
     word-new px py x y false e =
         s .others px py x y (λ i l z. yes-not-no (sym (is-listed (tileNo w px py) ks i l z) ∙ e))
-        ∙ (o px py x y ∙ same-word old new w h (tileNo w px py) (left-out (tileNo w px py) (tile-among new w h mode q px py x y) e) q (64 * (py % 64) + px % 64))
+        ∙ (o px py x y
+        ∙ same-word old new w h (tileNo w px py) (left-out (tileNo w px py) (tile-among new w h mode q px py x y) e) q (64 * (py % 64) + px % 64))
 
     pub now-shows : ShortShown new w h q (length ks) pic pic′ r
     now-shows = record {
