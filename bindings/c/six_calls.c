@@ -29,19 +29,19 @@ static int32_t y[XURBALENZ_LIST], cb[XURBALENZ_LIST], cr[XURBALENZ_LIST], scratc
 
 static void constants(void)
 {
-    static const char *const words[16] = {"done",  "cut",   "buffer", "kind",    "length", "field", "too big",
+    static const char *const words[18] = {"done",  "cut",   "buffer", "kind",    "length", "field", "too big",
                                           "quant", "place", "range",  "overrun", "tail",   "order", "room",
-                                          "version not taken", "no setting"};
-    static const int numbers[16] = {XURBALENZ_DONE,  XURBALENZ_CUT,   XURBALENZ_BUFFER, XURBALENZ_KIND,    XURBALENZ_LENGTH, XURBALENZ_FIELD, XURBALENZ_TOO_BIG,
+                                          "version not taken", "no setting", "out of order", "tile missing"};
+    static const int numbers[18] = {XURBALENZ_DONE,  XURBALENZ_CUT,   XURBALENZ_BUFFER, XURBALENZ_KIND,    XURBALENZ_LENGTH, XURBALENZ_FIELD, XURBALENZ_TOO_BIG,
                                     XURBALENZ_QUANT, XURBALENZ_PLACE, XURBALENZ_RANGE,  XURBALENZ_OVERRUN, XURBALENZ_TAIL,   XURBALENZ_ORDER, XURBALENZ_ROOM,
-                                    XURBALENZ_VERSION_NOT_TAKEN, XURBALENZ_NO_SETTING};
+                                    XURBALENZ_VERSION_NOT_TAKEN, XURBALENZ_NO_SETTING, XURBALENZ_OUT_OF_ORDER, XURBALENZ_TILE_MISSING};
     char version[40];
     int i;
-    for (i = 0; i < 16; i++) CHECK(numbers[i] == i && strcmp(xurbalenz_word((uint8_t)i), words[i]) == 0);
-    CHECK(strcmp(xurbalenz_word(16), "unknown") == 0 && strcmp(xurbalenz_word(255), "unknown") == 0);
-    for (i = 0; i < 16; i++) CHECK(strlen(xurbalenz_says((uint8_t)i)) > 10 && strcmp(xurbalenz_says((uint8_t)i), xurbalenz_says(16)) != 0);
+    for (i = 0; i < 18; i++) CHECK(numbers[i] == i && strcmp(xurbalenz_word((uint8_t)i), words[i]) == 0);
+    CHECK(strcmp(xurbalenz_word(18), "unknown") == 0 && strcmp(xurbalenz_word(255), "unknown") == 0);
+    for (i = 0; i < 18; i++) CHECK(strlen(xurbalenz_says((uint8_t)i)) > 10 && strcmp(xurbalenz_says((uint8_t)i), xurbalenz_says(18)) != 0);
     CHECK(strcmp(xurbalenz_says(XURBALENZ_PLACE), "a tile starts outside the channel") == 0);
-    CHECK(strcmp(xurbalenz_says(16), "a number that has no word here") == 0 && xurbalenz_says(255) == xurbalenz_says(16));
+    CHECK(strcmp(xurbalenz_says(18), "a number that has no word here") == 0 && xurbalenz_says(255) == xurbalenz_says(18));
     sprintf(version, "%d.%d.%d", XURBALENZ_VERSION / 10000, XURBALENZ_VERSION / 100 % 100, XURBALENZ_VERSION % 100);
     CHECK(strcmp(version, XURBALENZ_VERSION_TEXT) == 0);
     CHECK(XURBALENZ_RECORD_LAYOUT && sizeof session == 16 && xurbalenz_record_16() == 16);

@@ -1,5 +1,5 @@
 /*
- * xurbalenz.h - RemoteFX (MS-RDPRFX) pictures for the door glass: fifteen calls, proved for every input.
+ * xurbalenz.h - RemoteFX (MS-RDPRFX) pictures for the door glass: seventeen calls, proved for every input.
  *
  * Link target/staticlib/libxurbalenz.a (made by `tools/archive`, x86-64). Its functions read four header blocks and whole frames into a
  * lent picture of 16-bit or 32-bit words, and write headers, components and frames; and they gather header blocks and frames from a network card's
@@ -7,7 +7,7 @@
  * and they read and write what a client says of its capabilities and the frames that it acknowledges.
  *
  * WHAT YOU CAN RELY ON
- *  - Every call takes any bytes whatever and comes back with a number: 0 done, 1 to 13 refused (below). Nothing has to be checked first.
+ *  - Every call takes any bytes whatever and comes back with a number: 0 done, any other refused (below). Nothing has to be checked first.
  *  - A frame is drawn whole or not at all. After a refusal the picture and the record are what they were.
  *  - The number is that of the first fault, in the order given at each call.
  *  - What each lent region holds afterwards is said at each call, for every answer. The value behind the last pointer (tiles, bits, size),
@@ -16,7 +16,7 @@
  *    collector and its store.
  *
  * WHAT YOU LEND
- *  - A slice is a pointer and a length in elements (not bytes): uint8_t, uint16_t or int32_t, each aligned as its type asks.
+ *  - A slice is a pointer and a length in elements (not bytes): uint8_t, uint16_t, uint32_t or int32_t, each aligned as its type asks.
  *  - A pointer is never null, also where the length is 0: pass the address of any object of that type then.
  *  - The whole slice must be there to read, and to write where the pointer is not const. Regions lent to one call must not overlap, and
  *    nobody else may write them (or read those that the call writes) during the call.
@@ -74,13 +74,15 @@ extern "C" {
 #define XURBALENZ_ROOM 13    /* the lent output is shorter than what is to be written, or the store than what is to be gathered */
 #define XURBALENZ_VERSION_NOT_TAKEN 14 /* settings of a version that this reader does not take */
 #define XURBALENZ_NO_SETTING 15        /* settings that have a version and nothing behind it */
+#define XURBALENZ_OUT_OF_ORDER 16      /* a list of tiles in which some number is not above the one before it */
+#define XURBALENZ_TILE_MISSING 17      /* a list of tiles without one that differs between the pictures */
 
 /* The word for a number, for a log line. A number that no call gives is "unknown". */
 static inline const char *xurbalenz_word(uint8_t number)
 {
     static const char *const words[] = {"done",  "cut",   "buffer", "kind",    "length", "field", "too big",
                                         "quant", "place", "range",  "overrun", "tail",   "order", "room",
-                                        "version not taken", "no setting"};
+                                        "version not taken", "no setting", "out of order", "tile missing"};
     return number < sizeof words / sizeof words[0] ? words[number] : "unknown";
 }
 
@@ -102,7 +104,9 @@ static inline const char *xurbalenz_says(uint8_t number)
                                             "a header that is not due, or a frame before all four headers",
                                             "the output or the store is shorter than what goes into it",
                                             "settings of a version that this reader does not take",
-                                            "settings that have a version and nothing behind it"};
+                                            "settings that have a version and nothing behind it",
+                                            "a list of tiles that does not rise",
+                                            "a tile that changed is not listed"};
     return number < sizeof sentences / sizeof sentences[0] ? sentences[number] : "a number that has no word here";
 }
 
@@ -335,6 +339,48 @@ uint8_t xurbalenz_write_headers(size_t width, size_t height, uint8_t mode, uint8
 uint8_t xurbalenz_write_frame(size_t width, size_t height, uint8_t mode, const uint8_t quant[10], uint32_t index, const uint8_t *pixels,
                               size_t pixels_len, int32_t *list, size_t list_len, int32_t *scratch, size_t scratch_len, uint8_t *out,
                               size_t out_len, size_t *size);
+
+/* ---- sending only what changed ---- */
+
+/*
+ * Tiles are numbered row by row from 0: there are XURBALENZ_TILES(width, height). old_pixels and new_pixels are pictures of one size, three bytes a
+ * pixel, R, G, B, row by row, each exactly 3 x width x height. picks is a list of tile numbers: those that are to be sent. A tile differs if some pixel
+ * of it does.
+ *
+ * If the glass shows what a full frame of the old picture gives, a short frame of the tiles that differ leaves it showing what a full frame of the new one
+ * would give, with the same quantisers, mode and session. Of a glass that shows something else nothing is said: send a full frame first.
+ */
+
+/*
+ * Judges such a list, whoever made it. Nothing is changed.
+ * Judged in this order: size (5), either picture's length (2), then over the whole list: a number that is not above the one before it (16), a number that no
+ * tile has (8), a tile that differs and is not listed (17). A tile that does not differ may be listed. The empty list is in order.
+ */
+uint8_t xurbalenz_check_plan(size_t width, size_t height, const uint8_t *old_pixels, size_t old_pixels_len, const uint8_t *new_pixels,
+                             size_t new_pixels_len, const uint32_t *picks, size_t picks_len);
+
+/*
+ * Makes the shortest list that xurbalenz_check_plan takes: the numbers of the tiles that differ. A list of XURBALENZ_TILES always has room.
+ * Judged in this order: size (5), either picture's length (2), a list with no room for the numbers (13).
+ * Afterwards: done - *count is how many there are, picks[0 .. *count) has them, those past it are untouched; refused - picks is untouched, *count is 0.
+ */
+uint8_t xurbalenz_make_plan(size_t width, size_t height, const uint8_t *old_pixels, size_t old_pixels_len, const uint8_t *new_pixels,
+                            size_t new_pixels_len, uint32_t *picks, size_t picks_len, size_t *count);
+
+/*
+ * Writes one frame of the listed tiles of the new picture, in the list's order: one rectangle over the whole channel, luma's ten quantisers for Y and
+ * chroma's for Cb and Cr, two sets where they differ. With all tiles listed and luma equal to chroma it writes what xurbalenz_write_frame writes; with none
+ * it writes 72 bytes (77 with two sets). XURBALENZ_FRAME_ROOM is always enough.
+ *
+ * Judged in this order: size or mode (5), a quantiser outside 6 to 15 (7), either picture's length, list_len or scratch_len (2), then the list as
+ * xurbalenz_check_plan judges it (16, 8, 17), then component by component of the listed tiles 9 and 6, which no picture leads to, then out (13).
+ *
+ * Afterwards, besides what holds for every writer: list and scratch are untouched on 5, 7 and 2, and hold only zeros after every other answer, done too.
+ */
+uint8_t xurbalenz_write_frame_short(size_t width, size_t height, uint8_t mode, const uint8_t luma[10], const uint8_t chroma[10], uint32_t index,
+                                    const uint8_t *old_pixels, size_t old_pixels_len, const uint8_t *new_pixels, size_t new_pixels_len,
+                                    const uint32_t *picks, size_t picks_len, int32_t *list, size_t list_len, int32_t *scratch, size_t scratch_len,
+                                    uint8_t *out, size_t out_len, size_t *size);
 
 /* ---- capabilities and acknowledgements ---- */
 

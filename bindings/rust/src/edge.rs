@@ -1,4 +1,4 @@
-//! The fifteen calls as the archive has them, with slices for pointers and lengths: the answer is the number (0 done, 1 to 13 refused) and the
+//! The seventeen calls as the archive has them, with slices for pointers and lengths: the answer is the number (0 done, any other refused) and the
 //! value that goes with it.
 //!
 //! Everything here is safe. A Rust slice has what the archive asks of a pointer (never null, aligned, all there, no overlap with what is
@@ -82,6 +82,48 @@ mod archive {
         ) -> u8;
         pub fn xurbalenz_collect_reset(c: *mut Collector);
         pub fn xurbalenz_record_16() -> u8;
+        pub fn xurbalenz_check_plan(
+            width: usize,
+            height: usize,
+            old_pixels: *const u8,
+            old_pixels_len: usize,
+            new_pixels: *const u8,
+            new_pixels_len: usize,
+            picks: *const u32,
+            picks_len: usize,
+        ) -> u8;
+        pub fn xurbalenz_make_plan(
+            width: usize,
+            height: usize,
+            old_pixels: *const u8,
+            old_pixels_len: usize,
+            new_pixels: *const u8,
+            new_pixels_len: usize,
+            picks: *mut u32,
+            picks_len: usize,
+            count: *mut usize,
+        ) -> u8;
+        pub fn xurbalenz_write_frame_short(
+            width: usize,
+            height: usize,
+            mode: u8,
+            luma: *const [u8; 10],
+            chroma: *const [u8; 10],
+            index: u32,
+            old_pixels: *const u8,
+            old_pixels_len: usize,
+            new_pixels: *const u8,
+            new_pixels_len: usize,
+            picks: *const u32,
+            picks_len: usize,
+            list: *mut i32,
+            list_len: usize,
+            scratch: *mut i32,
+            scratch_len: usize,
+            out: *mut u8,
+            out_len: usize,
+            size: *mut usize,
+        ) -> u8;
         pub fn xurbalenz_read_caps(message: *const u8, message_len: usize, flags: *mut u32, n: *mut u8, entries: *mut [u8; 4]) -> u8;
         pub fn xurbalenz_write_caps(flags: u32, n: u8, entries: *const [u8; 4], out: *mut u8, out_len: usize, size: *mut usize) -> u8;
         pub fn xurbalenz_read_ack_cap(message: *const u8, message_len: usize, count: *mut u32) -> u8;
@@ -259,6 +301,105 @@ pub fn write_frame(
             index,
             pixels.as_ptr(),
             pixels.len(),
+            list.as_mut_ptr(),
+            list.len(),
+            scratch.as_mut_ptr(),
+            scratch.len(),
+            out.as_mut_ptr(),
+            out.len(),
+            &mut size,
+        )
+    };
+    (number, size)
+}
+
+/// Judges a list of the tiles that are to be sent: the number. Tiles are numbered row by row from 0; 16 is a list that does not rise, 8 a number that
+/// no tile has, 17 a tile that differs and is not listed.
+///
+/// ```
+/// use xurbalenz::edge::{check_plan, make_plan};
+/// let (old, new) = ([9; 3 * 65], [[9; 3 * 64].as_slice(), &[8; 3]].concat()); // 65 pixels in a row: two tiles, and the second differs
+/// assert_eq!([&[][..], &[1], &[0, 1], &[1, 1], &[2]].map(|picks| check_plan(65, 1, &old, &new, picks)), [17, 0, 0, 16, 8]);
+/// let mut picks = [7; 2];
+/// assert_eq!((make_plan(65, 1, &old, &new, &mut picks), picks), ((0, 1), [1, 7]));
+/// ```
+#[inline]
+pub fn check_plan(width: usize, height: usize, old_pixels: &[u8], new_pixels: &[u8], picks: &[u32]) -> u8 {
+    unsafe {
+        archive::xurbalenz_check_plan(
+            width,
+            height,
+            old_pixels.as_ptr(),
+            old_pixels.len(),
+            new_pixels.as_ptr(),
+            new_pixels.len(),
+            picks.as_ptr(),
+            picks.len(),
+        )
+    }
+}
+
+/// Lists the tiles that differ: the number, and how many there are (0 when refused). It is the shortest list that [`check_plan`] takes.
+#[inline]
+pub fn make_plan(width: usize, height: usize, old_pixels: &[u8], new_pixels: &[u8], picks: &mut [u32]) -> (u8, usize) {
+    let mut count = 0;
+    let number = unsafe {
+        archive::xurbalenz_make_plan(
+            width,
+            height,
+            old_pixels.as_ptr(),
+            old_pixels.len(),
+            new_pixels.as_ptr(),
+            new_pixels.len(),
+            picks.as_mut_ptr(),
+            picks.len(),
+            &mut count,
+        )
+    };
+    (number, count)
+}
+
+/// Writes one frame of the listed tiles of the new picture: the number, and the bytes written (0 when refused). A glass that shows what a full frame of
+/// the old picture gives then shows what a full frame of the new one would give, with the same quantisers, mode and session.
+///
+/// ```
+/// use xurbalenz::{edge::write_frame_short, Quant};
+/// let (mut list, mut scratch, mut out) = ([0; 4096], [0; 4096], [0; 100]);
+/// let Quant(q) = Quant::DEFAULT;
+/// assert_eq!(write_frame_short(1, 1, 1, &q, &q, 0, &[9; 3], &[9; 3], &[], &mut list, &mut scratch, &mut out), (0, 72)); // nothing changed
+/// assert_eq!(write_frame_short(1, 1, 1, &q, &q, 0, &[9; 3], &[8; 3], &[], &mut list, &mut scratch, &mut out), (17, 0));
+/// ```
+#[allow(clippy::too_many_arguments)] // the archive's own list
+#[inline]
+pub fn write_frame_short(
+    width: usize,
+    height: usize,
+    mode: u8,
+    luma: &[u8; 10],
+    chroma: &[u8; 10],
+    index: u32,
+    old_pixels: &[u8],
+    new_pixels: &[u8],
+    picks: &[u32],
+    list: &mut [i32],
+    scratch: &mut [i32],
+    out: &mut [u8],
+) -> (u8, usize) {
+    let mut size = 0;
+    let number = unsafe {
+        archive::xurbalenz_write_frame_short(
+            width,
+            height,
+            mode,
+            luma,
+            chroma,
+            index,
+            old_pixels.as_ptr(),
+            old_pixels.len(),
+            new_pixels.as_ptr(),
+            new_pixels.len(),
+            picks.as_ptr(),
+            picks.len(),
             list.as_mut_ptr(),
             list.len(),
             scratch.as_mut_ptr(),

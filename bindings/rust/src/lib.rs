@@ -8,7 +8,7 @@
 //! - [`read_header`], [`read_frame`], [`read_frame_32`], [`read_component`] work in memory that you lend; they allocate nothing.
 //! - [`write_headers`], [`write_component`], [`write_frame`] return what they wrote; `.._into` write into memory that you lend.
 //! - [`Caps`], [`Ack`], [`read_ack_cap`] and [`write_ack_cap_into`] read and write what a client says it can do, and which frames it has shown.
-//! - [`edge`] has the fifteen calls with plain numbers, as C sees them.
+//! - [`edge`] has the seventeen calls with plain numbers, as C sees them; the checker, the planner and the short frame's writer stand only there.
 //!
 //! The crate needs neither std nor any other crate, but `alloc` for [`Screen`], [`Collector`], [`Caps`] and the writers that return a `Vec`. It links
 //! `target/staticlib/libxurbalenz.a` of the repository (make it with `tools/archive`), or the one in the folder `XURBALENZ_LIB_DIR`. That archive is

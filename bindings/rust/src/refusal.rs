@@ -56,6 +56,10 @@ pub enum Refusal {
     VersionNotTaken,
     /// 15: settings that have a version and nothing behind it.
     NoSetting,
+    /// 16: a list of tiles in which some number is not above the one before it.
+    OutOfOrder,
+    /// 17: a list of tiles without one that differs between the pictures.
+    TileMissing,
     /// A number that this crate has no word for. The archive that this crate was written for never gives one: its answers are proved equal to
     /// definitions that have only the numbers above, and 0. A later archive might, and a refusal it is then too.
     Unknown(u8),
@@ -88,6 +92,8 @@ impl Refusal {
             13 => Refusal::Room,
             14 => Refusal::VersionNotTaken,
             15 => Refusal::NoSetting,
+            16 => Refusal::OutOfOrder,
+            17 => Refusal::TileMissing,
             other => Refusal::Unknown(other),
         })
     }
@@ -110,6 +116,8 @@ impl Refusal {
             Refusal::Room => 13,
             Refusal::VersionNotTaken => 14,
             Refusal::NoSetting => 15,
+            Refusal::OutOfOrder => 16,
+            Refusal::TileMissing => 17,
             Refusal::Unknown(number) => number,
         }
     }
@@ -132,6 +140,8 @@ impl Refusal {
             Refusal::Room => ("room", "the output or the store is shorter than what goes into it"),
             Refusal::VersionNotTaken => ("version not taken", "settings of a version that this reader does not take"),
             Refusal::NoSetting => ("no setting", "settings that have a version and nothing behind it"),
+            Refusal::OutOfOrder => ("out of order", "a list of tiles that does not rise"),
+            Refusal::TileMissing => ("tile missing", "a tile that changed is not listed"),
             Refusal::Unknown(_) => ("unknown", "a number that has no word here"),
         }
     }

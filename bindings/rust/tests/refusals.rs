@@ -416,12 +416,17 @@ fn every_number_has_its_word() {
     assert_eq!(refusals.iter().map(|r| r.to_string()).collect::<BTreeSet<_>>().len(), 13);
     // what no call gives still has an answer
     assert_eq!(Refusal::of(0), None);
-    // those of the settings' reader have words too
-    for (number, refusal, word) in [(14, Refusal::VersionNotTaken, "version not taken"), (15, Refusal::NoSetting, "no setting")] {
+    // those of the settings' reader have words too, and those of a list of tiles
+    for (number, refusal, word) in [
+        (14, Refusal::VersionNotTaken, "version not taken"),
+        (15, Refusal::NoSetting, "no setting"),
+        (16, Refusal::OutOfOrder, "out of order"),
+        (17, Refusal::TileMissing, "tile missing"),
+    ] {
         assert_eq!(Refusal::of(number), Some(refusal));
         assert_eq!((refusal.number(), refusal.word()), (number, word));
     }
-    for number in 16..=255 {
+    for number in 18..=255 {
         assert_eq!(Refusal::of(number), Some(Refusal::Unknown(number)));
         assert_eq!(Refusal::Unknown(number).number(), number);
     }

@@ -5,7 +5,6 @@ use bands::Quant;
 use quants::Quants;
 use wire::Writing;
 ghost use mathlib.Core.Path.{_≡_};
-ghost use Prim.Native.Nat.{_+_, _*_, _≤_};
 ghost use lib.ListN.{length};
 ghost use Rattle.wire.specs.Wrote.{Wrote};
 ghost use Rattle.frame_write.specs.FrameWrite.{FrameWritten};

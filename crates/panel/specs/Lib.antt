@@ -1,4 +1,5 @@
 pub mod Capabilities
 pub mod Collector
 pub mod Edge
+pub mod Short
 pub mod laws

@@ -1,3 +1,4 @@
 pub mod Capabilities
 pub mod Collector
 pub mod Edge
+pub mod Short

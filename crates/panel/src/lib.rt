@@ -19,6 +19,7 @@ use wire::Writing;
 pub mod capabilities;
 pub mod collector;
 pub mod edge;
+pub mod short;
 
 // Reads one header block, which is the whole message.
 pub fn read_header(s: Session, message: &[u8]) -> HeaderReading

@@ -80,7 +80,8 @@ pub record RequestElevenFrames : Type 0 where
       (index w h mode : ℕ) (v p : List ℕ) → framePicked index w h mode (oneFor v) p (allTiles w h) ≡ pictureFrame index w h mode v p
   pub all-tiles :
       (c : WriteShort) → c .picks ≡ allTiles (c .width) (c .height) → length (c .old) ≡ length (c .new) →
-      FrameWrittenOver (c .width) (c .height) (c .mode) (c .quants) (c .index) (c .new) (c .list) (c .list′) (c .scratch) (c .scratch′) (c .out) (c .out′) (c .answer)
+      FrameWrittenOver (c .width) (c .height) (c .mode) (c .quants) (c .index) (c .new) (c .list) (c .list′) (c .scratch) (c .scratch′) (c .out) (c .out′)
+      (c .answer)
   -- no tile listed: 72 bytes, 77 with two sets
   pub no-tiles :
       (index w h mode : ℕ) (q : Quants) (p : List ℕ) → length (q .luma .v) ≡ 10 → length (q .chroma .v) ≡ 10 →

@@ -18,7 +18,7 @@ use Rattle.wire.specs.Wrote.{writingNumber, writingLength}
 use Rattle.wire.specs.laws.Wrote.{wrote-bytes}
 use Rattle.wire.specs.declared.Writing.{Writing}
 use Rattle.whole.specs.Row.{_⇒_∣_}
-use Rattle.whole.specs.laws.Row.{passes, fails, both, held, goes-on, case-is, case-no}
+use Rattle.whole.specs.laws.Row.{passes, fails, both, held, goes-on, case-is}
 use Rattle.frame_layout.specs.Bytes.{Tile, setCount, tilesOf, frameOf, endOf}
 use Rattle.quants.specs.Quants.{quantFor, setsOf, chromaIndex, oneFor}
 use Rattle.quants.specs.declared.Quants.{Quants}

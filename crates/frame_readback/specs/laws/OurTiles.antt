@@ -193,5 +193,6 @@ module _ (p : List ℕ) (w h mode : ℕ) (q : Quants) (n : ℕ) (pick : ℕ → 
     }
 
     -- our frame, for the same size and mode: no fault, as many tiles, the ones written, one rectangle over the whole
-    pub our-frame : (index : ℕ) → Taken comp w h mode n (λ (i : ℕ). tileOver p w h mode q (pick i)) (frameOf index w h mode (setsOf q) n (λ (i : ℕ). tileOver p w h mode q (pick i)))
+    pub our-frame : (index : ℕ) →
+        Taken comp w h mode n (λ (i : ℕ). tileOver p w h mode q (pick i)) (frameOf index w h mode (setsOf q) n (λ (i : ℕ). tileOver p w h mode q (pick i)))
     our-frame index = read-back comp index w h mode (setsOf q) n (λ (i : ℕ). tileOver p w h mode q (pick i)) sent

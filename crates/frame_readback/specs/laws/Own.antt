@@ -35,7 +35,8 @@ pub record Unseen (tile : ℕ → Tile) (pick : ℕ → ℕ) (px py k n i : ℕ)
   pub not : (j : ℕ) → i ≤ j → j < i + n → pick j ≡ k → ⊥
   pub last : lastTile (listed (λ (j : ℕ). tile (pick j)) n i) px py ≡ none
 
-module _ (tile : ℕ → Tile) (pick : ℕ → ℕ) (px py k : ℕ) (here : inTile (tile k) px py ≡ true) (else : (j : ℕ) → (j ≡ k → ⊥) → inTile (tile j) px py ≡ false) where
+module _ (tile : ℕ → Tile) (pick : ℕ → ℕ) (px py k : ℕ) (here : inTile (tile k) px py ≡ true)
+    (else : (j : ℕ) → (j ≡ k → ⊥) → inTile (tile j) px py ≡ false) where
   seen-later : (n i : ℕ) → Seen tile pick px py k n (i + 1) → Seen tile pick px py k (suc n) i
   unfolding lastTile listed orElse
   seen-later n i s = record { place = s .place; from = omega (arith, s .from); to = omega (arith, s .to); is = s .is; last = rw (s .last) refl }

@@ -168,7 +168,8 @@ module _ (tile : ℕ → Tile) (stop : ℕ → ℕ) where
   pub sizing-start : (n : ℕ) → Sizing tile stop n 0 0
   sizing-start n = record { rest = rw sub-zero; sum = rw sub-zero (omega arith); small = omega arith }
 
-  pub sizing-ends : (n i total : ℕ) → n ≤ i → Sizing tile stop n i total → Sizes (stopsOf stop n 0) (length (tilesOf tile n 0)) (record { number = 0; size = total })
+  pub sizing-ends : (n i total : ℕ) → n ≤ i → Sizing tile stop n i total →
+      Sizes (stopsOf stop n 0) (length (tilesOf tile n 0)) (record { number = 0; size = total })
   unfolding stopsOf tilesOf
   sizing-ends n i total l s =
       let z : n - i ≡ 0 = omega arith in

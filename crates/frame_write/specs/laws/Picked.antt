@@ -95,13 +95,16 @@ module _ (p : List ℕ) (w h mode : ℕ) (q : Quants) where
 
   -- no list: the full frame
   pub as-all : (index n : ℕ) (out out′ : List ℕ) (r : Writing) → n ≡ tilesNo w h →
-      Wrote (faultBy index [] n (length out)) (frameBy index [] n) out out′ r → Wrote (sendFaultOver index w h mode q p (length out)) (frameOver index w h mode q p) out out′ r
+      Wrote (faultBy index [] n (length out)) (frameBy index [] n) out out′ r →
+      Wrote (sendFaultOver index w h mode q p (length out)) (frameOver index w h mode q p) out out′ r
   unfolding sendFaultOver frameOver sentAt
   as-all index n out out′ r e x =
-      wrote-is index n [] _ out out′ _ r (ap (frameBy index []) e) (ap (λ (k : ℕ). stopsOf (tileRefusalOver p w h mode q) k 0) e ∙ sym (along (tilesNo w h) 0)) x
+      wrote-is index n [] _ out out′ _ r (ap (frameBy index []) e)
+      (ap (λ (k : ℕ). stopsOf (tileRefusalOver p w h mode q) k 0) e ∙ sym (along (tilesNo w h) 0)) x
 
   -- a list: the listed tiles
-  pub as-listed : (index : ℕ) (ks out out′ : List ℕ) (r : Writing) → Wrote (faultBy index ks (length ks) (length out)) (frameBy index ks (length ks)) out out′ r →
+  pub as-listed : (index : ℕ) (ks out out′ : List ℕ) (r : Writing) →
+      Wrote (faultBy index ks (length ks) (length out)) (frameBy index ks (length ks)) out out′ r →
       Wrote (sendFaultPicked index w h mode q p ks (length out)) (framePicked index w h mode q p ks) out out′ r
   unfolding sendFaultPicked refusalsPicked framePicked
   as-listed index ks out out′ r x =

@@ -75,9 +75,12 @@ own-same w h mode q pixels list scratch = by (argFaultOver w h mode q pixels lis
 module _ (w h mode : ℕ) (q : Quants) (index : ℕ) (old new : List ℕ) (list list′ scratch scratch′ : List ℤ) (out out′ : List ℕ) (r : Writing)
     (same : length old ≡ length new) where
   own-is : ownFault w h mode q (length old) (length new) (length list) (length scratch) ≡ argFaultOver w h mode q (length new) (length list) (length scratch)
-  own-is = ap (λ (n : ℕ). ownFault w h mode q n (length new) (length list) (length scratch)) same ∙ own-same w h mode q (length new) (length list) (length scratch)
+  own-is =
+      ap (λ (n : ℕ). ownFault w h mode q n (length new) (length list) (length scratch)) same ∙ own-same w h mode q (length new) (length list) (length scratch)
 
-  later-is : (picksFault old new w h (allTiles w h) ⨟ sendFaultPicked index w h mode q new (allTiles w h) (length out)) ≡ sendFaultOver index w h mode q new (length out)
+  later-is :
+      (picksFault old new w h (allTiles w h) ⨟ sendFaultPicked index w h mode q new (allTiles w h) (length out))
+      ≡ sendFaultOver index w h mode q new (length out)
   later-is = sym (goes-on _ _ _ (sym (all-taken w h old new)) refl) ∙ all-send new w h mode q index (length out)
 
   faults-are : shortFault w h mode q index old new (allTiles w h) (length list) (length scratch) (length out)

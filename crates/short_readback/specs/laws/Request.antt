@@ -82,7 +82,8 @@ module _ (c : WriteShort) where
         by zero e = later-among (sym e)
         by (suc f) e =
             subst (Among most) e (among-all most
-            (ShortNumbers.own-among (c .width) (c .height) (c .mode) (c .quants) (length (c .old)) (length (c .new)) (length (c .list)) (length (c .scratch))) refl)
+            (ShortNumbers.own-among (c .width) (c .height) (c .mode) (c .quants) (length (c .old)) (length (c .new)) (length (c .list))
+            (length (c .scratch))) refl)
 
 -- a refused writer leaves its output
 refused-left : (f : ℕ) (bytes out : List ℕ) → (f ≡ 0 → ⊥) → outLeft f bytes out ≡ out

@@ -20,7 +20,8 @@ send-requires c κs =
     let s = e .before .before .before .before .before .before in
     let a = s .args in (
       s .pre .0,
-      list-there (a .job .width) (a .job .height) (now (a .old)) (now (a .new)) (now (a .picks)) (s .pre .1) (sym (e .if1 .left) ∙ e .before .picks-judge .ensures),
+      list-there (a .job .width) (a .job .height) (now (a .old)) (now (a .new)) (now (a .picks)) (s .pre .1)
+          (sym (e .if1 .left) ∙ e .before .picks-judge .ensures),
     )
 
 same-length : tie.Need-same-length

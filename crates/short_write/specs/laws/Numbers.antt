@@ -1,4 +1,5 @@
--- Which numbers the short frame's writer answers, and what its work lists hold on each: "untouched on 5, 7 and 2", and "only zeros after every other answer" (01).
+-- Which numbers the short frame's writer answers, and what its work lists hold on each: "untouched on 5, 7 and 2", and "only zeros after every other
+-- answer" (01).
 -- Assumes nothing.
 -- (01 is this project's scope document, 02 its change requests, 001 is MS-RDPRFX: README, "What 01 is".)
 use Prim.Native.Nat.{ℕ}
@@ -12,7 +13,6 @@ use Rattle.whole.specs.laws.Among.{numbers, each, among-then, among-all, among-
 use Rattle.wire.specs.Wrote.{writingNumber}
 use Rattle.wire.specs.declared.Writing.{Writing}
 use Rattle.quants.specs.declared.Quants.{Quants}
-use Rattle.frame_write.specs.Sets.{tileRefusalOver}
 use Rattle.frame_write.specs.Picked.{refusalsPicked, sendFaultPicked}
 use Rattle.frame_write.specs.laws.FrameWrite.{untouched, cleared}
 use Rattle.frame_write.specs.laws.Numbers.{argNumbers, sendNumbers, arg-among, tile-among, stops-among}

@@ -50,8 +50,8 @@ returns-2 c =
     let a = s .args in
     let j = a .job in
     send-room (j .index) (j .width) (j .height) (j .mode) (j .quants) (now (a .out)) (a .n) (tileSent j (now (a .pixels)) (now (a .picks)))
-    (stopSent j (now (a .pixels)) (now (a .picks))) (t .tiles-size .result) (t .tiles-size .ensures) (ten s .0) (ten s .1) (c .before .before .before .if1 .left)
-    (omega (arith, c .if2 .taken, c .before .chroma-index .ensures .0))
+    (stopSent j (now (a .pixels)) (now (a .picks))) (t .tiles-size .result) (t .tiles-size .ensures) (ten s .0) (ten s .1)
+    (c .before .before .before .if1 .left) (omega (arith, c .if2 .taken, c .before .chroma-index .ensures .0))
 
 put-frame-requires : tie.Need-put-frame-requires
 put-frame-requires c κs =
@@ -90,8 +90,8 @@ returns-3 c =
     let a = s .args in
     let j = a .job in
     send-done (j .index) (j .width) (j .height) (j .mode) (j .quants) (now (a .out)) (a .n) (tileSent j (now (a .pixels)) (now (a .picks)))
-    (stopSent j (now (a .pixels)) (now (a .picks))) (t .tiles-size .result) (t .tiles-size .ensures) (ten s .0) (ten s .1) (b .before .before .before .if1 .left)
-    (omega (arith, b .if2 .left, b .before .chroma-index .ensures .0)) _ _ (p .put-frame .ensures .0) (p .put-frame .ensures .1)
+    (stopSent j (now (a .pixels)) (now (a .picks))) (t .tiles-size .result) (t .tiles-size .ensures) (ten s .0) (ten s .1)
+    (b .before .before .before .if1 .left) (omega (arith, b .if2 .left, b .before .chroma-index .ensures .0)) _ _ (p .put-frame .ensures .0) (p .put-frame .ensures .1)
 
 pub send-spec : {M : Type 1} → statement M
 send-spec =

@@ -60,9 +60,9 @@ returns c =
     let j = a .job in
     let l = ten s in
     let n = count-is (j .quants) (l .0) (l .1) in
-    frame-put (j .index) (j .width) (j .height) (j .mode) (setsOf (j .quants)) (a .n) (tens-of (j .quants) (l .0) (l .1)) (now (a .out)) _ _ _ _ _
-    (tileSent j (now (a .pixels)) (now (a .picks))) (omega (arith, n, i .ensures .0)) (f .put-front .ensures) (t .put-tiles .ensures .0) (t .put-tiles .ensures .1)
-    (e .close-frame .ensures)
+    frame-put (j .index) (j .width) (j .height) (j .mode) (setsOf (j .quants)) (a .n) (tens-of (j .quants) (l .0) (l .1)) (now (a .out))
+    _ _ _ _ _ (tileSent j (now (a .pixels)) (now (a .picks))) (omega (arith, n, i .ensures .0)) (f .put-front .ensures) (t .put-tiles .ensures .0)
+    (t .put-tiles .ensures .1) (e .close-frame .ensures)
 
 pub put-frame-spec : {M : Type 1} → statement M
 put-frame-spec =
