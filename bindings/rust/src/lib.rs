@@ -165,6 +165,20 @@ impl Session {
         Session { headers: 0, mode: 0, width: 0, height: 0, columns: 0, rows: 0, words: 0, glass: glass as u8 }
     }
 
+    /// The same record for another glass.
+    pub const fn on(self, glass: Glass) -> Session {
+        Session { glass: glass as u8, ..self }
+    }
+
+    /// The glass; none where the record has a number that is neither.
+    pub const fn glass(self) -> Option<Glass> {
+        match self.glass {
+            0 => Some(Glass::Bits16),
+            1 => Some(Glass::Bits32),
+            _ => None,
+        }
+    }
+
     /// A record that was kept somewhere, by its four numbers; the others are worked out from them. One that no calls could have made is answered
     /// [`Refusal::Order`] wherever a record is judged; a good sync starts it over.
     ///
