@@ -343,7 +343,7 @@ uint8_t xurbalenz_write_frame(size_t width, size_t height, uint8_t mode, const u
 /* ---- sending only what changed ---- */
 
 /*
- * Tiles are numbered row by row from 0: there are XURBALENZ_TILES(width, height). old_pixels and new_pixels are pictures of one size, three bytes a
+ * Tiles are numbered row by row from 0: there are XURBALENZ_TILES(width, height). old and next are the old and the new picture, of one size, three bytes a
  * pixel, R, G, B, row by row, each exactly 3 x width x height. picks is a list of tile numbers: those that are to be sent. A tile differs if some pixel
  * of it does.
  *
@@ -356,16 +356,16 @@ uint8_t xurbalenz_write_frame(size_t width, size_t height, uint8_t mode, const u
  * Judged in this order: size (5), either picture's length (2), then over the whole list: a number that is not above the one before it (16), a number that no
  * tile has (8), a tile that differs and is not listed (17). A tile that does not differ may be listed. The empty list is in order.
  */
-uint8_t xurbalenz_check_plan(size_t width, size_t height, const uint8_t *old_pixels, size_t old_pixels_len, const uint8_t *new_pixels,
-                             size_t new_pixels_len, const uint32_t *picks, size_t picks_len);
+uint8_t xurbalenz_check_plan(size_t width, size_t height, const uint8_t *old, size_t old_len, const uint8_t *next,
+                             size_t next_len, const uint32_t *picks, size_t picks_len);
 
 /*
  * Makes the shortest list that xurbalenz_check_plan takes: the numbers of the tiles that differ. A list of XURBALENZ_TILES always has room.
  * Judged in this order: size (5), either picture's length (2), a list with no room for the numbers (13).
  * Afterwards: done - *count is how many there are, picks[0 .. *count) has them, those past it are untouched; refused - picks is untouched, *count is 0.
  */
-uint8_t xurbalenz_make_plan(size_t width, size_t height, const uint8_t *old_pixels, size_t old_pixels_len, const uint8_t *new_pixels,
-                            size_t new_pixels_len, uint32_t *picks, size_t picks_len, size_t *count);
+uint8_t xurbalenz_make_plan(size_t width, size_t height, const uint8_t *old, size_t old_len, const uint8_t *next,
+                            size_t next_len, uint32_t *picks, size_t picks_len, size_t *count);
 
 /*
  * Writes one frame of the listed tiles of the new picture, in the list's order: one rectangle over the whole channel, luma's ten quantisers for Y and
@@ -378,7 +378,7 @@ uint8_t xurbalenz_make_plan(size_t width, size_t height, const uint8_t *old_pixe
  * Afterwards, besides what holds for every writer: list and scratch are untouched on 5, 7 and 2, and hold only zeros after every other answer, done too.
  */
 uint8_t xurbalenz_write_frame_short(size_t width, size_t height, uint8_t mode, const uint8_t luma[10], const uint8_t chroma[10], uint32_t index,
-                                    const uint8_t *old_pixels, size_t old_pixels_len, const uint8_t *new_pixels, size_t new_pixels_len,
+                                    const uint8_t *old, size_t old_len, const uint8_t *next, size_t next_len,
                                     const uint32_t *picks, size_t picks_len, int32_t *list, size_t list_len, int32_t *scratch, size_t scratch_len,
                                     uint8_t *out, size_t out_len, size_t *size);
 

@@ -85,20 +85,20 @@ mod archive {
         pub fn xurbalenz_check_plan(
             width: usize,
             height: usize,
-            old_pixels: *const u8,
-            old_pixels_len: usize,
-            new_pixels: *const u8,
-            new_pixels_len: usize,
+            old: *const u8,
+            old_len: usize,
+            next: *const u8,
+            next_len: usize,
             picks: *const u32,
             picks_len: usize,
         ) -> u8;
         pub fn xurbalenz_make_plan(
             width: usize,
             height: usize,
-            old_pixels: *const u8,
-            old_pixels_len: usize,
-            new_pixels: *const u8,
-            new_pixels_len: usize,
+            old: *const u8,
+            old_len: usize,
+            next: *const u8,
+            next_len: usize,
             picks: *mut u32,
             picks_len: usize,
             count: *mut usize,
@@ -110,10 +110,10 @@ mod archive {
             luma: *const [u8; 10],
             chroma: *const [u8; 10],
             index: u32,
-            old_pixels: *const u8,
-            old_pixels_len: usize,
-            new_pixels: *const u8,
-            new_pixels_len: usize,
+            old: *const u8,
+            old_len: usize,
+            next: *const u8,
+            next_len: usize,
             picks: *const u32,
             picks_len: usize,
             list: *mut i32,
@@ -324,37 +324,16 @@ pub fn write_frame(
 /// assert_eq!((make_plan(65, 1, &old, &new, &mut picks), picks), ((0, 1), [1, 7]));
 /// ```
 #[inline]
-pub fn check_plan(width: usize, height: usize, old_pixels: &[u8], new_pixels: &[u8], picks: &[u32]) -> u8 {
-    unsafe {
-        archive::xurbalenz_check_plan(
-            width,
-            height,
-            old_pixels.as_ptr(),
-            old_pixels.len(),
-            new_pixels.as_ptr(),
-            new_pixels.len(),
-            picks.as_ptr(),
-            picks.len(),
-        )
-    }
+pub fn check_plan(width: usize, height: usize, old: &[u8], next: &[u8], picks: &[u32]) -> u8 {
+    unsafe { archive::xurbalenz_check_plan(width, height, old.as_ptr(), old.len(), next.as_ptr(), next.len(), picks.as_ptr(), picks.len()) }
 }
 
 /// Lists the tiles that differ: the number, and how many there are (0 when refused). It is the shortest list that [`check_plan`] takes.
 #[inline]
-pub fn make_plan(width: usize, height: usize, old_pixels: &[u8], new_pixels: &[u8], picks: &mut [u32]) -> (u8, usize) {
+pub fn make_plan(width: usize, height: usize, old: &[u8], next: &[u8], picks: &mut [u32]) -> (u8, usize) {
     let mut count = 0;
     let number = unsafe {
-        archive::xurbalenz_make_plan(
-            width,
-            height,
-            old_pixels.as_ptr(),
-            old_pixels.len(),
-            new_pixels.as_ptr(),
-            new_pixels.len(),
-            picks.as_mut_ptr(),
-            picks.len(),
-            &mut count,
-        )
+        archive::xurbalenz_make_plan(width, height, old.as_ptr(), old.len(), next.as_ptr(), next.len(), picks.as_mut_ptr(), picks.len(), &mut count)
     };
     (number, count)
 }
@@ -378,8 +357,8 @@ pub fn write_frame_short(
     luma: &[u8; 10],
     chroma: &[u8; 10],
     index: u32,
-    old_pixels: &[u8],
-    new_pixels: &[u8],
+    old: &[u8],
+    next: &[u8],
     picks: &[u32],
     list: &mut [i32],
     scratch: &mut [i32],
@@ -394,10 +373,10 @@ pub fn write_frame_short(
             luma,
             chroma,
             index,
-            old_pixels.as_ptr(),
-            old_pixels.len(),
-            new_pixels.as_ptr(),
-            new_pixels.len(),
+            old.as_ptr(),
+            old.len(),
+            next.as_ptr(),
+            next.len(),
             picks.as_ptr(),
             picks.len(),
             list.as_mut_ptr(),

@@ -14,13 +14,13 @@ use quants::Quants;
 pub extern "C" fn xurbalenz_check_plan(
     width: usize,
     height: usize,
-    old_pixels: &[u8],
-    new_pixels: &[u8],
+    old: &[u8],
+    next: &[u8],
     picks: &[u32],
 ) -> u8
-    ensures { λ r. ⌜ r ≡ planFault width height (now (old_pixels .entry)) (now (new_pixels .entry)) (now (picks .entry)) ⌝ }
+    ensures { λ r. ⌜ r ≡ planFault width height (now (old .entry)) (now (next .entry)) (now (picks .entry)) ⌝ }
 {
-    plan::check::check_plan(width, height, old_pixels, new_pixels, picks)
+    plan::check::check_plan(width, height, old, next, picks)
 }
 
 // Lists the tiles that differ.
@@ -28,14 +28,14 @@ pub extern "C" fn xurbalenz_check_plan(
 pub extern "C" fn xurbalenz_make_plan(
     width: usize,
     height: usize,
-    old_pixels: &[u8],
-    new_pixels: &[u8],
+    old: &[u8],
+    next: &[u8],
     picks: &mut [u32],
     count: &mut usize,
 ) -> u8
-    ensures { λ r. ⌜ MakePlanCall width height (now (old_pixels .entry)) (now (new_pixels .entry)) (now (picks .entry)) (now (picks .exit)) (now (count .exit)) r ⌝ }
+    ensures { λ r. ⌜ MakePlanCall width height (now (old .entry)) (now (next .entry)) (now (picks .entry)) (now (picks .exit)) (now (count .exit)) r ⌝ }
 {
-    let p = plan::make::make_plan(width, height, old_pixels, new_pixels, picks);
+    let p = plan::make::make_plan(width, height, old, next, picks);
     *count = plan::make::planned_count(p);
     plan::make::planned_number(p)
 }
@@ -50,15 +50,15 @@ pub extern "C" fn xurbalenz_write_frame_short(
     luma: &[u8; 10],
     chroma: &[u8; 10],
     index: u32,
-    old_pixels: &[u8],
-    new_pixels: &[u8],
+    old: &[u8],
+    next: &[u8],
     picks: &[u32],
     list: &mut [i32],
     scratch: &mut [i32],
     out: &mut [u8],
     size: &mut usize,
 ) -> u8
-    ensures { λ n. ⌜ WriteShortCall width height mode (now (luma .entry)) (now (chroma .entry)) index (now (old_pixels .entry)) (now (new_pixels .entry)) (now (picks .entry)) (now (list .entry)) (now (list .exit)) (now (scratch .entry)) (now (scratch .exit)) (now (out .entry)) (now (out .exit)) (now (size .exit)) n ⌝ }
+    ensures { λ n. ⌜ WriteShortCall width height mode (now (luma .entry)) (now (chroma .entry)) index (now (old .entry)) (now (next .entry)) (now (picks .entry)) (now (list .entry)) (now (list .exit)) (now (scratch .entry)) (now (scratch .exit)) (now (out .entry)) (now (out .exit)) (now (size .exit)) n ⌝ }
 {
     let q = Quants {
         luma: Quant { v: *luma },
@@ -71,7 +71,7 @@ pub extern "C" fn xurbalenz_write_frame_short(
         index: index as usize,
         quants: q,
     };
-    let w = short_write::write_frame_short(job, old_pixels, new_pixels, picks, list, scratch, out);
+    let w = short_write::write_frame_short(job, old, next, picks, list, scratch, out);
     *size = wire::writing_length(w);
     wire::writing_number(w)
 }
