@@ -9,8 +9,9 @@ ghost use lib.ListN.{length};
 ghost use Rattle.code_write.specs.Write.{bytesOf, writeFault};
 ghost use Rattle.headers.specs.Headers.{headersOf, headersFault};
 ghost use Rattle.app_calls.specs.Calls.{componentLeft, WriterSaid, headerLeft, heard, fourBack, fits, FrameMade};
-use bands::Quant;
+use quants::Quants;
 use session::Session;
+use wire::Writing;
 
 // The line of a frame call: a recording's; or a short one, with a comma in front of all but the first part; or words, with the call's count.
 pub enum Line {
@@ -247,13 +248,50 @@ pub fn frame_call(s: Session, message: &[u8], picture: &mut [u16], n: Lengths, l
     frame_with_one(s, message, picture, &mut y[0..one], n, l)
 }
 
-// What the frame writer is asked for, beside memory.
+// What the frame writer is asked for, beside memory; `sets` where it is the one over luma's and chroma's quantisers, else these are luma's.
 pub struct Asked {
     pub width: usize,
     pub height: usize,
     pub mode: u8,
     pub index: u32,
-    pub q: Quant,
+    pub q: Quants,
+    pub sets: bool,
+}
+
+// The one or the other frame writer.
+fn written_by(
+    a: Asked,
+    pixels: &[u8],
+    list: &mut [i32],
+    scratch: &mut [i32],
+    out: &mut [u8],
+) -> Writing {
+    let q = a.q;
+    let luma = q.luma;
+    if a.sets {
+        return panel::write_frame_sets(
+            a.width,
+            a.height,
+            a.mode,
+            q,
+            a.index,
+            pixels,
+            list,
+            scratch,
+            out,
+        );
+    }
+    panel::write_frame(
+        a.width,
+        a.height,
+        a.mode,
+        luma,
+        a.index,
+        pixels,
+        list,
+        scratch,
+        out,
+    )
 }
 
 // The frame writer, with its second list, a part of one of 8,192; a count of bytes beyond any output where more is asked for.
@@ -263,18 +301,7 @@ fn writer_with_one(a: Asked, pixels: &[u8], list: &mut [i32], two: usize, out: &
     if scratch.len() < two {
         return usize::MAX;
     }
-    let q = a.q;
-    let w = panel::write_frame(
-        a.width,
-        a.height,
-        a.mode,
-        q,
-        a.index,
-        pixels,
-        list,
-        &mut scratch[0..two],
-        out,
-    );
+    let w = written_by(a, pixels, list, &mut scratch[0..two], out);
     let n = wire::writing_length(w);
     let after = &scratch[..];
     crate::lines::say_written(
