@@ -8,7 +8,7 @@ ghost use Rattle.whole.specs.Row.{_!_⨾_};
 ghost use lib.ListN.{length};
 ghost use Rattle.code_write.specs.Write.{bytesOf, writeFault};
 ghost use Rattle.headers.specs.Headers.{headersOf, headersFault};
-ghost use Rattle.app_calls.specs.Calls.{componentLeft, WriterSaid, headerLeft, heard, fourBack, fits, FrameMade};
+ghost use Rattle.app_calls.specs.Calls.{componentLeft, WriterSaid, headerLeft, heard, fourBack, fits, FrameMade, pairFits, sentFault, sentBytes, FrameSent, AskedWritten};
 use quants::Quants;
 use session::Session;
 use wire::Writing;
@@ -248,7 +248,7 @@ pub fn frame_call(s: Session, message: &[u8], picture: &mut [u16], n: Lengths, l
     frame_with_one(s, message, picture, &mut y[0..one], n, l)
 }
 
-// What the frame writer is asked for, beside memory; `sets` where it is the one over luma's and chroma's quantisers, else these are luma's.
+// What the frame writer is asked for, beside memory; `sets` where it is the one over luma's and chroma's quantisers, else they are luma's.
 pub struct Asked {
     pub width: usize,
     pub height: usize,
@@ -258,49 +258,36 @@ pub struct Asked {
     pub sets: bool,
 }
 
-// The one or the other frame writer.
+// The one frame writer or the other.
 fn written_by(
     a: Asked,
     pixels: &[u8],
     list: &mut [i32],
     scratch: &mut [i32],
     out: &mut [u8],
-) -> Writing {
+) -> Writing
+    ensures { λ r. ⌜ AskedWritten a (now (pixels .entry)) (now (list .entry)) (now (list .exit)) (now (scratch .entry)) (now (scratch .exit)) (now (out .entry)) (now (out .exit)) r ⌝ }
+{
     let q = a.q;
-    let luma = q.luma;
+    let w = a.width;
+    let h = a.height;
     if a.sets {
-        return panel::write_frame_sets(
-            a.width,
-            a.height,
-            a.mode,
-            q,
-            a.index,
-            pixels,
-            list,
-            scratch,
-            out,
-        );
+        return panel::write_frame_sets(w, h, a.mode, q, a.index, pixels, list, scratch, out);
     }
-    panel::write_frame(
-        a.width,
-        a.height,
-        a.mode,
-        luma,
-        a.index,
-        pixels,
-        list,
-        scratch,
-        out,
-    )
+    let luma = q.luma;
+    panel::write_frame(w, h, a.mode, luma, a.index, pixels, list, scratch, out)
 }
 
-// The frame writer, with its second list, a part of one of 8,192; a count of bytes beyond any output where more is asked for.
-fn writer_with_one(a: Asked, pixels: &[u8], list: &mut [i32], two: usize, out: &mut [u8]) -> usize {
+// The frame writer on an output of A5, with its second list, a part of one of 8,192; a count of bytes beyond any output, and nothing filled, where more is asked for.
+fn writer_with_one(a: Asked, pixels: &[u8], list: &mut [i32], two: usize, out: &mut [u8]) -> usize
+    ensures { λ r. ⌜ FrameSent (leb two 8192) (sentFault a (now (pixels .entry)) (length (now (list .entry))) two (length (now (out .entry)))) (sentBytes a (now (pixels .entry))) (now (out .entry)) (now (out .exit)) r ⌝ }
+{
     let mut space = [7i32; 8192];
     let scratch: &mut [i32] = &mut space;
     if scratch.len() < two {
         return usize::MAX;
     }
+    app_recording::lent::fill_bytes(out, 0xA5);
     let w = written_by(a, pixels, list, &mut scratch[0..two], out);
     let n = wire::writing_length(w);
     let after = &scratch[..];
@@ -315,13 +302,12 @@ fn writer_with_one(a: Asked, pixels: &[u8], list: &mut [i32], two: usize, out: &
 
 // One call of the frame writer, on lists of these lengths; the bytes that it wrote.
 pub fn frame_writer_call(a: Asked, pixels: &[u8], one: usize, two: usize, out: &mut [u8]) -> usize
-    ensures { λ _. ⌜ Unit ⌝ }
+    ensures { λ r. ⌜ FrameSent (pairFits one two) (sentFault a (now (pixels .entry)) one two (length (now (out .entry)))) (sentBytes a (now (pixels .entry))) (now (out .entry)) (now (out .exit)) r ⌝ }
 {
     let mut space = [7i32; 8192];
     let list: &mut [i32] = &mut space;
     if list.len() < one {
         return usize::MAX;
     }
-    app_recording::lent::fill_bytes(out, 0xA5);
     writer_with_one(a, pixels, &mut list[0..one], two, out)
 }
