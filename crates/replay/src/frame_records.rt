@@ -68,19 +68,21 @@ pub struct Sets {
 pub fn take_sets(input: &mut [u8], c: In, two: bool) -> Sets {
     let t = app_recording::read::take_ten(input, c);
     let luma = t.v;
+    let after = t.from;
     if !two {
         return Sets {
             luma: luma,
             chroma: luma,
-            from: t.from,
+            from: after,
         };
     }
-    let u = app_recording::read::take_ten(input, t.from);
+    let u = app_recording::read::take_ten(input, after);
     let chroma = u.v;
+    let from = u.from;
     Sets {
         luma: luma,
         chroma: chroma,
-        from: u.from,
+        from: from,
     }
 }
 
@@ -151,11 +153,12 @@ pub fn frame_writer(
 ) -> Desk {
     let a = take_sent(input, d.from, pixels, sets);
     let from = a.from;
+    let q = a.q;
     if !from.whole {
         return crate::records::bad(d);
     }
     let n = frame_writer_on(
-        asked(a.size, a.q, sets),
+        asked(a.size, q, sets),
         a.lists,
         app_text::loading::first(pixels, a.count),
         out,
