@@ -1,17 +1,17 @@
 /*
- * xurbalenz.h - RemoteFX (MS-RDPRFX) pictures for the door glass: seventeen calls, proved for every input.
+ * xurbalenz.h - RemoteFX (MS-RDPRFX) pictures for the door glass: its calls are proved for every input.
  *
  * Link target/staticlib/libxurbalenz.a (made by `tools/archive`, x86-64). Its functions read four header blocks and whole frames into a
  * lent picture of 16-bit or 32-bit words, and write headers, components and frames; and they gather header blocks and frames from a network card's
  * bytes, however these are cut;
- * and they read and write what a client says of its capabilities and the frames that it acknowledges.
+ * and they read and write what a client says of its capabilities and the frames that it acknowledges, and the settings that a cabinet keeps.
  *
  * WHAT YOU CAN RELY ON
  *  - Every call takes any bytes whatever and comes back with a number: 0 done, any other refused (below). Nothing has to be checked first.
  *  - A frame is drawn whole or not at all. After a refusal the picture and the record are what they were.
  *  - The number is that of the first fault, in the order given at each call.
  *  - What each lent region holds afterwards is said at each call, for every answer. The value behind the last pointer (tiles, bits, size),
- *    the three of the collector, and what a reader of capabilities stores, are always written.
+ *    the three of the collector, and what a reader of capabilities or settings stores, are always written.
  *  - Same memory in, same answer and same memory out. No state is kept between calls but what you hold: the record and the picture, the
  *    collector and its store.
  *
@@ -126,8 +126,8 @@ static inline const char *xurbalenz_says(uint8_t number)
    6 (finest) to 15 (coarsest). Use: const uint8_t quant[10] = XURBALENZ_DEFAULT_QUANT; */
 #define XURBALENZ_DEFAULT_QUANT {6, 6, 6, 6, 7, 7, 8, 8, 8, 9}
 
-/* Tiles of a channel, and an output size with which xurbalenz_write_frame never answers 13: 77 bytes around the tiles, and for each tile a
-   head of 19 and three codes of at most 65,535. Real frames are far smaller; on 13 nothing is lost, so start small and try again. */
+/* Tiles of a channel, and an output size with which xurbalenz_write_frame and xurbalenz_write_frame_sets never answer 13: 77 bytes around the tiles
+   (72 with one quantiser set), and for each tile a head of 19 and three codes of at most 65,535. Real frames are far smaller; on 13 nothing is lost, so start small and try again. */
 #define XURBALENZ_TILES(width, height) ((((size_t)(width) + 63) / 64) * (((size_t)(height) + 63) / 64))
 #define XURBALENZ_FRAME_ROOM(width, height) (77 + XURBALENZ_TILES(width, height) * (19 + 3 * (size_t)65535))
 
@@ -421,6 +421,38 @@ uint8_t xurbalenz_read_ack(const uint8_t *message, size_t message_len, uint32_t 
 /* Writes one. Judged in this order: a version over 4,095 (5), out (13). */
 uint8_t xurbalenz_write_ack(uint16_t version, uint16_t source, uint32_t share, uint8_t pad, uint8_t stream, uint16_t uncompressed,
                             uint8_t compression, uint16_t compressed, uint32_t frame, uint8_t *out, size_t out_len, size_t *size);
+
+/* ---- settings kept by the cabinet ---- */
+
+/*
+ * The frame writer's quantisers and mode, as records: a version (kind 0, first and once), then settings (kind 1: one set for luma and chroma; kind 2: two
+ * sets, of version 2), of which the last counts. luma and chroma are ten values each, in the order of XURBALENZ_DEFAULT_QUANT.
+ */
+#define XURBALENZ_SETTINGS_SIZE 15 /* an output of this size always has room for settings; equal sets take 10 */
+
+/*
+ * Reads the records of a store. newest is the newest version that this reader knows: 1 takes version 1, 2 takes 1 and 2, 0 takes none.
+ *
+ * An empty store is 1. Then record by record, each in full before the next: its kind (3), its place (12: the version first, and once), that it is there (1),
+ * then its bytes as they stand: a version that is not taken (14); quantisers, luma and then chroma (7), mode (5). At the end the version alone is 15.
+ *
+ * Afterwards: done - luma, chroma and *mode are the settings; refused - all of them are 0.
+ */
+uint8_t xurbalenz_read_settings(uint8_t newest, const uint8_t *bytes, size_t bytes_len, uint8_t luma[10], uint8_t chroma[10], uint8_t *mode);
+
+/*
+ * Writes settings: equal sets as version 1, 10 bytes, which every reader takes; else as version 2, 15 bytes, which a reader of version 1 refuses (14).
+ * Judged in this order: a quantiser of luma or chroma outside 6 to 15 (7), mode (5), out (13).
+ */
+uint8_t xurbalenz_write_settings(const uint8_t luma[10], const uint8_t chroma[10], uint8_t mode, uint8_t *out, size_t out_len, size_t *size);
+
+/*
+ * xurbalenz_write_frame with luma's quantisers (Y) and chroma's (Cb and Cr). Where they are equal it writes the same bytes; else the frame has two sets,
+ * luma's first. All else is said there; 7 is a quantiser of either.
+ */
+uint8_t xurbalenz_write_frame_sets(size_t width, size_t height, uint8_t mode, const uint8_t luma[10], const uint8_t chroma[10], uint32_t index,
+                                   const uint8_t *pixels, size_t pixels_len, int32_t *list, size_t list_len, int32_t *scratch, size_t scratch_len,
+                                   uint8_t *out, size_t out_len, size_t *size);
 
 /* ---- the record's layout ---- */
 

@@ -1,4 +1,4 @@
-//! The seventeen calls as the archive has them, with slices for pointers and lengths: the answer is the number (0 done, any other refused) and the
+//! The calls as the archive has them, with slices for pointers and lengths: the answer is the number (0 done, any other refused) and the
 //! value that goes with it.
 //!
 //! Everything here is safe. A Rust slice has what the archive asks of a pointer (never null, aligned, all there, no overlap with what is
@@ -139,6 +139,39 @@ mod archive {
             compression: u8,
             compressed: u16,
             frame: u32,
+            out: *mut u8,
+            out_len: usize,
+            size: *mut usize,
+        ) -> u8;
+        pub fn xurbalenz_read_settings(
+            newest: u8,
+            bytes: *const u8,
+            bytes_len: usize,
+            luma: *mut [u8; 10],
+            chroma: *mut [u8; 10],
+            mode: *mut u8,
+        ) -> u8;
+        pub fn xurbalenz_write_settings(
+            luma: *const [u8; 10],
+            chroma: *const [u8; 10],
+            mode: u8,
+            out: *mut u8,
+            out_len: usize,
+            size: *mut usize,
+        ) -> u8;
+        pub fn xurbalenz_write_frame_sets(
+            width: usize,
+            height: usize,
+            mode: u8,
+            luma: *const [u8; 10],
+            chroma: *const [u8; 10],
+            index: u32,
+            pixels: *const u8,
+            pixels_len: usize,
+            list: *mut i32,
+            list_len: usize,
+            scratch: *mut i32,
+            scratch_len: usize,
             out: *mut u8,
             out_len: usize,
             size: *mut usize,
@@ -485,6 +518,61 @@ pub fn write_ack(
             compression,
             compressed,
             frame,
+            out.as_mut_ptr(),
+            out.len(),
+            &mut size,
+        )
+    };
+    (number, size)
+}
+
+/// Reads settings, for a reader that knows versions up to `newest` (1 or 2): the number and the mode; into `luma` and `chroma` go the quantisers. All is 0
+/// when refused. See [`crate::Settings`].
+#[inline]
+pub fn read_settings(newest: u8, bytes: &[u8], luma: &mut [u8; 10], chroma: &mut [u8; 10]) -> (u8, u8) {
+    let mut mode = 0;
+    let number = unsafe { archive::xurbalenz_read_settings(newest, bytes.as_ptr(), bytes.len(), luma, chroma, &mut mode) };
+    (number, mode)
+}
+
+/// Writes settings: the number, and the bytes written (0 when refused). See [`crate::Settings`].
+#[inline]
+pub fn write_settings(luma: &[u8; 10], chroma: &[u8; 10], mode: u8, out: &mut [u8]) -> (u8, usize) {
+    let mut size = 0;
+    let number = unsafe { archive::xurbalenz_write_settings(luma, chroma, mode, out.as_mut_ptr(), out.len(), &mut size) };
+    (number, size)
+}
+
+/// Writes one frame with luma's and chroma's quantisers: the number, and the bytes written (0 when refused). See [`crate::write_frame_sets_into`].
+#[allow(clippy::too_many_arguments)] // the archive's own list
+#[inline]
+pub fn write_frame_sets(
+    width: usize,
+    height: usize,
+    mode: u8,
+    luma: &[u8; 10],
+    chroma: &[u8; 10],
+    index: u32,
+    pixels: &[u8],
+    list: &mut [i32],
+    scratch: &mut [i32],
+    out: &mut [u8],
+) -> (u8, usize) {
+    let mut size = 0;
+    let number = unsafe {
+        archive::xurbalenz_write_frame_sets(
+            width,
+            height,
+            mode,
+            luma,
+            chroma,
+            index,
+            pixels.as_ptr(),
+            pixels.len(),
+            list.as_mut_ptr(),
+            list.len(),
+            scratch.as_mut_ptr(),
+            scratch.len(),
             out.as_mut_ptr(),
             out.len(),
             &mut size,

@@ -8,9 +8,10 @@
 //! - [`read_header`], [`read_frame`], [`read_frame_32`], [`read_component`] work in memory that you lend; they allocate nothing.
 //! - [`write_headers`], [`write_component`], [`write_frame`] return what they wrote; `.._into` write into memory that you lend.
 //! - [`Caps`], [`Ack`], [`read_ack_cap`] and [`write_ack_cap_into`] read and write what a client says it can do, and which frames it has shown.
-//! - [`edge`] has the seventeen calls with plain numbers, as C sees them; the checker, the planner and the short frame's writer stand only there.
+//! - [`Settings`] are the quantisers and the mode that a cabinet keeps, from and to bytes; they write frames with luma's and chroma's own quantisers.
+//! - [`edge`] has the calls with plain numbers, as C sees them; the checker, the planner and the short frame's writer stand only there.
 //!
-//! The crate needs neither std nor any other crate, but `alloc` for [`Screen`], [`Collector`], [`Caps`] and the writers that return a `Vec`. It links
+//! The crate needs neither std nor any other crate, but `alloc` for [`Screen`], [`Collector`], [`Caps`], [`Settings`] and the writers that return a `Vec`. It links
 //! `target/staticlib/libxurbalenz.a` of the repository (make it with `tools/archive`), or the one in the folder `XURBALENZ_LIB_DIR`. That archive is
 //! x86-64 code and needs `memcpy` and `memset`, less than 1 KiB of stack, and nothing else.
 //!
@@ -38,6 +39,7 @@ mod collector;
 pub mod edge;
 mod refusal;
 mod screen;
+mod settings;
 
 use alloc::{vec, vec::Vec};
 
@@ -45,6 +47,7 @@ pub use capabilities::{read_ack_cap, write_ack_cap_into, Ack, Caps, CapsEntry, A
 pub use collector::{Collector, Message};
 pub use refusal::{CodeRefusal, Refusal};
 pub use screen::{Screen, Word};
+pub use settings::{write_frame_sets_into, Reader, Settings, SETTINGS_SIZE};
 
 /// Numbers in every component list and work list: a tile of 64 x 64.
 pub const LIST: usize = 4096;
@@ -471,14 +474,19 @@ pub fn write_frame_into(
 /// ```
 pub fn write_frame(width: usize, height: usize, mode: Mode, quant: Quant, index: u32, pixels: &[u8]) -> Result<Vec<u8>, Refusal> {
     let (mut list, mut scratch) = (vec![0; LIST], vec![0; LIST]);
+    in_room(width, height, |out| write_frame_into(width, height, mode, quant, index, pixels, &mut list, &mut scratch, out))
+}
+
+// What a frame writer writes, in as much room as it takes.
+fn in_room(width: usize, height: usize, mut write: impl FnMut(&mut [u8]) -> Result<usize, Refusal>) -> Result<Vec<u8>, Refusal> {
     // A size that is not allowed is refused before room is judged, so any room will do for it.
     let (w, h) = (width.min(MAX_WIDTH), height.min(MAX_HEIGHT));
     let most = frame_room(w, h);
     // Few frames need more than a byte a pixel. Where one does, the call says so and nothing is lost.
-    let mut room = most.min(72 + tiles(w, h) * LIST);
+    let mut room = most.min(77 + tiles(w, h) * LIST);
     loop {
         let mut out = vec![0; room];
-        match write_frame_into(width, height, mode, quant, index, pixels, &mut list, &mut scratch, &mut out) {
+        match write(&mut out) {
             Err(Refusal::Room) if room < most => room = most.min(4 * room),
             answer => return answer.map(|size| cut_to(out, size)),
         }

@@ -30,6 +30,10 @@ fn bytes(word: &str) -> Vec<u8> {
     items(word, |hex| (0..hex.len() / 2).map(|i| u8::from_str_radix(&hex[2 * i..2 * i + 2], 16).expect("hex")).collect())
 }
 
+fn ten(word: &str) -> [u8; 10] {
+    items(word, |v| vec![number(v)]).try_into().expect("ten quantisers")
+}
+
 fn pixels(word: &str, width: usize, length: usize) -> Vec<u8> {
     let (kind, seed) = word.split_once(':').expect("KIND:SEED");
     let width = width.max(1);
@@ -62,7 +66,7 @@ fn pixels(word: &str, width: usize, length: usize) -> Vec<u8> {
 }
 
 /// The requests of document 02 that these files need.
-const LANDED: [&str; 4] = ["one", "three", "four", "twelve"];
+const LANDED: [&str; 5] = ["one", "three", "four", "five", "twelve"];
 
 /// What a case carries from line to line.
 #[derive(Default)]
@@ -72,6 +76,7 @@ struct Case {
     headers: Vec<u8>,
     component: Vec<u8>,
     frame: Vec<u8>,
+    settings: Vec<u8>,
     collector: Collector,
     memory: Vec<u8>,
     lent: usize,
@@ -100,6 +105,16 @@ impl Case {
     fn read(mode: u8, code: &[u8], length: usize) -> String {
         let (number, bits, list) = read_component(mode, code, length);
         format!("{number} {bits} {}", fnv(list.iter().flat_map(|v| v.to_le_bytes())))
+    }
+
+    fn settings(version: u8, given: &[u8]) -> String {
+        let (number, luma, chroma, mode) = read_settings(version, given);
+        // five bytes a set, low half first
+        let packed = |set: [u8; 10]| set.chunks(2).map(|pair| format!("{:02x}", pair[0] + 16 * pair[1])).collect::<String>();
+        match number {
+            0 => format!("0 {} {} {mode}", packed(luma), packed(chroma)),
+            _ => format!("{number} - - {mode}"),
+        }
     }
 
     /// What the collector has, as a line ends.
@@ -151,24 +166,31 @@ impl Case {
                 }
                 answers + &record(self.session)
             }
-            ["wrf", width, height, mode, quant, index, pix, length, l1, l2, l3, room] => {
-                let quant: Vec<u8> = items(quant, |v| vec![number(v)]);
+            ["wrf", front @ .., index, pix, length, l1, l2, l3, room] | ["wr2", front @ .., index, pix, length, l1, l2, l3, room] => {
+                let [width, height, mode, sets @ ..] = front else { panic!("a size and a mode") };
+                let sets: Vec<[u8; 10]> = sets.iter().map(|quant| ten(quant)).collect();
                 let pixels = pixels(pix, number(width), number(length));
-                let sent = Sent {
-                    width: number(width),
-                    height: number(height),
-                    mode: number(mode),
-                    quant: quant.try_into().expect("ten quantisers"),
-                    index: number(index),
-                    pixels: &pixels,
-                };
+                let sent =
+                    Sent { width: number(width), height: number(height), mode: number(mode), quant: sets[0], index: number(index), pixels: &pixels };
                 // two lists for three lengths: those that are not 4,096 first
                 let mut lengths = [l1, l2, l3].map(|n| number::<usize>(n));
                 lengths.sort_by_key(|&n| n == LIST);
-                let (number, size, out) = write_frame_with(sent, [lengths[0], lengths[1]], number(room));
+                let lengths = [lengths[0], lengths[1]];
+                let (number, size, out) = match sets[..] {
+                    [_] => write_frame_with(sent, lengths, number(room)),
+                    [_, chroma] => write_frame_sets_with(sent, chroma, lengths, number(room)),
+                    _ => panic!("one set or two"),
+                };
                 self.frame = out[..size].to_vec();
                 let work = if matches!(number, 5 | 7 | 2) { 'u' } else { 'z' };
                 format!("{number} {size} {work} {}", fnv(out))
+            }
+            ["set", version, given] => Case::settings(number(version), &bytes(given)),
+            ["setw", version] => Case::settings(number(version), &self.settings),
+            ["wset", luma, chroma, mode, room] => {
+                let (number, size, out) = write_settings(ten(luma), ten(chroma), number(mode), number(room));
+                self.settings = out[..size].to_vec();
+                format!("{number} {size} {}", fnv(out))
             }
             ["take", given] => self.take(&bytes(given)),
             ["reset"] => {
@@ -312,4 +334,11 @@ fn hand_overs() {
 #[test]
 fn capabilities() {
     assert_eq!(run("request_twelve.vec"), (1026, 1491));
+}
+
+#[test]
+fn settings() {
+    assert_eq!(run("request_five.vec"), (483, 1545));
+    assert_eq!(run("request_five_frames.vec"), (21, 120));
+    assert_eq!(run("request_five_glass.vec"), (6, 24));
 }

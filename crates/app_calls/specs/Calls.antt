@@ -12,8 +12,10 @@ use Rattle.session.specs.Header.{headerNumber, headerRecord, headerReading}
 use Rattle.session.specs.declared.Session.{Session}
 use Rattle.code.specs.Read.{readInto}
 use Rattle.frame.specs.Frame.{callFault, frameNumber, framePicture}
-use Rattle.frame_write.specs.Encode.{pictureFrame}
-use Rattle.frame_write.specs.FrameWrite.{argFault, sendFault}
+use Rattle.frame_write.specs.Sets.{frameOver, argFaultOver, sendFaultOver, FrameWrittenOver}
+use Rattle.quants.specs.Quants.{oneFor}
+use Rattle.quants.specs.declared.Quants.{Quants}
+use Rattle.wire.specs.declared.Writing.{Writing}
 use Rattle.collect.specs.Collect.{state, collectOf}
 use Rattle.collect.specs.declared.Collector.{Collector}
 use Rattle.collect.specs.declared.Collected.{Collected}
@@ -99,14 +101,23 @@ pairFits one two =
     leb one 8192 ! false ⨾
     leb two 8192
 
+-- the quantisers that are asked for: luma's and chroma's, or luma's for both, which is the writer of one set
+unfoldable pub askedSets : Asked → Quants
+askedSets a = a .sets ⇒ a .q ∣ oneFor (a .q .luma .v)
+
 -- its first fault, and its bytes
 abbrev pub sentFault : Asked → List ℕ → ℕ → ℕ → ℕ → ℕ
 sentFault a pixels one two room =
-    argFault (a .width) (a .height) (a .mode) (a .q .v) (length pixels) one two ⨟
-    sendFault (a .index) (a .width) (a .height) (a .mode) (a .q .v) pixels room
+    argFaultOver (a .width) (a .height) (a .mode) (askedSets a) (length pixels) one two ⨟
+    sendFaultOver (a .index) (a .width) (a .height) (a .mode) (askedSets a) pixels room
 
 abbrev pub sentBytes : Asked → List ℕ → List ℕ
-sentBytes a pixels = pictureFrame (a .index) (a .width) (a .height) (a .mode) (a .q .v) pixels
+sentBytes a pixels = frameOver (a .index) (a .width) (a .height) (a .mode) (askedSets a) pixels
+
+-- its promise
+abbrev pub AskedWritten : Asked → List ℕ → List ℤ → List ℤ → List ℤ → List ℤ → List ℕ → List ℕ → Writing → Type 0
+AskedWritten a pixels list list′ scratch scratch′ out out′ w =
+    FrameWrittenOver (a .width) (a .height) (a .mode) (askedSets a) (a .index) pixels list list′ scratch scratch′ out out′ w
 
 -- the bytes that it says it wrote, and the output after it; where the call is not made, a count beyond any output, and nothing changes
 pub record FrameSent (made : Bool) (fault : ℕ) (bytes out out′ : List ℕ) (n : ℕ) : Type 0 where

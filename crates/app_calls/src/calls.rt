@@ -8,9 +8,10 @@ ghost use Rattle.whole.specs.Row.{_!_⨾_};
 ghost use lib.ListN.{length};
 ghost use Rattle.code_write.specs.Write.{bytesOf, writeFault};
 ghost use Rattle.headers.specs.Headers.{headersOf, headersFault};
-ghost use Rattle.app_calls.specs.Calls.{componentLeft, WriterSaid, headerLeft, heard, fourBack, fits, FrameMade, pairFits, sentFault, sentBytes, FrameSent};
-use bands::Quant;
+ghost use Rattle.app_calls.specs.Calls.{componentLeft, WriterSaid, headerLeft, heard, fourBack, fits, FrameMade, pairFits, sentFault, sentBytes, FrameSent, AskedWritten};
+use quants::Quants;
 use session::Session;
+use wire::Writing;
 
 // The line of a frame call: a recording's; or a short one, with a comma in front of all but the first part; or words, with the call's count.
 pub enum Line {
@@ -247,13 +248,34 @@ pub fn frame_call(s: Session, message: &[u8], picture: &mut [u16], n: Lengths, l
     frame_with_one(s, message, picture, &mut y[0..one], n, l)
 }
 
-// What the frame writer is asked for, beside memory.
+// What the frame writer is asked for, beside memory; `sets` where it is the one over luma's and chroma's quantisers, else they are luma's.
 pub struct Asked {
     pub width: usize,
     pub height: usize,
     pub mode: u8,
     pub index: u32,
-    pub q: Quant,
+    pub q: Quants,
+    pub sets: bool,
+}
+
+// The one frame writer or the other.
+fn written_by(
+    a: Asked,
+    pixels: &[u8],
+    list: &mut [i32],
+    scratch: &mut [i32],
+    out: &mut [u8],
+) -> Writing
+    ensures { λ r. ⌜ AskedWritten a (now (pixels .entry)) (now (list .entry)) (now (list .exit)) (now (scratch .entry)) (now (scratch .exit)) (now (out .entry)) (now (out .exit)) r ⌝ }
+{
+    let q = a.q;
+    let w = a.width;
+    let h = a.height;
+    if a.sets {
+        return panel::write_frame_sets(w, h, a.mode, q, a.index, pixels, list, scratch, out);
+    }
+    let luma = q.luma;
+    panel::write_frame(w, h, a.mode, luma, a.index, pixels, list, scratch, out)
 }
 
 // The frame writer on an output of A5, with its second list, a part of one of 8,192; a count of bytes beyond any output, and nothing filled, where more is asked for.
@@ -266,18 +288,7 @@ fn writer_with_one(a: Asked, pixels: &[u8], list: &mut [i32], two: usize, out: &
         return usize::MAX;
     }
     app_recording::lent::fill_bytes(out, 0xA5);
-    let q = a.q;
-    let w = panel::write_frame(
-        a.width,
-        a.height,
-        a.mode,
-        q,
-        a.index,
-        pixels,
-        list,
-        &mut scratch[0..two],
-        out,
-    );
+    let w = written_by(a, pixels, list, &mut scratch[0..two], out);
     let n = wire::writing_length(w);
     let after = &scratch[..];
     crate::lines::say_written(

@@ -1,5 +1,6 @@
-// The calls of the library made for a recording, each with the line that it answers (`calls`, `collected`, `capabilities`, `lines`), and a stream given to the
-// collector, whose parts go to their calls (`given`). No customer links it.
+// The calls of the library made for a recording, each with the line that it answers (`calls`, `collected`, `capabilities`, `cabinet`, `lines`), and a stream given
+// to the collector, whose parts go to their calls (`given`). No customer links it.
+pub mod cabinet;
 pub mod calls;
 pub mod capabilities;
 pub mod collected;

@@ -1,12 +1,15 @@
 // The lines that `replay` prints, one for each call: 01's number, its values, the record, a letter for the work lists, a hash of the lent memory. No section
 // of document 01 is made true here; the expected output of the recording has the same lines.
 use app_text::lines::OUT;
+use bands::Quant;
 use caps::Ack;
 use caps::Caps;
 use caps::Entry;
 use collect::Collected;
 use collect::Collector;
+use quants::Quants;
 use session::Session;
+use settings::Settings;
 
 // Two numbers, with a blank between them.
 fn say_two(text: &[u8], a: u64, b: u64) {
@@ -181,5 +184,42 @@ pub fn say_fourfold(one: u8, two: u8, three: u8, four: u8, s: Session)
     say_two(b"", one as u64, two as u64);
     say_two(b" ", three as u64, four as u64);
     say_record(s);
+    app_text::lines::say(OUT, b"\n");
+}
+
+// Two quantisers as the byte that has them, low half first.
+fn say_pair(low: u8, high: u8) {
+    app_text::lines::say_hex(OUT, b"", low as u64 + 16 * high as u64, 2);
+}
+
+// A set as its five bytes, behind a blank.
+fn say_set(q: Quant) {
+    let v = q.v;
+    app_text::lines::say(OUT, b" ");
+    say_pair(v[0], v[1]);
+    say_pair(v[2], v[3]);
+    say_pair(v[4], v[5]);
+    say_pair(v[6], v[7]);
+    say_pair(v[8], v[9]);
+}
+
+// The two sets, or that there are none.
+fn say_sets(number: u8, q: Quants) {
+    if number != 0 {
+        app_text::lines::say(OUT, b" - -");
+        return;
+    }
+    say_set(q.luma);
+    say_set(q.chroma);
+}
+
+// Settings: the number, the sets and the mode.
+pub fn say_settings(number: u8, s: Settings)
+    ensures { λ _. ⌜ Unit ⌝ }
+{
+    let q = s.quants;
+    app_text::lines::say_number(OUT, b"", number as u64);
+    say_sets(number, q);
+    app_text::lines::say_number(OUT, b" ", s.mode as u64);
     app_text::lines::say(OUT, b"\n");
 }

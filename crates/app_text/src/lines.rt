@@ -42,6 +42,8 @@ fn say_word(number: u8) {
         11 => say(ERR, b" tail\n"),
         12 => say(ERR, b" order\n"),
         13 => say(ERR, b" room\n"),
+        14 => say(ERR, b" version not taken\n"),
+        15 => say(ERR, b" no setting\n"),
         16 => say(ERR, b" out of order\n"),
         17 => say(ERR, b" tile missing\n"),
         _ => say(ERR, b"\n"),

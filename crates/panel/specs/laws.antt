@@ -1,3 +1,4 @@
+pub mod Cabinet
 pub mod Capabilities
 pub mod Collector
 pub mod Edge

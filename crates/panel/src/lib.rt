@@ -16,6 +16,7 @@ use session::HeaderReading;
 use session::Session;
 use wire::Writing;
 
+pub mod cabinet;
 pub mod capabilities;
 pub mod collector;
 pub mod edge;

@@ -7,6 +7,7 @@ use app_calls::calls::Line;
 use app_recording::read::Four;
 use app_recording::read::In;
 use bands::Quant;
+use quants::Quants;
 
 // The frame call on the words of picture that are lent, and the desk after it.
 fn framed(d: Desk, from: In, message: &[u8], picture: &mut [u16], n: Lengths) -> Desk {
@@ -56,38 +57,72 @@ pub fn frame_again(d: Desk, input: &mut [u8], out: &[u8], picture: &mut [u16]) -
     )
 }
 
-// What a 'Z' asks for: size, mode and index; lists and room; the quantisers; how many bytes of pixels.
+// Quantiser sets, luma's and chroma's.
+pub struct Sets {
+    pub luma: [u8; 10],
+    pub chroma: [u8; 10],
+    pub from: In,
+}
+
+// Two sets of ten bytes, or one that is both.
+pub fn take_sets(input: &mut [u8], c: In, two: bool) -> Sets {
+    let t = app_recording::read::take_ten(input, c);
+    let luma = t.v;
+    let after = t.from;
+    if !two {
+        return Sets {
+            luma: luma,
+            chroma: luma,
+            from: after,
+        };
+    }
+    let u = app_recording::read::take_ten(input, after);
+    let chroma = u.v;
+    let from = u.from;
+    Sets {
+        luma: luma,
+        chroma: chroma,
+        from: from,
+    }
+}
+
+// What a 'Z' or a 'y' asks for: size, mode and index; lists and room; the quantisers, one set or two; how many bytes of pixels.
 struct Sent {
     size: Four,
     lists: Four,
-    v: [u8; 10],
+    q: Sets,
     count: usize,
     from: In,
 }
 
-fn take_sent(input: &mut [u8], c: In, pixels: &mut [u8]) -> Sent {
+fn take_sent(input: &mut [u8], c: In, pixels: &mut [u8], two: bool) -> Sent {
     let size = app_recording::read::take_four(input, c);
     let lists = app_recording::read::take_four(input, size.from);
-    let t = app_recording::read::take_ten(input, lists.from);
+    let t = take_sets(input, lists.from, two);
     let n = app_recording::read::number(input, t.from);
     let from = app_recording::read::take_message(input, n.from, pixels, n.value);
-    let v = t.v;
     Sent {
         size: size,
         lists: lists,
-        v: v,
+        q: t,
         count: n.value,
         from: from,
     }
 }
 
-fn asked(size: Four, v: [u8; 10]) -> Asked {
+fn asked(size: Four, q: Sets, sets: bool) -> Asked {
+    let luma = q.luma;
+    let chroma = q.chroma;
     Asked {
         width: size.a,
         height: size.b,
         mode: app_recording::read::byte_of(size.c),
         index: app_recording::read::index_of(size.d),
-        q: Quant { v: v },
+        q: Quants {
+            luma: Quant { v: luma },
+            chroma: Quant { v: chroma },
+        },
+        sets: sets,
     }
 }
 
@@ -108,16 +143,22 @@ fn frame_writer_on(a: Asked, lists: Four, pixels: &[u8], out: &mut [u8]) -> usiz
     app_calls::calls::frame_writer_call(a, pixels, lists.a, second_length(lists), &mut out[0..room])
 }
 
-// 'Z': the frame writer.
-pub fn frame_writer(d: Desk, input: &mut [u8], pixels: &mut [u8], out: &mut [u8]) -> Desk {
-    let a = take_sent(input, d.from, pixels);
+// 'Z': the frame writer; 'y': the one over two quantiser sets.
+pub fn frame_writer(
+    d: Desk,
+    input: &mut [u8],
+    pixels: &mut [u8],
+    out: &mut [u8],
+    sets: bool,
+) -> Desk {
+    let a = take_sent(input, d.from, pixels, sets);
     let from = a.from;
-    let v = a.v;
+    let q = a.q;
     if !from.whole {
         return crate::records::bad(d);
     }
     let n = frame_writer_on(
-        asked(a.size, v),
+        asked(a.size, q, sets),
         a.lists,
         app_text::loading::first(pixels, a.count),
         out,

@@ -1,6 +1,8 @@
 // Makes the calls of a recording (standard input) on the public functions of `panel`, and prints one line for each: 01's number, its values, the record, and a
 // hash of the lent memory. A record of the recording is a letter and little-endian numbers of four bytes, then bytes; lent lists hold 7 and lent output A5.
-// The records are in `records`, `frame_records`, `collector_records` and `caps_records`, the calls and their lines in `app_calls`; here is the loop.
+// The records are in `records`, `frame_records`, `collector_records`, `caps_records` and `cabinet_records`, the calls and their lines in `app_calls`; here is the
+// loop.
+mod cabinet_records;
 mod caps_records;
 mod collector_records;
 mod frame_records;
@@ -40,6 +42,23 @@ fn caps_record(d: Desk, letter: u8, input: &mut [u8], message: &mut [u8], out: &
     }
 }
 
+// One record for settings and two quantiser sets, by its letter.
+fn cabinet_record(
+    d: Desk,
+    letter: u8,
+    input: &mut [u8],
+    message: &mut [u8],
+    out: &mut [u8],
+) -> Desk {
+    match letter {
+        b's' => crate::cabinet_records::read_settings(d, input, message),
+        b'S' => crate::cabinet_records::read_again(d, input, out),
+        b'w' => crate::cabinet_records::write_settings(d, input, out),
+        b'y' => crate::frame_records::frame_writer(d, input, message, out, true),
+        _ => caps_record(d, letter, input, message, out),
+    }
+}
+
 // One record of 01's calls, by its letter.
 fn base_record(
     d: Desk,
@@ -61,8 +80,8 @@ fn base_record(
         b'Y' => crate::records::headers_again(d, out),
         b'F' => crate::frame_records::frame(d, input, message, picture),
         b'G' => crate::frame_records::frame_again(d, input, out, picture),
-        b'Z' => crate::frame_records::frame_writer(d, input, message, out),
-        _ => caps_record(d, letter, input, message, out),
+        b'Z' => crate::frame_records::frame_writer(d, input, message, out, false),
+        _ => cabinet_record(d, letter, input, message, out),
     }
 }
 

@@ -1,5 +1,4 @@
 pub mod Cases
-pub mod Edge
 pub mod Request
 pub mod Settings
 pub mod laws

@@ -297,21 +297,30 @@ pub struct Sent<'a> {
 
 /// The frame writer with work lists of these lengths: number, length, output.
 pub fn write_frame_with(sent: Sent, lengths: [usize; 2], room: usize) -> (u8, usize, Vec<u8>) {
-    let pixels = Lent::of(sent.pixels);
+    written_frame(sent.pixels, lengths, room, |pixels, list, scratch, out| {
+        edge::write_frame(sent.width, sent.height, sent.mode, &sent.quant, sent.index, pixels, list, scratch, out)
+    })
+}
+
+/// The same with chroma's own quantisers.
+pub fn write_frame_sets_with(sent: Sent, chroma: [u8; 10], lengths: [usize; 2], room: usize) -> (u8, usize, Vec<u8>) {
+    written_frame(sent.pixels, lengths, room, |pixels, list, scratch, out| {
+        edge::write_frame_sets(sent.width, sent.height, sent.mode, &sent.quant, &chroma, sent.index, pixels, list, scratch, out)
+    })
+}
+
+/// A frame writer on lent memory.
+fn written_frame(
+    sent: &[u8],
+    lengths: [usize; 2],
+    room: usize,
+    write: impl Fn(&[u8], &mut [i32], &mut [i32], &mut [u8]) -> (u8, usize),
+) -> (u8, usize, Vec<u8>) {
+    let pixels = Lent::of(sent);
     let [mut list, mut scratch] = lengths.map(|n| Lent::filled(7, n));
     let mut out = Lent::filled(0xA5, room);
-    let (number, size) = edge::write_frame(
-        sent.width,
-        sent.height,
-        sent.mode,
-        &sent.quant,
-        sent.index,
-        pixels.part(),
-        list.part_mut(),
-        scratch.part_mut(),
-        out.part_mut(),
-    );
-    kept(pixels, sent.pixels);
+    let (number, size) = write(pixels.part(), list.part_mut(), scratch.part_mut(), out.part_mut());
+    kept(pixels, sent);
     // "The frame writer's work lists are untouched on 5, 7 and 2 and hold only zeros after every other answer."
     for list in [list, scratch].map(Lent::taken) {
         match number {
@@ -325,6 +334,26 @@ pub fn write_frame_with(sent: Sent, lengths: [usize; 2], room: usize) -> (u8, us
 /// The frame writer with good work lists.
 pub fn write_frame(sent: Sent, room: usize) -> (u8, usize, Vec<u8>) {
     write_frame_with(sent, [LIST; 2], room)
+}
+
+// ---- settings: the numbers that their reader has are 1, 3, 5, 7, 12, 14 and 15, and a refusal gives no settings
+
+/// The reader that knows this version: the number, luma, chroma, the mode.
+pub fn read_settings(newest: u8, bytes: &[u8]) -> (u8, [u8; 10], [u8; 10], u8) {
+    let b = Lent::of(bytes);
+    let (mut luma, mut chroma) = ([99; 10], [99; 10]);
+    let (number, mode) = edge::read_settings(newest, b.part(), &mut luma, &mut chroma);
+    kept(b, bytes);
+    assert!(matches!(number, 0 | 1 | 3 | 5 | 7 | 12 | 14 | 15), "number {number}");
+    assert!(number == 0 || (luma, chroma, mode) == ([0; 10], [0; 10], 0), "refused {number}, and settings are given");
+    (number, luma, chroma, mode)
+}
+
+/// The writer.
+pub fn write_settings(luma: [u8; 10], chroma: [u8; 10], mode: u8, room: usize) -> (u8, usize, Vec<u8>) {
+    let mut out = Lent::filled(0xA5, room);
+    let (number, size) = edge::write_settings(&luma, &chroma, mode, out.part_mut());
+    written(number, size, out)
 }
 
 // ---- capabilities and acknowledgements: the numbers that their readers have are 1, 4, 5 and 6, and a refusal gives no fields

@@ -20,6 +20,11 @@ use Rattle.code.specs.Read.{readInto, ComponentRead}
 use Rattle.code_write.specs.Write.{ComponentWritten, bytesOf, writeFault}
 use Rattle.frame.specs.Frame.{callFault, frameNumber, framePicture}
 use Rattle.frame_write.specs.FrameWrite.{FrameWritten}
+use Rattle.frame_write.specs.Sets.{FrameWrittenOver}
+use Rattle.frame_write.specs.laws.OneSet.{as-over}
+use Rattle.settings.specs.Settings.{settingsOf}
+use Rattle.settings.specs.Settings as Kept
+use Rattle.settings.specs.declared.Settings.{Settings}
 use Rattle.collect.specs.Collect.{HandOver, state, said, collectOf}
 use Rattle.collect.specs.declared.Collector.{Collector}
 use Rattle.collect.specs.declared.Took.{Took}
@@ -29,7 +34,7 @@ use Rattle.caps.specs.Ack.{ackOf, ackFault}
 use Rattle.caps.specs.declared.Caps.{Caps}
 use Rattle.caps.specs.declared.Ack.{Ack}
 use Rattle.app_calls.specs.Calls.{componentLeft, WriterMade, WriterSaid, headerLeft, heard, between, fourBack, frameMade, fits, FrameMade, Taken}
-use Rattle.app_calls.specs.Calls.{pairFits, sentFault, sentBytes, FrameSent}
+use Rattle.app_calls.specs.Calls.{pairFits, askedSets, sentFault, sentBytes, AskedWritten, FrameSent}
 use Rattle.app_calls.specs.declared.calls.Asked.{Asked}
 use Rattle.app_calls.specs.declared.calls.Heard.{Heard}
 use Rattle.app_calls.specs.declared.calls.Fourfold.{Fourfold}
@@ -64,6 +69,11 @@ pub headers-said :
     (width height mode : ℕ) (out x out′ : List ℕ) (w : Writing) (n : ℕ) → x ≡ replicate (length out) 0xA5 → HeadersWritten width height mode x out′ w →
     n ≡ writingLength w → WriterSaid (headersFault width height mode (length out)) (headersOf width height mode) out out′ n
 headers-said width height mode out x out′ w n f p e = wrote (headersFault width height mode) (headersOf width height mode) out x out′ w f p n e
+
+pub settings-said :
+    (s : Settings) (out x out′ : List ℕ) (w : Writing) (n : ℕ) → x ≡ replicate (length out) 0xA5 → Wrote (Kept.writeFault s (length x)) (settingsOf s) x out′ w →
+    n ≡ writingLength w → WriterSaid (Kept.writeFault s (length out)) (settingsOf s) out out′ n
+settings-said s out x out′ w n f p e = wrote (Kept.writeFault s) (settingsOf s) out x out′ w f p n e
 
 pub caps-made :
     (c : Caps) (out x out′ : List ℕ) (w : Writing) → x ≡ replicate (length out) 0xA5 → Wrote (capsFault c (length x)) (capsOf c) x out′ w →
@@ -169,11 +179,25 @@ module _ (bytes out : List ℕ) where
   unfolding pairFits
   list-not fault one two h = not-sent _ fault (sym (fails _ _ _ _ (lt-leb one 8192 h) refl))
 
+-- the one writer or the other
+module _ (a : Asked) (pixels : List ℕ) (list list′ scratch scratch′ : List ℤ) (out out′ : List ℕ) (w : Writing) where
+  pub sets-written :
+      a .sets ≡ true → FrameWrittenOver (a .width) (a .height) (a .mode) (a .q) (a .index) pixels list list′ scratch scratch′ out out′ w →
+      AskedWritten a pixels list list′ scratch scratch′ out out′ w
+  unfolding askedSets _⇒_∣_
+  sets-written e p = rw e p
+
+  pub one-written :
+      a .sets ≡ false → FrameWritten (a .width) (a .height) (a .mode) (a .q .luma .v) (a .index) pixels list list′ scratch scratch′ out out′ w →
+      AskedWritten a pixels list list′ scratch scratch′ out out′ w
+  unfolding askedSets _⇒_∣_
+  one-written e p = rw e (as-over _ _ _ _ _ _ _ _ _ _ _ _ _ p)
+
 -- x is the output as it was filled
 pub frame-sent :
     (a : Asked) (pixels : List ℕ) (list list′ scratch scratch′ : List ℤ) (out x out′ : List ℕ) (two n : ℕ) (w : Writing) →
     two ≤ 8192 → length scratch ≡ two → x ≡ replicate (length out) 0xA5 →
-    FrameWritten (a .width) (a .height) (a .mode) (a .q .v) (a .index) pixels list list′ scratch scratch′ x out′ w → n ≡ writingLength w →
+    AskedWritten a pixels list list′ scratch scratch′ x out′ w → n ≡ writingLength w →
     FrameSent (leb two 8192) (sentFault a pixels (length list) two (length out)) (sentBytes a pixels) out out′ n
 frame-sent a pixels list list′ scratch scratch′ out x out′ two n w h k f p e =
     let q = wrote (sentFault a pixels (length list) (length scratch)) (sentBytes a pixels) out x out′ w f (p .wrote) n e in

@@ -3,9 +3,6 @@ use Rattle.app_calls.specs.laws.Calls.{list-not, list-sent}
 use borrow.Author.Needs.{needs}
 use Rattle.app_calls.proofs.calls.frame_writer_call.Statement.{statement}
 use Rattle.app_calls.proofs.calls.frame_writer_call.Tie as tie
-use Rattle.app_calls.proofs.calls.frame_writer_call.Reads as reads
-use Rattle.app_calls.proofs.calls.frame_writer_call.Lts as lts
-use Rattle.app_calls.proofs.calls.writer_with_one.Reads as writer-with-one-reads
 
 slice-aggregate-list : tie.Need-slice-aggregate-list
 slice-aggregate-list c = search needs

@@ -3,15 +3,6 @@ use Rattle.app_calls.specs.laws.Calls.{pair-not, frame-sent}
 use borrow.Author.Needs.{needs}
 use Rattle.app_calls.proofs.calls.writer_with_one.Statement.{statement}
 use Rattle.app_calls.proofs.calls.writer_with_one.Tie as tie
-use Rattle.app_calls.proofs.calls.writer_with_one.Reads as reads
-use Rattle.app_calls.proofs.calls.writer_with_one.Lts as lts
-use Rattle.app_calls.proofs.calls.pair_letter.Reads as pair-letter-reads
-use Rattle.app_calls.proofs.lines.say_written.Reads as say-written-reads
-use Rattle.app_recording.proofs.lent.fill_bytes.Reads as fill-bytes-reads
-use Rattle.app_recording.proofs.lent.hash_bytes.Reads as hash-bytes-reads
-use Rattle.panel.proofs.write_frame.Reads as write-frame-reads
-use Rattle.wire.proofs.writing_length.Reads as writing-length-reads
-use Rattle.wire.proofs.writing_number.Reads as writing-number-reads
 
 slice-aggregate-scratch : tie.Need-slice-aggregate-scratch
 slice-aggregate-scratch c = search needs
@@ -22,17 +13,17 @@ returns c = pair-not _ _ _ _ (c .before .if1 .taken)
 fill-bytes-requires : tie.Need-fill-bytes-requires
 fill-bytes-requires c κs = search needs
 
-sub-write-frame : tie.Need-sub-write-frame
-sub-write-frame c = search needs
+sub-written-by : tie.Need-sub-written-by
+sub-written-by c = search needs
 
-part-write-frame-start : tie.Need-part-write-frame-start
-part-write-frame-start c = search needs
+part-written-by-start : tie.Need-part-written-by-start
+part-written-by-start c = search needs
 
-part-write-frame-end : tie.Need-part-write-frame-end
-part-write-frame-end c = search needs
+part-written-by-end : tie.Need-part-written-by-end
+part-written-by-end c = search needs
 
-write-frame-requires : tie.Need-write-frame-requires
-write-frame-requires c κs = search needs
+written-by-requires : tie.Need-written-by-requires
+written-by-requires c κs = search needs
 
 writing-length-requires : tie.Need-writing-length-requires
 writing-length-requires c κs = search needs
@@ -68,8 +59,8 @@ returns-2 : tie.Need-returns-2
 returns-2 c =
     let d = c .before .before .before .before .before .before .before .before .before in
     let e = d .before .before .before .before .before in
-    let f = e .before .before .before .before .before .before .before in
-    frame-sent _ _ _ _ _ _ _ _ _ _ _ _ (f .before .before .if1 .left) (search needs) (f .fill-bytes .ensures) (e .write-frame .ensures) (d .writing-length .ensures)
+    let f = e .before .before .before .before .before .before in
+    frame-sent _ _ _ _ _ _ _ _ _ _ _ _ (f .before .before .if1 .left) (search needs) (f .fill-bytes .ensures) (e .written-by .ensures) (d .writing-length .ensures)
 
 pub writer-with-one-spec : {M : Type 1} → statement M
 writer-with-one-spec =
@@ -78,10 +69,10 @@ writer-with-one-spec =
     slice-aggregate-scratch
     returns
     fill-bytes-requires
-    sub-write-frame
-    part-write-frame-start
-    part-write-frame-end
-    write-frame-requires
+    sub-written-by
+    part-written-by-start
+    part-written-by-end
+    written-by-requires
     writing-length-requires
     writing-number-requires
     sub-pair-letter

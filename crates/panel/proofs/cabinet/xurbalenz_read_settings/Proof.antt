@@ -1,9 +1,9 @@
--- `settings::edge::xurbalenz_read_settings` meets its contract: the number and the settings are those of `readSettings`. Assumes nothing.
+-- `panel::cabinet::xurbalenz_read_settings` meets its contract: the number and the settings are those of `readSettings`. Assumes nothing.
 use mathlib.Core.Path.{ap}
 use borrow.Author.Needs.{needs}
 use Rattle.settings.specs.declared.read.Reading.{Reading}
-use Rattle.settings.proofs.edge.xurbalenz_read_settings.Statement.{statement}
-use Rattle.settings.proofs.edge.xurbalenz_read_settings.Tie as tie
+use Rattle.panel.proofs.cabinet.xurbalenz_read_settings.Statement.{statement}
+use Rattle.panel.proofs.cabinet.xurbalenz_read_settings.Tie as tie
 
 returns : tie.Need-returns
 returns c =
