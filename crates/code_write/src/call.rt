@@ -1,7 +1,7 @@
 // The component writer of document 01: "The component code", the numbers 5, 2, 9, 6, 13 and their order, and "Writers leave their output untouched on
 // every refusal; when done they say the length in bytes, refused 0, and bytes past it are untouched." So the code is measured before it is written.
 ghost use mathlib.Core.Path.{_≡_};
-ghost use mathlib.Core.Bool.{true, false};
+ghost use mathlib.Core.Bool.{true, false, _&&_};
 ghost use Prim.Native.Nat.{_+_, _≤_};
 ghost use lib.Dec.{leb};
 ghost use lib.IntN.{natAbs};
@@ -27,18 +27,23 @@ fn near(x: i32) -> bool
     x <= 32767
 }
 
-// Whether all numbers of a list are.
+fn both(a: bool, b: bool) -> bool
+    ensures { λ r. ⌜ r ≡ (a && b) ⌝ }
+{
+    if a { b } else { false }
+}
+
+// Whether all numbers of a list are. No way out of the loop before its end, so that a machine may take several numbers at once.
 pub fn in_range(list: &[i32]) -> bool
     ensures { λ r. ⌜ r ≡ allInRange (now (list .entry)) ⌝ }
 {
+    let mut good = true;
     let mut i: usize = 0;
     while i < list.len() {
-        if !near(list[i]) {
-            return false;
-        }
+        good = both(good, near(list[i]));
         i += 1;
     }
-    true
+    good
 }
 
 // The code's size in bytes.

@@ -20,25 +20,28 @@ fn folded_at(xs: &[i32], i: usize) -> usize
     code::element::folded(xs[i])
 }
 
+// The place past `most` places from i on, or past the last of n.
+fn run_end(n: usize, i: usize, most: usize) -> usize
+    requires { ⌜ i ≤ n ⌝ }
+    ensures { λ r. ⌜ r ≡ min n (i + most) ⌝ }
+{
+    if n - i < most { n } else { i + most }
+}
+
 // The zeros from place i on, counted up to `most`.
 fn zeros_from(xs: &[i32], i: usize, most: usize) -> usize
-    requires { ⌜ (length (now xs) ≤ 4096) × InRange (map foldZ (now xs)) ⌝ }
+    requires { ⌜ (length (now xs) ≤ 4096) × InRange (map foldZ (now xs)) × (i ≤ length (now xs)) ⌝ }
     ensures { λ r. ⌜ r ≡ min most (zerosOf (drop i (map foldZ (now (xs .entry))))) ⌝ }
 {
-    let mut z: usize = 0;
+    let end = run_end(xs.len(), i, most);
     let mut j = i;
-    while j < xs.len() {
-        if z == most {
-            return z;
+    while j < end {
+        if folded_at(xs, j) != 0 {
+            return j - i;
         }
-        if folded_at(xs, j) == 0 {
-            z += 1;
-            j += 1;
-        } else {
-            return z;
-        }
+        j += 1;
     }
-    z
+    j - i
 }
 
 // The item at place i in run mode: a full run, which may pass the end, or some zeros and the value after them.

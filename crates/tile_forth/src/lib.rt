@@ -9,6 +9,7 @@ ghost use Rattle.whole.specs.Tab.{table};
 ghost use Rattle.whole.specs.laws.Tab.{AllNear};
 ghost use Rattle.bands.specs.Bands.{QuantGood};
 ghost use Rattle.tile_forth.specs.TileForth.{componentOf, edge, bytesAt, sampleAt, roundedOf};
+ghost use Rattle.tile_forth.specs.laws.TileForth.{Loaded};
 
 // Component c of a pixel: 0 is Y, 1 is Cb, 2 is Cr.
 fn component(c: usize, r: u8, g: u8, b: u8) -> i32
@@ -42,14 +43,27 @@ fn bytes_at(pixels: &[u8], c: usize, p: usize) -> i32
     component(c, pixels[p], pixels[p + 1], pixels[p + 2])
 }
 
-// Place i of component c of the tile (tx, ty).
-fn sample(pixels: &[u8], w: usize, h: usize, tx: usize, ty: usize, c: usize, i: usize) -> i32
-    requires { ⌜ (1 ≤ w) × (w ≤ 4096) × (1 ≤ h) × (h ≤ 2048) × (3 * (w * h) ≡ length (now pixels)) × (tx < 64) × (ty < 64) × (i < 4096) ⌝ }
-    ensures { λ v. ⌜ (v ≡ sampleAt (now (pixels .entry)) w h tx ty c i) × Near 16384 v ⌝ }
+// Row j of component c of the tile (tx, ty), behind the rows before it: the row's place in the picture is worked out once.
+fn load_row(
+    pixels: &[u8],
+    w: usize,
+    h: usize,
+    tx: usize,
+    ty: usize,
+    c: usize,
+    j: usize,
+    work: &mut [i32],
+)
+    requires { ⌜ (1 ≤ w) × (w ≤ 4096) × (1 ≤ h) × (h ≤ 2048) × (3 * (w * h) ≡ length (now pixels)) × (tx < 64) × (ty < 64) ⌝ }
+    requires { ⌜ (j < 64) × Loaded (sampleAt (now pixels) w h tx ty c) (64 * j) (now work) ⌝ }
+    ensures { λ _. ⌜ Loaded (sampleAt (now (pixels .entry)) w h tx ty c) (64 * (j + 1)) (now (work .exit)) ⌝ }
 {
-    let x = last_or(w, 64 * tx + i % 64);
-    let y = last_or(h, 64 * ty + i / 64);
-    bytes_at(pixels, c, 3 * (y * w + x))
+    let from = 3 * (last_or(h, 64 * ty + j) * w);
+    let mut x = 0;
+    while x < 64 {
+        work[64 * j + x] = bytes_at(pixels, c, from + 3 * last_or(w, 64 * tx + x));
+        x += 1;
+    }
 }
 
 // The samples of component c of the tile (tx, ty).
@@ -57,10 +71,10 @@ fn load(pixels: &[u8], w: usize, h: usize, tx: usize, ty: usize, c: usize, work:
     requires { ⌜ (1 ≤ w) × (w ≤ 4096) × (1 ≤ h) × (h ≤ 2048) × (3 * (w * h) ≡ length (now pixels)) × (tx < 64) × (ty < 64) × (length (now work) ≡ 4096) ⌝ }
     ensures { λ _. ⌜ (now (work .exit) ≡ table 4096 (sampleAt (now (pixels .entry)) w h tx ty c)) × AllNear 16384 (now (work .exit)) ⌝ }
 {
-    let mut i = 0;
-    while i < 4096 {
-        work[i] = sample(pixels, w, h, tx, ty, c, i);
-        i += 1;
+    let mut j = 0;
+    while j < 64 {
+        load_row(pixels, w, h, tx, ty, c, j, work);
+        j += 1;
     }
 }
 

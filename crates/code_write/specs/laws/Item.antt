@@ -7,7 +7,7 @@ use mathlib.Core.List.{List, [], _∷_, _++_, append-assoc}
 use native.Mathlib.Omega.{arith}
 use native.Mathlib.Nat.{mod-mod, div-le-self}
 use native.Mathlib.Numerals.{add-one}
-use lib.ListN.{length, drop, getD, List·getD-eq-default, drop-of-length-le, length-append}
+use lib.ListN.{length, drop, getD, List·getD-eq-default, length-drop, length-append}
 use lib.Seq.{drop-cons, getD-drop}
 use lib.Dec.{eqb}
 use Rattle.bits.specs.Bits.{grBits, numBits, odd}
@@ -34,9 +34,15 @@ zeros-stop l j h n = rw (drop-cons l j 0 h) (go (getD l j 0) n)
     go zero m = absurd (m refl)
     go (suc x) m = refl
 
-pub zeros-past : (l : List ℕ) (j : ℕ) → length l ≤ j → zerosOf (drop j l) ≡ 0
+-- no more than there are numbers
+zeros-le : (m : List ℕ) → zerosOf m ≤ length m
 unfolding zerosOf
-zeros-past l j h = rw (drop-of-length-le l h)
+zeros-le [] = omega arith
+zeros-le (zero ∷ m) = omega (arith, zeros-le m)
+zeros-le (suc x ∷ m) = omega arith
+
+pub zeros-most : (l : List ℕ) (j : ℕ) → zerosOf (drop j l) ≤ length l - j
+zeros-most l j = omega (arith, zeros-le (drop j l), length-drop j l)
 
 -- values in range, and a run's value not 0
 abbrev pub SmallItem : Item → Type 0

@@ -2,7 +2,7 @@
 -- Assumes nothing.
 use Prim.Native.Nat.{ℕ, zero, suc, _+_, _-_, _/_, _≤_, _<_, _^_, min}
 use mathlib.Core.Path.{_≡_, refl, sym, ap, ap₂, subst, _∙_}
-use mathlib.Core.Bool.{Bool, true, false}
+use mathlib.Core.Bool.{Bool, true, false, _&&_}
 use mathlib.Core.List.{List, [], _∷_, _++_, map, append-assoc, append-nil}
 use native.Mathlib.Omega.{arith}
 use native.Mathlib.Numerals.{add-one}
@@ -15,6 +15,7 @@ use lib.Seq.{drop-cons, drop-drop, length-take-le}
 use mir.Syntax.{w32}
 use mir.Val.{SFits, ofZ, toZ}
 use mir.Facts.{toZ-ofZ}
+use Rattle.whole.specs.Row.{_!_⨾_}
 use Rattle.whole.specs.Among.{among, Among}
 use Rattle.whole.specs.laws.Among.{numbers}
 use Rattle.whole.specs.laws.Test.{test-l}
@@ -82,17 +83,29 @@ near-read z r b f e h =
     let fits : SFits w32 z = record { sfits = f } in
     sym (e ∙ ap (λ (x : ℤ). leb (natAbs x) 32767) (toZ-ofZ fits)) ∙ h
 
-pub range-next : (zs : List ℤ) (i : ℕ) → i < length zs → leb (natAbs (getD zs i (pos 0))) 32767 ≡ true → allInRange (drop i zs) ≡ allInRange (drop (i + 1) zs)
-unfolding allInRange
-range-next zs i h e = rw (drop-cons zs i (pos 0) h, add-one i) (sym (passes _ _ _ _ e refl))
+and-row : (a : Bool) (r : Bool) → (a ! false ⨾ r) ≡ (a && r)
+unfolding _!_⨾_
+and-row true r = refl
+and-row false r = refl
 
-pub range-stop : (zs : List ℤ) (i : ℕ) → i < length zs → leb (natAbs (getD zs i (pos 0))) 32767 ≡ false → allInRange (drop i zs) ≡ false
-unfolding allInRange
-range-stop zs i h e = rw (drop-cons zs i (pos 0) h) (sym (fails _ _ _ _ e refl))
+and-three : (a b c : Bool) → (a && (b && c)) ≡ ((a && b) && c)
+and-three true b c = refl
+and-three false b c = refl
 
-pub range-past : (zs : List ℤ) (i : ℕ) → length zs ≤ i → allInRange (drop i zs) ≡ true
+and-true : (a : Bool) → a ≡ (a && true)
+and-true true = refl
+and-true false = refl
+
+-- one number more, and none
+pub range-next : (zs : List ℤ) (i : ℕ) (good n : Bool) → i < length zs → leb (natAbs (getD zs i (pos 0))) 32767 ≡ n →
+    (good && allInRange (drop i zs)) ≡ ((good && n) && allInRange (drop (i + 1) zs))
 unfolding allInRange
-range-past zs i h = rw (drop-of-length-le zs h)
+range-next zs i good n h e =
+    rw (drop-cons zs i (pos 0) h, add-one i) (ap (λ (b : Bool). good && b) (and-row _ _ ∙ ap (λ (b : Bool). b && allInRange (drop (suc i) zs)) e) ∙ and-three good n _)
+
+pub range-past : (zs : List ℤ) (i : ℕ) (good : Bool) → length zs ≤ i → good ≡ (good && allInRange (drop i zs))
+unfolding allInRange
+range-past zs i good h = rw (drop-of-length-le zs h) (and-true good)
 
 true-false : (true ≡ false → ⊥)
 true-false e = let z : _≡_ {A = ℕ} 0 1 = cc in omega arith

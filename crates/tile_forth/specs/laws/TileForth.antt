@@ -1,7 +1,7 @@
 -- Laws of a tile on the writer's way.
 -- Assumes nothing.
-use Prim.Native.Nat.{ℕ, _+_, _*_, _-_, _≤_, _<_, zero-le}
-use mathlib.Core.Path.{_≡_, sym, subst, _∙_}
+use Prim.Native.Nat.{ℕ, _+_, _*_, _-_, _/_, _%_, _≤_, _<_, zero-le}
+use mathlib.Core.Path.{_≡_, sym, ap, subst, _∙_}
 use mathlib.Core.Bool.{Bool, true, false}
 use mathlib.Core.List.{List}
 use native.Mathlib.Decide.{decLt}
@@ -19,7 +19,7 @@ use Rattle.colour.specs.Colour.{lumaOf, cbOf, crOf}
 use Rattle.colour.specs.laws.Near.{luma-near, cb-near, cr-near}
 use Rattle.wave_forth.specs.Forth.{tileForth}
 use Rattle.bands.specs.laws.Rounding.{rounded-length}
-use Rattle.tile_forth.specs.TileForth.{componentOf, edge, pixelPlace, sampleAt, roundedOf}
+use Rattle.tile_forth.specs.TileForth.{componentOf, edge, pixelPlace, bytesAt, sampleAt, roundedOf}
 
 -- ---- one pixel
 
@@ -39,6 +39,16 @@ edge-in n k h = omega arith
 -- a pixel's three bytes lie within the picture's
 pub pixel-in : (w h x y : ℕ) → x < w → y < h → pixelPlace w x y + 3 ≤ 3 * (w * h)
 pixel-in w h x y p q = omega (arith, row-in y h w q)
+
+-- the pixel of column x in row j of a tile, by the place where the row starts
+pub row-sample : (pixels : List ℕ) (w h tx ty c j x p : ℕ) → x < 64 → p ≡ 3 * (edge h (64 * ty + j) * w) + 3 * edge w (64 * tx + x) →
+    bytesAt pixels c p ≡ sampleAt pixels w h tx ty c (64 * j + x)
+unfolding sampleAt
+row-sample pixels w h tx ty c j x p l e =
+    let a : (64 * j + x) % 64 ≡ x = omega arith in
+    let b : (64 * j + x) / 64 ≡ j = omega arith in
+    let f : p ≡ pixelPlace w (edge w (64 * tx + x)) (edge h (64 * ty + j)) = omega arith in
+    rw (a, b) (ap (bytesAt pixels c) f)
 
 -- ---- filling the list
 
