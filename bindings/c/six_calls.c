@@ -205,6 +205,47 @@ static void works(uint8_t mode)
     CHECK(xurbalenz_read_frame_with(s, out, size, shown, 70 * 40, &work, &tiles) == XURBALENZ_ORDER && tiles == 0);
 }
 
+/* Sending only what changed: the list, the check, the short frame on a glass that shows the old picture. */
+static void changes(uint8_t mode)
+{
+    static const uint8_t quant[10] = XURBALENZ_DEFAULT_QUANT;
+    static const uint32_t both[2] = {0, 1}, again[2] = {1, 1}, beyond[1] = {2};
+    static uint8_t old[sizeof pixels];
+    static uint16_t want[70 * 40];
+    uint32_t picks[2] = {7, 7};
+    size_t count = 9, size = 9, full = 9, tiles = 9;
+    frames(mode); /* the session's headers are in, and the glass is white */
+    memset(old, 255, sizeof old);
+    memset(pixels, 255, sizeof pixels);
+    memset(pixels + 3 * 65, 0, 9); /* three pixels of the second tile */
+    CHECK(xurbalenz_make_plan(70, 40, old, sizeof old, pixels, sizeof pixels, picks, 0, &count) == XURBALENZ_ROOM && count == 0);
+    CHECK(xurbalenz_make_plan(70, 40, old, sizeof old, pixels, sizeof pixels, picks, 2, &count) == XURBALENZ_DONE && count == 1);
+    CHECK(picks[0] == 1 && picks[1] == 7);
+    CHECK(xurbalenz_check_plan(70, 40, old, sizeof old, pixels, sizeof pixels, picks, 1) == XURBALENZ_DONE);
+    CHECK(xurbalenz_check_plan(70, 40, old, sizeof old, pixels, sizeof pixels, picks, 0) == XURBALENZ_TILE_MISSING);
+    CHECK(xurbalenz_check_plan(70, 40, old, sizeof old, pixels, sizeof pixels, again, 2) == XURBALENZ_OUT_OF_ORDER);
+    CHECK(xurbalenz_check_plan(70, 40, old, sizeof old, pixels, sizeof pixels, beyond, 1) == XURBALENZ_PLACE);
+    CHECK(xurbalenz_check_plan(70, 40, old, sizeof old - 1, pixels, sizeof pixels, both, 2) == XURBALENZ_BUFFER);
+    CHECK(xurbalenz_write_frame(70, 40, mode, quant, 5, pixels, sizeof pixels, y, XURBALENZ_LIST, scratch, XURBALENZ_LIST, out, sizeof out, &full) ==
+          XURBALENZ_DONE);
+    memcpy(want, picture, sizeof want);
+    CHECK(xurbalenz_read_frame(&session, out, full, want, 70 * 40, y, XURBALENZ_LIST, cb, XURBALENZ_LIST, cr, XURBALENZ_LIST, scratch, XURBALENZ_LIST,
+                               &tiles) == XURBALENZ_DONE &&
+          tiles == 2);
+    CHECK(xurbalenz_write_frame_short(70, 40, mode, quant, quant, 5, old, sizeof old, pixels, sizeof pixels, picks, 1, y, XURBALENZ_LIST, scratch,
+                                      XURBALENZ_LIST, out, sizeof out, &size) == XURBALENZ_DONE &&
+          size < full);
+    CHECK(xurbalenz_read_frame(&session, out, size, picture, 70 * 40, y, XURBALENZ_LIST, cb, XURBALENZ_LIST, cr, XURBALENZ_LIST, scratch,
+                               XURBALENZ_LIST, &tiles) == XURBALENZ_DONE &&
+          tiles == 1 && memcmp(picture, want, sizeof want) == 0);
+    CHECK(xurbalenz_write_frame_short(70, 40, mode, quant, quant, 5, old, sizeof old, pixels, sizeof pixels, both, 2, y, XURBALENZ_LIST, scratch,
+                                      XURBALENZ_LIST, out, sizeof out, &size) == XURBALENZ_DONE &&
+          size == full);
+    CHECK(xurbalenz_write_frame_short(70, 40, mode, quant, quant, 5, pixels, sizeof pixels, pixels, sizeof pixels, both, 0, y, XURBALENZ_LIST, scratch,
+                                      XURBALENZ_LIST, out, 72, &size) == XURBALENZ_DONE &&
+          size == 72);
+}
+
 int main(void)
 {
     constants();
@@ -213,9 +254,11 @@ int main(void)
     frames(XURBALENZ_RLGR1);
     records(XURBALENZ_RLGR1);
     works(XURBALENZ_RLGR1);
+    changes(XURBALENZ_RLGR1);
     frames(XURBALENZ_RLGR3);
     records(XURBALENZ_RLGR3);
     works(XURBALENZ_RLGR3);
+    changes(XURBALENZ_RLGR3);
     printf("six_calls: %d checks, %d faults\n", checks, faults);
     return faults != 0;
 }

@@ -69,6 +69,19 @@ static void capabilities(void)
     judge(xurbalenz_read_ack(message, size, fields));
 }
 
+/* The frame once more as a short one: its list judged, made and sent. */
+static void short_frame(void)
+{
+    static const uint8_t quant[10] = XURBALENZ_DEFAULT_QUANT, coarse[10] = {15, 15, 15, 15, 15, 15, 15, 15, 15, 15};
+    static uint8_t old[sizeof pixels], sent[sizeof frame];
+    static uint32_t picks[2];
+    size_t count;
+    judge(xurbalenz_make_plan(70, 40, old, sizeof old, pixels, sizeof pixels, picks, 2, &count));
+    judge(xurbalenz_check_plan(70, 40, old, sizeof old, pixels, sizeof pixels, picks, count));
+    judge(xurbalenz_write_frame_short(70, 40, XURBALENZ_RLGR3, quant, coarse, 1, old, sizeof old, pixels, sizeof pixels, picks, count, work.y,
+                                      XURBALENZ_LIST, work.scratch, XURBALENZ_LIST, sent, sizeof sent, &size));
+}
+
 /* How deep a call goes. */
 static size_t depth(void (*call)(void))
 {
@@ -88,7 +101,7 @@ int main(void)
 {
     static void (*const calls[])(void) = {write_headers, read_header,     read_header,    read_header, read_header,
                                           write_frame,   write_component, read_component, read_frame,  collect,
-                                          collect_reset, capabilities};
+                                          collect_reset, capabilities,    short_frame};
     size_t i, deepest = 0, bare = depth(nothing);
     for (i = 0; i < sizeof pixels; i++) pixels[i] = (uint8_t)(i * i >> 5);
     for (i = 0; i < XURBALENZ_LIST; i++) work.cb[i] = (int32_t)(i % 7) - 3;

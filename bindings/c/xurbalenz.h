@@ -36,8 +36,8 @@
  *  - Any x86-64 processor (SSE2 and nothing newer) and the System V calling convention, as on Linux. It is position independent: programs and
  *    shared objects may hold it.
  *  - memcpy and memset, and nothing else, of a C library.
- *  - 1,536 bytes of stack (XURBALENZ_STACK), whatever the input: no function calls itself. Measured were 1,144 for a frame read and 697 for one
- *    written (bindings/c/stack.c). A dynamic linker that looks them up at their first call takes more of its own then.
+ *  - 1,536 bytes of stack (XURBALENZ_STACK), whatever the input: no function calls itself. Measured were 1,144 for a frame read, 697 for one
+ *    written and 1,209 for a short one (bindings/c/stack.c). A dynamic linker that looks them up at their first call takes more of its own then.
  *
  * The numbers, and the rules behind every sentence here, are the project's requirements; docs/PROMISES.md names the theorem for each.
  */
