@@ -82,6 +82,15 @@ static void short_frame(void)
                                       XURBALENZ_LIST, work.scratch, XURBALENZ_LIST, sent, sizeof sent, &size));
 }
 
+static void settings(void)
+{
+    static uint8_t luma[10] = XURBALENZ_DEFAULT_QUANT, chroma[10] = {7, 7, 7, 7, 8, 8, 9, 9, 9, 10}, bytes[XURBALENZ_SETTINGS_SIZE], mode;
+    judge(xurbalenz_write_settings(luma, chroma, XURBALENZ_RLGR1, bytes, sizeof bytes, &size));
+    judge(xurbalenz_read_settings(2, bytes, size, luma, chroma, &mode));
+    judge(xurbalenz_write_frame_sets(70, 40, mode, luma, chroma, 0, pixels, sizeof pixels, work.y, XURBALENZ_LIST, work.scratch, XURBALENZ_LIST, frame,
+                                     sizeof frame, &size));
+}
+
 /* How deep a call goes. */
 static size_t depth(void (*call)(void))
 {
@@ -101,7 +110,7 @@ int main(void)
 {
     static void (*const calls[])(void) = {write_headers, read_header,     read_header,    read_header, read_header,
                                           write_frame,   write_component, read_component, read_frame,  collect,
-                                          collect_reset, capabilities,    short_frame};
+                                          collect_reset, capabilities,    short_frame,     settings};
     size_t i, deepest = 0, bare = depth(nothing);
     for (i = 0; i < sizeof pixels; i++) pixels[i] = (uint8_t)(i * i >> 5);
     for (i = 0; i < XURBALENZ_LIST; i++) work.cb[i] = (int32_t)(i % 7) - 3;
