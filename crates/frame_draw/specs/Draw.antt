@@ -11,11 +11,7 @@ use Rattle.whole.specs.Row.{_!_⨾_, _⇒_∣_}
 
 -- "rectangles x, y, w, h of 2": one holds a pixel; x + w and y + h are whole numbers, never wrapped
 unfoldable pub inside : ℕ → ℕ → ℕ → ℕ → ℕ → ℕ → Bool
-inside x y w h px py =
-    leb x px ! false ⨾
-    ltb px (x + w) ! false ⨾
-    leb y py ! false ⨾
-    ltb py (y + h)
+inside x y w h px py = leb x px ! false ⨾ ltb px (x + w) ! false ⨾ leb y py ! false ⨾ ltb py (y + h)
 
 -- rectangle k of the region's bytes holds the pixel
 unfoldable pub holds : List ℕ → ℕ → ℕ → ℕ → Bool
