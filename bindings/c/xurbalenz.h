@@ -52,8 +52,8 @@ extern "C" {
 #endif
 
 /* The version of this header: 10,000 x major + 100 x minor + patch, and as text. The Rust crate has the same. */
-#define XURBALENZ_VERSION 300
-#define XURBALENZ_VERSION_TEXT "0.3.0"
+#define XURBALENZ_VERSION 400
+#define XURBALENZ_VERSION_TEXT "0.4.0"
 
 /* ---- the numbers the fitter sees ---- */
 
