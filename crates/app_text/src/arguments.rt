@@ -68,7 +68,13 @@ fn place_of(letter: u8, i: usize) -> usize {
 pub fn find(options: [u8; 8], wanted: u8) -> Found
     ensures { λ _. ⌜ Unit ⌝ }
 {
-    let n = os::arg_count();
+    find_below(options, wanted, os::arg_count())
+}
+
+// The same of the arguments below the n-th: where the last file stands at n, what is found is the one before it.
+pub fn find_below(options: [u8; 8], wanted: u8, n: usize) -> Found
+    ensures { λ _. ⌜ Unit ⌝ }
+{
     let mut at = 0;
     let mut times = 0;
     let mut i: usize = 1;

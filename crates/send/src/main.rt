@@ -1,10 +1,12 @@
-// Sends a picture as a RemoteFX stream:  send [FILE] [-m 1|3] [-q Q0 .. Q9] [-i INDEX] [-s SETTINGS]
+// Sends a picture as a RemoteFX stream:  send [FILE] [-m 1|3] [-q Q0 .. Q9] [-i INDEX] [-s SETTINGS], or with OLD NEW for FILE
 // The picture, a binary PPM (P6, 255 the largest value, comments in its head allowed), comes from FILE or from standard input. The stream goes to standard
 // output: the four header blocks (47 bytes) and one frame. -m 3 is RLGR3 (so without -m), -m 1 RLGR1; -q takes ten quantisers from 6 to 15 in the order LL3, LH3,
 // HL3, HH3, LH2, HL2, HH2, LH1, HL1, HH1 (6 6 6 6 7 7 8 8 8 9 without); INDEX is the frame's (0 without). -s takes mode and
 // quantisers, luma's and chroma's, from a settings file instead of -m and -q. At most 1,048,576 pixels and 4,194,304 bytes of
-// stream. Where anything is wrong, a line on standard error says what, and nothing goes to standard output (the kit has no exit status).
+// stream. With OLD and NEW, two pictures of one size, a full frame of OLD and a short frame of NEW, of the tiles that differ (02, request Eleven), at most 524,288
+// pixels each; a line on standard error says what the short one saves (`short`). Where anything is wrong, a line on standard error says what, and nothing goes to standard output (the kit has no exit status).
 mod args;
+mod short;
 
 use crate::args::Options;
 use app_pictures::ppm::Head;
@@ -15,7 +17,7 @@ use settings::read::Reading;
 // ---- lines on standard error
 
 // What the writers refused, with 01's number.
-fn say_refused(number: u8) {
+pub fn say_refused(number: u8) {
     app_text::lines::say(ERR, b"send: ");
     app_text::lines::say_refused(number);
     if number == 13 {
@@ -27,7 +29,7 @@ fn say_refused(number: u8) {
 }
 
 // Why a picture is not taken.
-fn say_fault(fault: u8) {
+pub fn say_fault(fault: u8) {
     match fault {
         1 => app_text::lines::say(ERR, b"send: not a binary PPM: it does not begin with P6\n"),
         2 => app_text::lines::say(ERR, b"send: the PPM's head cannot be read\n"),
@@ -48,20 +50,13 @@ fn say_fault(fault: u8) {
 // ---- the stream
 
 // The writers' answer: 01's number, and the length of the stream.
-struct Made {
-    number: u8,
-    size: usize,
+pub struct Made {
+    pub number: u8,
+    pub size: usize,
 }
 
-// The frame, behind the headers.
-fn make_frame(o: Options, width: usize, height: usize, pixels: &[u8], out: &mut [u8]) -> Made {
-    if out.len() < 47 {
-        return Made {
-            number: 13,
-            size: 0,
-        };
-    }
-    let e = out.len();
+// The frame.
+pub fn frame_into(o: Options, width: usize, height: usize, pixels: &[u8], out: &mut [u8]) -> Made {
     let mut list = [0i32; 4096];
     let mut scratch = [0i32; 4096];
     let s = o.settings;
@@ -75,7 +70,7 @@ fn make_frame(o: Options, width: usize, height: usize, pixels: &[u8], out: &mut 
         pixels,
         &mut list,
         &mut scratch,
-        &mut out[47..e],
+        out,
     );
     Made {
         number: wire::writing_number(w),
@@ -83,8 +78,20 @@ fn make_frame(o: Options, width: usize, height: usize, pixels: &[u8], out: &mut 
     }
 }
 
+// The frame, behind the headers.
+fn make_frame(o: Options, width: usize, height: usize, pixels: &[u8], out: &mut [u8]) -> Made {
+    if out.len() < 47 {
+        return Made {
+            number: 13,
+            size: 0,
+        };
+    }
+    let e = out.len();
+    frame_into(o, width, height, pixels, &mut out[47..e])
+}
+
 // Headers and frame, one behind the other; the size is the frame's.
-fn make(o: Options, width: usize, height: usize, pixels: &[u8], out: &mut [u8]) -> Made {
+pub fn make(o: Options, width: usize, height: usize, pixels: &[u8], out: &mut [u8]) -> Made {
     let s = o.settings;
     let w = panel::write_headers(width, height, s.mode, out);
     let number = wire::writing_number(w);
@@ -98,7 +105,7 @@ fn make(o: Options, width: usize, height: usize, pixels: &[u8], out: &mut [u8]) 
 }
 
 // Writes the stream of 47 bytes and a frame of so many.
-fn put(out: &[u8], size: usize) {
+pub fn put(out: &[u8], size: usize) {
     if out.len() < 47 {
         return;
     }
@@ -123,7 +130,7 @@ fn send(o: Options, width: usize, height: usize, pixels: &[u8], out: &mut [u8]) 
 // ---- the program
 
 // The bytes from a place on.
-fn behind(data: &[u8], at: usize) -> &[u8] {
+pub fn behind(data: &[u8], at: usize) -> &[u8] {
     let n = data.len();
     if at <= n {
         return &data[at..n];
@@ -144,6 +151,10 @@ fn send_picture(o: Options, data: &[u8], out: &mut [u8]) {
 }
 
 fn load_and_send(o: Options, data: &mut [u8], out: &mut [u8]) {
+    if o.old != 0 {
+        crate::short::load_and_send(o, data, out);
+        return;
+    }
     let l = app_text::loading::load(
         o.file,
         data,
@@ -154,8 +165,8 @@ fn load_and_send(o: Options, data: &mut [u8], out: &mut [u8]) {
     }
 }
 
-// The two large ones come as arrays: their lengths are known without counting to a million. The picture's has 1,024 bytes for the head.
-fn send_in(o: Options, data: &mut [u8; 3146752], out: &mut [u8; 4194304]) {
+// The two large ones come as arrays: their lengths are known without counting to a million. The pictures' has 1,024 bytes for the head of each of two.
+fn send_in(o: Options, data: &mut [u8; 3147776], out: &mut [u8; 4194304]) {
     load_and_send(o, data, out);
 }
 
@@ -172,7 +183,7 @@ fn settings_of(o: Options) -> Reading {
 }
 
 fn main() {
-    let mut data = [0u8; 3146752];
+    let mut data = [0u8; 3147776];
     let mut out = [0u8; 4194304];
     let o = crate::args::arguments();
     if o.good {
@@ -181,6 +192,7 @@ fn main() {
         if r.number == 0 {
             let chosen = Options {
                 file: o.file,
+                old: o.old,
                 kept: o.kept,
                 settings: s,
                 index: o.index,
@@ -192,6 +204,6 @@ fn main() {
     }
     app_text::lines::say(
         ERR,
-        b"usage: send [FILE] [-m 1|3] [-q Q0 Q1 Q2 Q3 Q4 Q5 Q6 Q7 Q8 Q9] [-i INDEX] [-s SETTINGS]\n",
+        b"usage: send [FILE | OLD NEW] [-m 1|3] [-q Q0 Q1 Q2 Q3 Q4 Q5 Q6 Q7 Q8 Q9] [-i INDEX] [-s SETTINGS]\n",
     );
 }

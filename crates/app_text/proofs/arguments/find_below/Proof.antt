@@ -2,8 +2,8 @@
 use Prim.Native.Nat.{_≤_, _-_}
 use mathlib.Core.Logic.{⊎-elim}
 use native.Mathlib.Omega.{arith}
-use Rattle.app_text.proofs.arguments.find.Statement.{statement}
-use Rattle.app_text.proofs.arguments.find.Tie as tie
+use Rattle.app_text.proofs.arguments.find_below.Statement.{statement}
+use Rattle.app_text.proofs.arguments.find_below.Tie as tie
 
 abbrev Inv-loop : tie.InvT-loop
 Inv-loop options wanted n at₀ times₀ i₀ at times i = times ≤ i
@@ -14,8 +14,8 @@ abbrev μ-loop : tie.MeasureT-loop
 loop-again : tie.Need-loop-again Inv-loop μ-loop
 loop-again c = ⊎-elim (λ w. omega arith) (λ w. omega arith) (c .before .if1 .came)
 
-pub find-spec : {M : Type 1} → statement M
-find-spec =
+pub find-below-spec : {M : Type 1} → statement M
+find-below-spec =
     tie.close
-    (tie.spec Inv-loop μ-loop (λ c κs. tt) (λ c. omega arith) (λ c κs. tt) (λ c κs. tt) (λ c κs. tt) (λ c. omega arith)
+    (tie.spec Inv-loop μ-loop (λ c. omega arith) (λ c κs. tt) (λ c κs. tt) (λ c κs. tt) (λ c. omega arith)
     (λ c. omega arith) (λ c. tt) (λ c. omega arith) (λ c. omega arith) loop-again (λ c. tt))
