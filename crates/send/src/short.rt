@@ -102,12 +102,13 @@ fn send(o: Options, width: usize, height: usize, old: &[u8], new: &[u8], out: &m
         return;
     }
     let settings = o.settings;
+    let quants = settings.quants;
     let job = Job {
         width: width,
         height: height,
         mode: settings.mode,
         index: next_index(o.index),
-        quants: settings.quants,
+        quants: quants,
     };
     let s = change_behind(
         o,
@@ -156,19 +157,18 @@ fn send_both(o: Options, old: &[u8], new: &[u8], out: &mut [u8]) {
 
 // Loads both into the two halves of a buffer.
 pub fn load_and_send(o: Options, data: &mut [u8], out: &mut [u8]) {
-    if data.len() < 3147776 {
-        return;
-    }
+    let end = data.len();
+    let half = end / 2;
     let said = b"send: a picture is too large: at most 524288 pixels each are taken\n";
-    let a = app_text::loading::load(o.old, &mut data[0..1573888], said);
+    let a = app_text::loading::load(o.old, &mut data[0..half], said);
     if !a.whole {
         return;
     }
-    let b = app_text::loading::load(o.file, &mut data[1573888..3147776], said);
+    let b = app_text::loading::load(o.file, &mut data[half..end], said);
     if !b.whole {
         return;
     }
-    let old = app_text::loading::first(&data[0..1573888], a.n);
-    let new = app_text::loading::first(&data[1573888..3147776], b.n);
+    let old = app_text::loading::first(&data[0..half], a.n);
+    let new = app_text::loading::first(&data[half..end], b.n);
     send_both(o, old, new, out);
 }
