@@ -119,7 +119,7 @@ codeF (suc f) rlgr3 kp krp (x ∷ xs) =
     itemBits kp krp (itemOf rlgr3 kp (x ∷ xs)) ++
     codeF f rlgr3 (itemKp kp (itemOf rlgr3 kp (x ∷ xs))) (itemKrp krp (itemOf rlgr3 kp (x ∷ xs))) (drop (itemUsed kp (itemOf rlgr3 kp (x ∷ xs))) (x ∷ xs))
 
--- "Start: kp = 8, krp = 8"
+-- "Start: kp = 8, krp = 8". "The code of a list is defined from the list alone, one for every list of demand 3, and never as what a reader takes"
 unfoldable pub codeOf : Bool → List ℕ → List Bool
 unfolding codeF
 codeOf rlgr3 xs = codeF (length xs) rlgr3 8 8 xs

@@ -1,4 +1,5 @@
--- What reading a code finds: 01, "The component code", with the numbers 1, 9 and 10 and "each code element is read in full (1) before it is judged, 9 before 10".
+-- What reading a code finds: 01, "The component code", with the numbers 1, 9 and 10 and "each code element is read in full (1) before it is judged, 9
+-- before 10".
 -- (01 is this project's scope document, 02 its change requests, 001 is MS-RDPRFX: README, "What 01 is".)
 use Prim.Native.Nat.{ℕ, zero, suc, _+_, _*_, _-_, _/_, _^_, min}
 use mathlib.Core.Bool.{Bool, true, false}
@@ -16,7 +17,7 @@ use Rattle.code.specs.declared.element.Refusal.the-variants.{Cut as Shor
 use Rattle.code.specs.declared.element.Element.{Element}
 use Rattle.code.specs.declared.element.Element.the-variants.{Zeros, One, Two, Refused}
 
--- 01's numbers: 1 cut, 9 range, 10 overrun
+-- 01's numbers: 1 "the code being read, needs more than is there", 9 range, 10 overrun
 unfoldable pub refusalNumber : Refusal → ℕ
 refusalNumber Short = 1
 refusalNumber Range = 9

@@ -115,7 +115,8 @@ pub record RequestOne : Type 0 where
       → (b .kind ≡ 0xCCC4 → ⊥)
       → length (blockBytes b) ≤ length store
       → collectOf (state fresh store) (blockBytes b ++ more)
-      ≡ took (length (blockBytes b)) (step fresh (patch store 0 (blockBytes b)) (leb (b .kind) 0xCCC3 ⇒ Header (length (blockBytes b)) ∣ Frame (length (blockBytes b))))
+      ≡ took (length (blockBytes b))
+      (step fresh (patch store 0 (blockBytes b)) (leb (b .kind) 0xCCC3 ⇒ Header (length (blockBytes b)) ∣ Frame (length (blockBytes b))))
   -- "or one frame from its begin block through its end block", whatever blocks are between them
   pub frame :
       (store more first last : List ℕ) (bs : List Block)

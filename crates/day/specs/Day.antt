@@ -22,7 +22,8 @@ use Rattle.calls.specs.Calls.{ReadHeader, sessionAfter, ReadFrame}
 
 -- ---- "Take any list of header and frame calls from a fresh session, with the same picture handed on from call to call, no sharing and no other writer."
 
--- what goes on from call to call: the record, and a picture of a word size (0 is 16 bits, 1 is 32). Both belong to the calls alone: nobody else writes them, and no call is lent one memory twice
+-- what goes on from call to call: the record, and a picture of a word size (0 is 16 bits, 1 is 32). Both belong to the calls alone: nobody else writes
+-- them, and no call is lent one memory twice
 pub record State : Type 0 where
   pub session : Session
   pub word : ℕ

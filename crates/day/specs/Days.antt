@@ -1,5 +1,6 @@
 -- THE WHOLE DAY AT ONCE, on one page: document 02, request Fourteen, sentence by sentence, over the calls (specs/Day). `days` (specs/laws/Days) proves it.
--- "Take any list of header and frame calls from a fresh session": s is the first record and picture, `fresh` on either glass over any picture, and t the last. Nothing else
+-- "Take any list of header and frame calls from a fresh session": s is the first record and picture, `fresh` on either glass over any picture, and t the
+-- last. Nothing else
 -- is asked of the calls: a frame before the headers, a picture too short and a wrong work list are answers like others. All of it holds from any record s.
 -- (01 is this project's scope document, 02 its change requests, 001 is MS-RDPRFX: README, "What 01 is".)
 use Prim.Native.Nat.{ℕ}

@@ -89,7 +89,9 @@ module _ (glass : ℕ) (either : glass ≤ 1) (mode : ℕ) (m : Met glass mode) 
   abbrev f1 : Session → List ℕ → ReadFrame
   f1 s pic = drawing (sessionAfter (h4 s)) pic
 
-  ours : (s : Session) (pic : List ℕ) → glass ≡ keptGlass (s .glass) → length pic ≡ length (m .read .picture) → OurCalls (m .headers) (h1 s) (h2 s) (h3 s) (h4 s) (m .frame) (f1 s pic)
+  ours :
+      (s : Session) (pic : List ℕ) → glass ≡ keptGlass (s .glass) → length pic ≡ length (m .read .picture) →
+      OurCalls (m .headers) (h1 s) (h2 s) (h3 s) (h4 s) (m .frame) (f1 s pic)
   ours s pic g l = record {
     headers-done = m .calls .headers-done;
     sync = refl;
@@ -211,7 +213,9 @@ met glass l mode m = record {
   after-accepted = last-ours glass l mode m .accepted;
   before-mode = moded glass l mode m (r0 glass l mode m);
   after-mode = moded glass l mode m (r1 glass l mode m);
-  shown = days .drawn (made glass l mode m) ∙ picked _ _ _ _ (first-ours glass l mode m .accepted) (early-number glass l mode m) (last-ours glass l mode m .accepted);
+  shown =
+      days .drawn (made glass l mode m)
+      ∙ picked _ _ _ _ (first-ours glass l mode m .accepted) (early-number glass l mode m) (last-ours glass l mode m .accepted);
 }
 
 pub day-met-1 : (glass : ℕ) → glass ≤ 1 → DayMet glass 1

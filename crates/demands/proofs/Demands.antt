@@ -78,7 +78,8 @@ module _ (c : ReadFrame) where
 sent-by : (f : ℕ) (bytes out out′ : List ℕ) (r : Writing) → Wrote f bytes out out′ r → Sent bytes out out′ r
 unfolding lengthSaid outLeft
 sent-by zero bytes out out′ r w =
-    record { done-length = λ e. w .said; done-output = λ e. w .left; refused-length = λ h. absurd (h (w .number)); refused-output = λ h. absurd (h (w .number)) }
+    record
+    { done-length = λ e. w .said; done-output = λ e. w .left; refused-length = λ h. absurd (h (w .number)); refused-output = λ h. absurd (h (w .number)) }
 sent-by (suc f) bytes out out′ r w =
     record {
       done-length = λ e. absurd (omega (arith, w .number, e));

@@ -76,10 +76,21 @@ module _ (glass : ℕ) (either : glass ≤ 1) (mode : ℕ) (good : isMode mode �
 
   sending-0 : 0 ≡ sendFault 0 1 1 mode sixes grey (length bytes)
   unfolding sendFault
-  sending-0 = goes-on _ _ _ (sym (sendable .none ∙ one-refusals grey 1 1 mode sixes (tilesNo 1 1) 0)) (passes _ _ _ _ (le-leb (length bytes) (length bytes) (omega arith)) refl)
+  sending-0 =
+      goes-on _ _ _ (sym (sendable .none ∙ one-refusals grey 1 1 mode sixes (tilesNo 1 1) 0))
+      (passes _ _ _ _ (le-leb (length bytes) (length bytes) (omega arith)) refl)
 
   abbrev wrote-headers : WriteHeaders
-  wrote-headers = record { width = 1; height = 1; mode = mode; out = replicate 47 0; out′ = written (headersOf 1 1 mode) (replicate 47 0); answer = Done (length (headersOf 1 1 mode)); promise = done _ _ _ _ _ headers-0 refl refl }
+  wrote-headers =
+      record {
+        width = 1;
+        height = 1;
+        mode = mode;
+        out = replicate 47 0;
+        out′ = written (headersOf 1 1 mode) (replicate 47 0);
+        answer = Done (length (headersOf 1 1 mode));
+        promise = done _ _ _ _ _ headers-0 refl refl;
+      }
 
   abbrev wrote-frame : WriteFrame
   wrote-frame = record {
@@ -96,7 +107,13 @@ module _ (glass : ℕ) (either : glass ≤ 1) (mode : ℕ) (good : isMode mode �
     scratch′ = zeros;
     out′ = written bytes bytes;
     answer = Done (length bytes);
-    promise = record { wrote = done _ _ _ _ _ (goes-on _ _ _ (sym arguments-0) sending-0) refl refl; first = cleared _ _ _ arguments-0 refl; second = cleared _ _ _ arguments-0 refl };
+    promise =
+        record {
+          wrote = done _ _ _ _ _ (goes-on _ _ _ (sym arguments-0) sending-0) refl refl;
+          first = cleared _ _ _ arguments-0 refl;
+          second = cleared _ _ _
+              arguments-0 refl;
+        };
   }
 
   abbrev sent : List ℕ

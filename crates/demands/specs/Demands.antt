@@ -65,7 +65,9 @@ pub record Demand1 : Type 0 where
   pub header-number : (c : ReadHeader) → headerNumber (c .answer) ≡ headerFault (c .session) (c .message)
   pub frame-number : (c : ReadFrame) → frameReadingNumber (c .answer) ≡ firstFault c
   -- drawn whole
-  pub frame-whole : (c : ReadFrame) → frameReadingNumber (c .answer) ≡ 0 → c .picture′ ≡ framed (c .session .glass) (c .session .mode) (c .session .width) (c .session .height) (c .message) (c .picture)
+  pub frame-whole :
+      (c : ReadFrame) → frameReadingNumber (c .answer) ≡ 0 →
+      c .picture′ ≡ framed (c .session .glass) (c .session .mode) (c .session .width) (c .session .height) (c .message) (c .picture)
   -- what a taken header leaves
   pub header-taken : (c : ReadHeader) → headerNumber (c .answer) ≡ 0 → sessionAfter c ≡ recordAfter (c .session) (c .message)
   -- "A refused header or frame changes neither record nor picture."
@@ -133,12 +135,15 @@ pub record OurFrame (one two three four : ReadHeader) (s : WriteFrame) (f : Read
   pub accepted : frameReadingNumber (f .answer) ≡ 0
   pub tiles : frameReadingTiles (f .answer) ≡ tilesNo (s .width) (s .height)
   pub word : (px py : ℕ) → px < s .width → py < s .height →
-      getD (f .picture′) (py * s .width + px) 0 ≡ wordBack (f .word) (s .pixels) (s .width) (s .height) (s .quant) (tileNo (s .width) px py) (64 * (py % 64) + px % 64)
+      getD (f .picture′) (py * s .width + px) 0 ≡ wordBack (f .word) (s .pixels) (s .width) (s .height) (s .quant) (tileNo (s .width) px py)
+      (64 * (py % 64) + px % 64)
   pub past : (i : ℕ) → s .height * s .width ≤ i → getD (f .picture′) i 0 ≡ getD (f .picture) i 0
   pub long : length (f .picture′) ≡ length (f .picture)
 
 pub record Demand2 : Type 0 where
-  pub pixel : (c : ReadFrame) → frameReadingNumber (c .answer) ≡ 0 → (px py : ℕ) → px < c .session .width → py < c .session .height → getD (c .picture′) (py * c .session .width + px) 0 ≡ shownWord c px py
+  pub pixel :
+      (c : ReadFrame) → frameReadingNumber (c .answer) ≡ 0 → (px py : ℕ) → px < c .session .width → py < c .session .height →
+      getD (c .picture′) (py * c .session .width + px) 0 ≡ shownWord c px py
   -- "words past width x height are never changed"
   pub past : (c : ReadFrame) (i : ℕ) → c .session .height * c .session .width ≤ i → getD (c .picture′) i 0 ≡ getD (c .picture) i 0
   pub long : (c : ReadFrame) → length (c .picture′) ≡ length (c .picture)
@@ -146,9 +151,14 @@ pub record Demand2 : Type 0 where
   pub tiles : (c : ReadFrame) → frameReadingNumber (c .answer) ≡ 0 → frameReadingTiles (c .answer) ≡ tileCount (c .message) (setPlace (c .message))
   pub no-tiles : (c : ReadFrame) → frameReadingNumber (c .answer) ≢ 0 → frameReadingTiles (c .answer) ≡ 0
   -- the other way
-  pub our-frames : (h : WriteHeaders) (one two three four : ReadHeader) (s : WriteFrame) (f : ReadFrame) → OurCalls h one two three four s f → OurFrame one two three four s f
+  pub our-frames :
+      (h : WriteHeaders) (one two three four : ReadHeader) (s : WriteFrame) (f : ReadFrame) → OurCalls h one two three four s f →
+      OurFrame one two three four s f
   -- "The writer refuses only on 01's conditions."
-  pub frame-writer : (c : WriteFrame) → writingNumber (c .answer) ≡ argFault (c .width) (c .height) (c .mode) (c .quant) (length (c .pixels)) (length (c .list)) (length (c .scratch)) ⨟ sendFault (c .index) (c .width) (c .height) (c .mode) (c .quant) (c .pixels) (length (c .out))
+  pub frame-writer :
+      (c : WriteFrame) →
+      writingNumber (c .answer) ≡ argFault (c .width) (c .height) (c .mode) (c .quant) (length (c .pixels)) (length (c .list)) (length (c .scratch))
+      ⨟ sendFault (c .index) (c .width) (c .height) (c .mode) (c .quant) (c .pixels) (length (c .out))
   pub header-writer : (c : WriteHeaders) → writingNumber (c .answer) ≡ headersFault (c .width) (c .height) (c .mode) (length (c .out))
   pub frame-sent : (c : WriteFrame) → Sent (pictureFrame (c .index) (c .width) (c .height) (c .mode) (c .quant) (c .pixels)) (c .out) (c .out′) (c .answer)
   pub headers-sent : (c : WriteHeaders) → Sent (headersOf (c .width) (c .height) (c .mode)) (c .out) (c .out′) (c .answer)
@@ -159,7 +169,8 @@ pub record Demand2 : Type 0 where
       72 + 194911 * tilesNo (c .width) (c .height) ≤ length (c .out) → writingNumber (c .answer) ≡ 0
   -- "The frame writer's work lists are untouched on 5, 7 and 2 and hold only zeros after every other answer."
   pub work-untouched : (c : WriteFrame) → Among (5 ∷ 7 ∷ 2 ∷ []) (writingNumber (c .answer)) → (c .list′ ≡ c .list) × (c .scratch′ ≡ c .scratch)
-  pub work-zeros : (c : WriteFrame) → Other (5 ∷ 7 ∷ 2 ∷ []) (writingNumber (c .answer)) → (c .list′ ≡ replicate 4096 (pos 0)) × (c .scratch′ ≡ replicate 4096 (pos 0))
+  pub work-zeros :
+      (c : WriteFrame) → Other (5 ∷ 7 ∷ 2 ∷ []) (writingNumber (c .answer)) → (c .list′ ≡ replicate 4096 (pos 0)) × (c .scratch′ ≡ replicate 4096 (pos 0))
 
 -- ---- 3. "In each of the two code modes a byte string of at most 65,535 bytes, read into 4,096 places, is accepted as a component exactly if it
 -- is the code of some list of 4,096 whole numbers from -32,767 to 32,767, filled up with zero bits to a byte; that list is handed back. Before
@@ -167,38 +178,57 @@ pub record Demand2 : Type 0 where
 pub record Demand3 : Type 0 where
   -- the number is the first fault's: "Component calls first refuse a mode that is neither of the two (5). Component reader: 2, 6, then the code"
   pub component-number : (c : ReadComponent) → readingNumber (c .answer) ≡ readFault (c .mode) (length (c .list)) (c .bytes)
-  pub accepted-if : (c : ReadComponent) (zs : List ℤ) → Exactly (c .mode) (c .bytes) (c .list) zs → (c .answer ≡ Read (length (code (c .mode) zs))) × (c .list′ ≡ zs)
+  pub accepted-if :
+      (c : ReadComponent) (zs : List ℤ) → Exactly (c .mode) (c .bytes) (c .list) zs → (c .answer ≡ Read (length (code (c .mode) zs))) × (c .list′ ≡ zs)
   pub accepted-only-if : (c : ReadComponent) → readingNumber (c .answer) ≡ 0 → Exactly (c .mode) (c .bytes) (c .list) (c .list′)
   pub one-code : (mode : ℕ) (xs ys : List ℤ) (rest : List Bool) → Listed xs → Listed ys → code mode xs ++ rest ≡ code mode ys → xs ≡ ys
-  pub length-told : (c : ReadComponent) (zs : List ℤ) (rest : List Bool) → Call (c .mode) (c .bytes) (c .list) → Listed zs → bitsOf (c .bytes) ≡ code (c .mode) zs ++ rest → readingBits (c .answer) ≡ length (code (c .mode) zs)
+  pub length-told :
+      (c : ReadComponent) (zs : List ℤ) (rest : List Bool) → Call (c .mode) (c .bytes) (c .list) → Listed zs →
+      bitsOf (c .bytes) ≡ code (c .mode) zs ++ rest → readingBits (c .answer) ≡ length (code (c .mode) zs)
   -- the component writer writes just that code, and refuses only on 01's conditions
   pub writer-number : (c : WriteComponent) → writingNumber (c .answer) ≡ writeFault (c .mode) (c .list) (length (c .out))
   pub writer-sent : (c : WriteComponent) → Sent (bytesOf (c .mode) (c .list)) (c .out) (c .out′) (c .answer)
-  pub read-back : (w : WriteComponent) (c : ReadComponent) → writingNumber (w .answer) ≡ 0 → c .mode ≡ w .mode → c .bytes ≡ sentBy (w .answer) (w .out′) → length (c .list) ≡ 4096 → (c .answer ≡ Read (length (code (w .mode) (w .list)))) × (c .list′ ≡ w .list)
+  pub read-back :
+      (w : WriteComponent) (c : ReadComponent) → writingNumber (w .answer) ≡ 0 → c .mode ≡ w .mode → c .bytes ≡ sentBy (w .answer) (w .out′) →
+      length (c .list) ≡ 4096 → (c .answer ≡ Read (length (code (w .mode) (w .list)))) × (c .list′ ≡ w .list)
 
 -- ---- "For any input whatever, a public function's promise leaves one possible answer and one possible content of lent memory, refusals too. Show that
 -- two answers meeting it are equal": of two calls that were given the same
 pub record OneAnswer : Type 0 where
   pub read-header : (c d : ReadHeader) → c .session ≡ d .session → c .message ≡ d .message → c .answer ≡ d .answer
-  pub read-frame : (c d : ReadFrame) → c .word ≡ d .word → c .session ≡ d .session → c .message ≡ d .message → c .picture ≡ d .picture → c .y ≡ d .y → c .cb ≡ d .cb → c .cr ≡ d .cr → c .scratch ≡ d .scratch →
+  pub read-frame :
+      (c d : ReadFrame) → c .word ≡ d .word → c .session ≡ d .session → c .message ≡ d .message → c .picture ≡ d .picture → c .y ≡ d .y → c .cb ≡ d .cb →
+      c .cr ≡ d .cr → c .scratch ≡ d .scratch →
       (c .answer ≡ d .answer) × (c .picture′ ≡ d .picture′) × (c .y′ ≡ d .y′) × (c .cb′ ≡ d .cb′) × (c .cr′ ≡ d .cr′) × (c .scratch′ ≡ d .scratch′)
   pub read-component : (c d : ReadComponent) → c .mode ≡ d .mode → c .bytes ≡ d .bytes → c .list ≡ d .list → (c .answer ≡ d .answer) × (c .list′ ≡ d .list′)
   pub write-component : (c d : WriteComponent) → c .mode ≡ d .mode → c .list ≡ d .list → c .out ≡ d .out → (c .answer ≡ d .answer) × (c .out′ ≡ d .out′)
-  pub write-headers : (c d : WriteHeaders) → c .width ≡ d .width → c .height ≡ d .height → c .mode ≡ d .mode → c .out ≡ d .out → (c .answer ≡ d .answer) × (c .out′ ≡ d .out′)
-  pub write-frame : (c d : WriteFrame) → c .width ≡ d .width → c .height ≡ d .height → c .mode ≡ d .mode → c .quant ≡ d .quant → c .index ≡ d .index → c .pixels ≡ d .pixels → c .list ≡ d .list → c .scratch ≡ d .scratch → c .out ≡ d .out →
+  pub write-headers :
+      (c d : WriteHeaders) → c .width ≡ d .width → c .height ≡ d .height → c .mode ≡ d .mode → c .out ≡ d .out →
+      (c .answer ≡ d .answer) × (c .out′ ≡ d .out′)
+  pub write-frame :
+      (c d : WriteFrame) → c .width ≡ d .width → c .height ≡ d .height → c .mode ≡ d .mode → c .quant ≡ d .quant → c .index ≡ d .index →
+      c .pixels ≡ d .pixels → c .list ≡ d .list → c .scratch ≡ d .scratch → c .out ≡ d .out →
       (c .answer ≡ d .answer) × (c .list′ ≡ d .list′) × (c .scratch′ ≡ d .scratch′) × (c .out′ ≡ d .out′)
 
 -- the same of the calls for C: the record behind the reference, the number, the value and the lists; what one call and another left is marked 1 and 2
 pub record OneAnswerC : Type 0 where
   pub read-header : (s s₁ s₂ : Session) (m : List ℕ) (n₁ n₂ : ℕ) → ReadHeaderCall s s₁ m n₁ → ReadHeaderCall s s₂ m n₂ → (n₁ ≡ n₂) × (s₁ ≡ s₂)
-  pub read-frame : (word : ℕ) (s s₁ s₂ : Session) (m pic : List ℕ) (y cb cr tmp : List ℤ) (p₁ p₂ : List ℕ) (y₁ y₂ b₁ b₂ r₁ r₂ t₁ t₂ : List ℤ) (k₁ k₂ n₁ n₂ : ℕ) →
+  pub read-frame :
+      (word : ℕ) (s s₁ s₂ : Session) (m pic : List ℕ) (y cb cr tmp : List ℤ) (p₁ p₂ : List ℕ) (y₁ y₂ b₁ b₂ r₁ r₂ t₁ t₂ : List ℤ) (k₁ k₂ n₁ n₂ : ℕ) →
       ReadFrameCall word s s₁ m pic y cb cr tmp p₁ y₁ b₁ r₁ t₁ k₁ n₁ → ReadFrameCall word s s₂ m pic y cb cr tmp p₂ y₂ b₂ r₂ t₂ k₂ n₂ →
       (n₁ ≡ n₂) × (k₁ ≡ k₂) × (s₁ ≡ s₂) × (p₁ ≡ p₂) × (y₁ ≡ y₂) × (b₁ ≡ b₂) × (r₁ ≡ r₂) × (t₁ ≡ t₂)
-  pub read-component : (mode : ℕ) (s : List ℕ) (list l₁ l₂ : List ℤ) (k₁ k₂ n₁ n₂ : ℕ) → ReadComponentCall mode s list l₁ k₁ n₁ → ReadComponentCall mode s list l₂ k₂ n₂ → (n₁ ≡ n₂) × (k₁ ≡ k₂) × (l₁ ≡ l₂)
-  pub write-component : (mode : ℕ) (zs : List ℤ) (out o₁ o₂ : List ℕ) (k₁ k₂ n₁ n₂ : ℕ) → WriteComponentCall mode zs out o₁ k₁ n₁ → WriteComponentCall mode zs out o₂ k₂ n₂ → (n₁ ≡ n₂) × (k₁ ≡ k₂) × (o₁ ≡ o₂)
-  pub write-headers : (w h mode : ℕ) (out o₁ o₂ : List ℕ) (k₁ k₂ n₁ n₂ : ℕ) → WriteHeadersCall w h mode out o₁ k₁ n₁ → WriteHeadersCall w h mode out o₂ k₂ n₂ → (n₁ ≡ n₂) × (k₁ ≡ k₂) × (o₁ ≡ o₂)
+  pub read-component :
+      (mode : ℕ) (s : List ℕ) (list l₁ l₂ : List ℤ) (k₁ k₂ n₁ n₂ : ℕ) → ReadComponentCall mode s list l₁ k₁ n₁ → ReadComponentCall mode s list l₂ k₂ n₂ →
+      (n₁ ≡ n₂) × (k₁ ≡ k₂) × (l₁ ≡ l₂)
+  pub write-component :
+      (mode : ℕ) (zs : List ℤ) (out o₁ o₂ : List ℕ) (k₁ k₂ n₁ n₂ : ℕ) → WriteComponentCall mode zs out o₁ k₁ n₁ → WriteComponentCall mode zs out o₂ k₂ n₂ →
+      (n₁ ≡ n₂) × (k₁ ≡ k₂) × (o₁ ≡ o₂)
+  pub write-headers :
+      (w h mode : ℕ) (out o₁ o₂ : List ℕ) (k₁ k₂ n₁ n₂ : ℕ) → WriteHeadersCall w h mode out o₁ k₁ n₁ → WriteHeadersCall w h mode out o₂ k₂ n₂ →
+      (n₁ ≡ n₂) × (k₁ ≡ k₂) × (o₁ ≡ o₂)
   pub write-frame : (w h mode : ℕ) (q : List ℕ) (index : ℕ) (p : List ℕ) (list l₁ l₂ scratch t₁ t₂ : List ℤ) (out o₁ o₂ : List ℕ) (k₁ k₂ n₁ n₂ : ℕ) →
-      WriteFrameCall w h mode q index p list l₁ scratch t₁ out o₁ k₁ n₁ → WriteFrameCall w h mode q index p list l₂ scratch t₂ out o₂ k₂ n₂ → (n₁ ≡ n₂) × (k₁ ≡ k₂) × (l₁ ≡ l₂) × (t₁ ≡ t₂) × (o₁ ≡ o₂)
+      WriteFrameCall w h mode q index p list l₁ scratch t₁ out o₁ k₁ n₁ → WriteFrameCall w h mode q index p list l₂ scratch t₂ out o₂ k₂ n₂ →
+      (n₁ ≡ n₂) × (k₁ ≡ k₂) × (l₁ ≡ l₂) × (t₁ ≡ t₂) × (o₁ ≡ o₂)
 
 -- ---- for C: demands 1 and 2 over the calls of panel/src/edge.rt. Each of them is one of the six on the same input, and gives its number and its value; what
 -- is new is that one record, behind a reference, is handed on from call to call.
@@ -206,7 +236,9 @@ pub record OneAnswerC : Type 0 where
 pub record EdgeDemand1 : Type 0 where
   pub header-number : (c : CReadHeader) → c .number ≡ headerFault (c .session) (c .message)
   pub frame-number : (c : CReadFrame) → c .number ≡ firstFault (as-frame c)
-  pub frame-whole : (c : CReadFrame) → c .number ≡ 0 → c .picture′ ≡ framed (c .session .glass) (c .session .mode) (c .session .width) (c .session .height) (c .message) (c .picture)
+  pub frame-whole :
+      (c : CReadFrame) → c .number ≡ 0 →
+      c .picture′ ≡ framed (c .session .glass) (c .session .mode) (c .session .width) (c .session .height) (c .message) (c .picture)
   pub header-taken : (c : CReadHeader) → c .number ≡ 0 → c .session′ ≡ recordAfter (c .session) (c .message)
   pub header-refused : (c : CReadHeader) → c .number ≢ 0 → c .session′ ≡ c .session
   pub frame-refused : (c : CReadFrame) → c .number ≢ 0 → c .picture′ ≡ c .picture
@@ -249,20 +281,29 @@ pub record OurFrameC (one two three four : CReadHeader) (s : CWriteFrame) (f : C
   pub accepted : f .number ≡ 0
   pub tiles : f .tiles ≡ tilesNo (s .width) (s .height)
   pub word : (px py : ℕ) → px < s .width → py < s .height →
-      getD (f .picture′) (py * s .width + px) 0 ≡ wordBack (f .word) (s .pixels) (s .width) (s .height) (s .quant) (tileNo (s .width) px py) (64 * (py % 64) + px % 64)
+      getD (f .picture′) (py * s .width + px) 0 ≡ wordBack (f .word) (s .pixels) (s .width) (s .height) (s .quant) (tileNo (s .width) px py)
+      (64 * (py % 64) + px % 64)
   pub past : (i : ℕ) → s .height * s .width ≤ i → getD (f .picture′) i 0 ≡ getD (f .picture) i 0
   pub long : length (f .picture′) ≡ length (f .picture)
 
 pub record EdgeDemand2 : Type 0 where
-  pub pixel : (c : CReadFrame) → c .number ≡ 0 → (px py : ℕ) → px < c .session .width → py < c .session .height → getD (c .picture′) (py * c .session .width + px) 0 ≡ shownWord (as-frame c) px py
+  pub pixel :
+      (c : CReadFrame) → c .number ≡ 0 → (px py : ℕ) → px < c .session .width → py < c .session .height →
+      getD (c .picture′) (py * c .session .width + px) 0 ≡ shownWord (as-frame c) px py
   pub past : (c : CReadFrame) (i : ℕ) → c .session .height * c .session .width ≤ i → getD (c .picture′) i 0 ≡ getD (c .picture) i 0
   pub long : (c : CReadFrame) → length (c .picture′) ≡ length (c .picture)
   pub tiles : (c : CReadFrame) → c .number ≡ 0 → c .tiles ≡ tileCount (c .message) (setPlace (c .message))
   pub no-tiles : (c : CReadFrame) → c .number ≢ 0 → c .tiles ≡ 0
-  pub our-frames : (h : CWriteHeaders) (one two three four : CReadHeader) (s : CWriteFrame) (f : CReadFrame) → OurCallsC h one two three four s f → OurFrameC one two three four s f
-  pub frame-writer : (c : CWriteFrame) → c .number ≡ argFault (c .width) (c .height) (c .mode) (c .quant) (length (c .pixels)) (length (c .list)) (length (c .scratch)) ⨟ sendFault (c .index) (c .width) (c .height) (c .mode) (c .quant) (c .pixels) (length (c .out))
+  pub our-frames :
+      (h : CWriteHeaders) (one two three four : CReadHeader) (s : CWriteFrame) (f : CReadFrame) → OurCallsC h one two three four s f →
+      OurFrameC one two three four s f
+  pub frame-writer :
+      (c : CWriteFrame) →
+      c .number ≡ argFault (c .width) (c .height) (c .mode) (c .quant) (length (c .pixels)) (length (c .list)) (length (c .scratch)) ⨟ sendFault (c .index)
+      (c .width) (c .height) (c .mode) (c .quant) (c .pixels) (length (c .out))
   pub header-writer : (c : CWriteHeaders) → c .number ≡ headersFault (c .width) (c .height) (c .mode) (length (c .out))
-  pub frame-sent : (c : CWriteFrame) → SentC (pictureFrame (c .index) (c .width) (c .height) (c .mode) (c .quant) (c .pixels)) (c .out) (c .out′) (c .size) (c .number)
+  pub frame-sent :
+      (c : CWriteFrame) → SentC (pictureFrame (c .index) (c .width) (c .height) (c .mode) (c .quant) (c .pixels)) (c .out) (c .out′) (c .size) (c .number)
   pub headers-sent : (c : CWriteHeaders) → SentC (headersOf (c .width) (c .height) (c .mode)) (c .out) (c .out′) (c .size) (c .number)
   pub work-untouched : (c : CWriteFrame) → Among (5 ∷ 7 ∷ 2 ∷ []) (c .number) → (c .list′ ≡ c .list) × (c .scratch′ ≡ c .scratch)
   pub work-zeros : (c : CWriteFrame) → Other (5 ∷ 7 ∷ 2 ∷ []) (c .number) → (c .list′ ≡ replicate 4096 (pos 0)) × (c .scratch′ ≡ replicate 4096 (pos 0))
@@ -278,7 +319,9 @@ pub record RecordRight : Type 0 where
   -- over any list of calls on one record
   pub right-always : (s t : Session) → OnOneRecord s t → Right s → Right t
   -- "A record that no calls could have made answers 12 wherever one is judged, but takes a good sync": so does one in which one of the three is wrong
-  pub wrong-header : (c : ReadHeader) → (Right (c .session) → ⊥) → 6 ≤ length (c .message) → 0xCCC1 ≤ le16 (c .message) 0 → le16 (c .message) 0 ≤ 0xCCC3 → headerNumber (c .answer) ≡ 12
+  pub wrong-header :
+      (c : ReadHeader) → (Right (c .session) → ⊥) → 6 ≤ length (c .message) → 0xCCC1 ≤ le16 (c .message) 0 → le16 (c .message) 0 ≤ 0xCCC3 →
+      headerNumber (c .answer) ≡ 12
   pub wrong-frame : (c : ReadFrame) → (Right (c .session) → ⊥) → frameReadingNumber (c .answer) ≡ 12
   pub any-sync : (c d : ReadHeader) → c .message ≡ d .message → c .session .glass ≡ d .session .glass → le16 (c .message) 0 ≡ 0xCCC0 → c .answer ≡ d .answer
 
@@ -289,7 +332,8 @@ pub record RecordGlass : Type 0 where
   pub glass-always : (s t : Session) → OnOneRecord s t → s .glass ≤ 1 → t .glass ≡ s .glass
   -- a glass that is neither: a record that no calls could have made, which takes a good sync and has the base's glass then
   pub other-header :
-      (c : ReadHeader) → 1 < c .session .glass → 6 ≤ length (c .message) → 0xCCC1 ≤ le16 (c .message) 0 → le16 (c .message) 0 ≤ 0xCCC3 → headerNumber (c .answer) ≡ 12
+      (c : ReadHeader) → 1 < c .session .glass → 6 ≤ length (c .message) → 0xCCC1 ≤ le16 (c .message) 0 → le16 (c .message) 0 ≤ 0xCCC3 →
+      headerNumber (c .answer) ≡ 12
   pub other-frame : (c : ReadFrame) → 1 < c .session .glass → frameReadingNumber (c .answer) ≡ 12
   pub other-sync :
       (c : ReadHeader) → 1 < c .session .glass → le16 (c .message) 0 ≡ 0xCCC0 → headerNumber (c .answer) ≡ 0 → sessionAfter c ≡ recordOf 0 1 0 0 0

@@ -26,7 +26,7 @@ tileFields w h q d at =
 unfoldable pub tileFront : ℕ → ℕ → ℕ → List ℕ → ℕ → ℕ
 tileFront w h q d at = leastHead 0xCAC3 19 d at ⨟ tileFields w h q d at
 
--- "then Y, Cb, Cr": a tile's codes and quantiser indices by number
+-- "then Y, Cb, Cr": a tile's codes and quantiser indices by number; "each component is handed on as that part of the message itself, not copied"
 unfoldable pub codePart : Tile → ℕ → List ℕ
 codePart t zero = t .ys
 codePart t (suc zero) = t .cbs

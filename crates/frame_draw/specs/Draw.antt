@@ -32,7 +32,7 @@ unfoldable pub stores : (ℕ → Bool) → (ℕ → ℕ) → (ℕ → ℕ) → �
 stores on place value zero k pic = pic
 stores on place value (suc j) k pic = stores on place value j (k + 1) (on k ⇒ set pic (place k) (value k) ∣ pic)
 
--- pixel x of a tile's row of 64: it lies in the channel and in some rectangle
+-- pixel x of a tile's row of 64: it lies in the channel and in some rectangle; "Rectangles may hang over the edge."
 unfoldable pub rowOn : List ℕ → ℕ → ℕ → ℕ → ℕ → ℕ → Bool
 rowOn rects n w tx py x = ltb (64 * tx + x) w ! false ⨾ inRegion rects n (64 * tx + x) py
 

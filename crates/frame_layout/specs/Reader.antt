@@ -11,7 +11,8 @@ use Rattle.wire.specs.Le.{le16, le32}
 use Rattle.whole.specs.Row.{_!_⨾_, _⨟_}
 use Rattle.frame_layout.specs.Bytes.{Tile}
 
--- the kind due, the kind there, whether blockLen fits the fixed or least size, blockLen, the bytes there: kind (3), size (4), whole block present (1)
+-- the kind due, the kind there, whether blockLen fits the fixed or least size, blockLen, the bytes there: kind (3), size (4), whole block present (1).
+-- 3 is "block type .. not the one due in a frame", 1 "a block .. needs more than is there"
 unfoldable pub blockJudge : ℕ → ℕ → Bool → ℕ → ℕ → ℕ
 blockJudge kind is sizeGood size room =
     eqb is kind ! 3 ⨾
@@ -42,7 +43,7 @@ codecJudge codec channel = eqb codec 1 ! 5 ⨾ eqb channel 0 ! 5 ⨾ 0
 unfoldable pub codecFault : List ℕ → ℕ → ℕ
 codecFault m at = codecJudge (getD m (at + 6) 0) (getD m (at + 7) 0)
 
--- frame begin: frameIdx 4 (any), numRegions 2 = 1
+-- frame begin: "frameIdx 4 (any), numRegions 2 = 1"
 unfoldable pub beginJudge : ℕ → ℕ
 beginJudge regions = eqb regions 1 ! 5 ⨾ 0
 
@@ -81,7 +82,8 @@ propsGood et p =
     eqb (p / 1024 % 16) et ! false ⨾
     eqb (p / 16384) 1
 
--- fixed fields of a tileset in wire order (5), over 2,048 tiles (6), 22 + 5q + data as whole numbers (4)
+-- "subtype CAC2, idx 2 = 0, properties 2, q 1, tileSize 1 = 64, numTiles 2, data size 4": fixed fields in wire order (5), over 2,048 tiles (6), 22 + 5q + data
+-- as whole numbers, else 4, "blockLen or tilesDataSize disagrees with the layout"
 unfoldable pub setJudge : ℕ → ℕ → ℕ → ℕ → ℕ → ℕ → ℕ → ℕ → ℕ → ℕ
 setJudge et size subtype idx props q side n bytes =
     eqb subtype 0xCAC2 ! 5 ⨾
@@ -121,7 +123,7 @@ dataOf m at = take (dataSize m at) (drop (at + (22 + 5 * quantCount m at)) m)
 
 -- ---- tiles: d is the tileset's own data
 
--- "blockLen against its lengths (4), indices (7), place (8)"
+-- "blockLen against its lengths (4), indices (7), place (8)": 7 "an index not below numQuant", 8 "64 x xIdx at least width, or 64 x yIdx at least height"
 unfoldable pub bodyJudge : ℕ → ℕ → ℕ → ℕ → ℕ → ℕ → ℕ → ℕ → ℕ → ℕ → ℕ → ℕ → ℕ
 bodyJudge w h q size ly lcb lcr qy qcb qcr x y =
     eqb size (19 + ly + lcb + lcr) ! 4 ⨾
@@ -178,7 +180,7 @@ setFault comp w h et m at =
     quantsFault m (5 * quantCount m at) (at + 22) ⨟
     tilesFault (λ j code. comp et (setAt m at j) code) w h (quantCount m at) (dataOf m at) (tileCount m at) 0
 
--- frame end, "and nothing after" (4)
+-- "frame end*, CCC5, 8", "and nothing after": 4 where "bytes follow the last block"
 unfoldable pub endFault : List ℕ → ℕ → ℕ
 endFault m at = fixedHead 0xCCC5 8 m at ⨟ codecFault m at ⨟ (eqb (length m) (at + 8) ! 4 ⨾ 0)
 

@@ -16,7 +16,7 @@ unfoldable pub headOf : ℕ → ℕ → ℕ → ℕ → ℕ → ℕ → ℕ → 
 headOf chroma x y len ly lcb lcr =
     bytes16 0xCAC3 ++ (bytes32 len ++ (0 ∷ chroma ∷ chroma ∷ (bytes16 x ++ (bytes16 y ++ (bytes16 ly ++ (bytes16 lcb ++ bytes16 lcr))))))
 
--- the output with the four lengths of the tile at a place filled in
+-- "lengths are filled in afterwards inside the output": the output with the four lengths of the tile at a place filled in
 unfoldable pub filled : List ℕ → ℕ → ℕ → ℕ → ℕ → ℕ → List ℕ
 filled o at len ly lcb lcr =
     patch (patch (patch (patch o (at + 2) (bytes32 len)) (at + 13) (bytes16 ly)) (at + 15) (bytes16 lcb)) (at + 17) (bytes16 lcr)

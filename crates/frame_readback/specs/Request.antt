@@ -64,7 +64,8 @@ pub record RequestFive : Type 0 where
       → length cr ≡ 4096
       → length tmp ≡ 4096
       → c .height * c .width ≤ length pic
-      → FrameRead glass (recordOf glass 4 (c .width) (c .height) (c .mode)) (take (writingLength (c .answer)) (c .out′)) pic y cb cr tmp pic′ y′ cb′ cr′ tmp′ answer
+      → FrameRead glass (recordOf glass 4 (c .width) (c .height) (c .mode)) (take (writingLength (c .answer)) (c .out′)) pic y cb cr tmp pic′ y′ cb′ cr′
+      tmp′ answer
       → AllTaken s₀ (c .width) (c .height) (c .mode) (take (writingLength hr) ho′)
       × ShownOver glass (c .pixels) (c .width) (c .height) (c .quants) pic pic′ answer
   -- one answer and one content of lent memory

@@ -38,7 +38,10 @@ workLeft zero xs = replicate 4096 (pos 0)
 workLeft (suc f) xs = xs
 
 -- what the call says and leaves; xs′ is a list at exit
-pub record FrameWritten (w h mode : ℕ) (q : List ℕ) (index : ℕ) (p : List ℕ) (list list′ scratch scratch′ : List ℤ) (out out′ : List ℕ) (r : Writing) : Type 0 where
-  pub wrote : Wrote (argFault w h mode q (length p) (length list) (length scratch) ⨟ sendFault index w h mode q p (length out)) (pictureFrame index w h mode q p) out out′ r
+pub record FrameWritten (w h mode : ℕ) (q : List ℕ) (index : ℕ) (p : List ℕ) (list list′ scratch scratch′ : List ℤ) (out out′ : List ℕ) (r : Writing) : Type
+    0 where
+  pub wrote :
+      Wrote (argFault w h mode q (length p) (length list) (length scratch) ⨟ sendFault index w h mode q p (length out)) (pictureFrame index w h mode q p)
+      out out′ r
   pub first : list′ ≡ workLeft (argFault w h mode q (length p) (length list) (length scratch)) list
   pub second : scratch′ ≡ workLeft (argFault w h mode q (length p) (length list) (length scratch)) scratch

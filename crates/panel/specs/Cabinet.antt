@@ -32,7 +32,8 @@ abbrev pub setsFrom : List ℕ → List ℕ → Quants
 setsFrom luma chroma = record { luma = record { v = luma }; chroma = record { v = chroma } }
 
 -- what is written over both sets, and the two work lists
-pub record WriteOverCall (w h mode : ℕ) (q : Quants) (index : ℕ) (p : List ℕ) (list list′ scratch scratch′ : List ℤ) (out out′ : List ℕ) (size n : ℕ) : Type 0 where
+pub record WriteOverCall (w h mode : ℕ) (q : Quants) (index : ℕ) (p : List ℕ) (list list′ scratch scratch′ : List ℤ) (out out′ : List ℕ) (size n : ℕ) : Type
+    0 where
   pub wrote :
       WriterCall (argFaultOver w h mode q (length p) (length list) (length scratch) ⨟ sendFaultOver index w h mode q p (length out))
       (frameOver index w h mode q p) out out′ size n

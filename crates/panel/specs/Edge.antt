@@ -57,7 +57,10 @@ abbrev pub WriteHeadersCall : ℕ → ℕ → ℕ → List ℕ → List ℕ → 
 WriteHeadersCall width height mode out out′ size n = WriterCall (headersFault width height mode (length out)) (headersOf width height mode) out out′ size n
 
 -- and the frame writer's two work lists
-pub record WriteFrameCall (w h mode : ℕ) (q : List ℕ) (index : ℕ) (p : List ℕ) (list list′ scratch scratch′ : List ℤ) (out out′ : List ℕ) (size n : ℕ) : Type 0 where
-  pub wrote : WriterCall (argFault w h mode q (length p) (length list) (length scratch) ⨟ sendFault index w h mode q p (length out)) (pictureFrame index w h mode q p) out out′ size n
+pub record WriteFrameCall (w h mode : ℕ) (q : List ℕ) (index : ℕ) (p : List ℕ) (list list′ scratch scratch′ : List ℤ) (out out′ : List ℕ) (size n : ℕ)
+    : Type 0 where
+  pub wrote :
+      WriterCall (argFault w h mode q (length p) (length list) (length scratch) ⨟ sendFault index w h mode q p (length out))
+      (pictureFrame index w h mode q p) out out′ size n
   pub first : list′ ≡ workLeft (argFault w h mode q (length p) (length list) (length scratch)) list
   pub second : scratch′ ≡ workLeft (argFault w h mode q (length p) (length list) (length scratch)) scratch

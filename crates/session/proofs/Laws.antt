@@ -34,7 +34,8 @@ fault-field s m t size n f j z g h =
     let k = g ∙ ap (fieldFault m) (j .type) in
     passes _ _ _ _ (le-leb 6 (length m) (j .some)) (goes-on _ _ _ (sym e ∙ z) (stops _ _ _ (λ y. h (k ∙ y)) k))
 
-pub fault-more : (s : Session) (m : List ℕ) (t size n f : ℕ) → Judged s m t size n → n ≡ 0 → f ≡ fieldFault m t → f ≡ 0 → (length m ≡ size → ⊥) → 4 ≡ headerFault s m
+pub fault-more :
+    (s : Session) (m : List ℕ) (t size n f : ℕ) → Judged s m t size n → n ≡ 0 → f ≡ fieldFault m t → f ≡ 0 → (length m ≡ size → ⊥) → 4 ≡ headerFault s m
 unfolding headerFault
 fault-more s m t size n f j z g y h =
     let e = seen s m t size n j in

@@ -26,13 +26,13 @@ abbrev sized : ℕ → ℕ → ℕ → Session
 sized columns rows words = record { headers = 3; mode = 0; width = 70; height = 40; columns = columns; rows = rows; words = words; glass = 0 }
 
 pub record Cases : Type 0 where
-  -- the four headers in order, from a fresh record; context properties 2828 are RLGR3, 2228 are RLGR1
+  -- the four headers in order, from a fresh record; "Properties: context 2828 .. RLGR3; 2228 .. RLGR1"
   pub sync-taken : headerReading (recordOf 0 0 0 0 0) sync ≡ Taken (recordOf 0 1 0 0 0)
   pub versions-taken : headerReading (recordOf 0 1 0 0 0) versions ≡ Taken (recordOf 0 2 0 0 0)
   pub channels-taken : headerReading (recordOf 0 2 0 0 0) (channels 0x40 0x00) ≡ Taken (recordOf 0 3 64 64 0)
   pub rlgr3-taken : headerReading (recordOf 0 3 64 64 0) (context 0x28 0x28) ≡ Taken (recordOf 0 4 64 64 4)
   pub rlgr1-taken : headerReading (recordOf 0 3 64 64 0) (context 0x28 0x22) ≡ Taken (recordOf 0 4 64 64 1)
-  -- width 4,096 taken, 4,097 refused 5
+  -- "Width 4,096 taken, 4,097 refused 5"
   pub wide-taken : headerReading (recordOf 0 2 0 0 0) (channels 0x00 0x10) ≡ Taken (recordOf 0 3 4096 64 0)
   pub wide-refused : headerReading (recordOf 0 2 0 0 0) (channels 0x01 0x10) ≡ Refused 5
   -- a sync starts over, from any record; other headers are 12 where not due, and for a record that no calls could have made

@@ -140,6 +140,7 @@ channelsFault m = channelsJudge (getD m 6 0) (getD m 7 0) (le16 m 8) (le16 m 10)
 unfoldable pub contextFault : List ℕ → ℕ
 contextFault m = contextJudge (getD m 6 0) (getD m 7 0) (getD m 8 0) (le16 m 9) (le16 m 11)
 
+-- 5 is "a fixed field differs, or size or mode is not allowed"
 unfoldable pub fieldFault : List ℕ → ℕ → ℕ
 fieldFault m t =
     eqb t 0xCCC0 ⇒ syncFault m ∣
@@ -150,6 +151,7 @@ fieldFault m t =
 -- ---- "Header call: head of 6 bytes (1), type CCC0 to CCC3 (3), due (12), length (4), whole block present (1), fields in wire order (5),
 -- then bytes after it (4)"
 
+-- 3 is "block type not one the call takes", 12 "a known header not due"
 unfoldable pub headJudge : Session → ℕ → ℕ → ℕ → ℕ
 headJudge s t size len =
     leb 0xCCC0 t ! 3 ⨾

@@ -10,7 +10,8 @@ use Rattle.whole.specs.Among.{Among}
 use Rattle.wire.specs.Wrote.{Wrote, writingNumber, writingLength}
 use Rattle.wire.specs.declared.Writing.{Writing}
 use Rattle.quants.specs.Quants.{same}
-use Rattle.settings.specs.Settings.{settings, Kept, Refused, bodyOf, known, takes, recordFault, readSettings, versionRecord, oneRecord, twoRecord, settingsOf, writeFault, GoodSettings}
+use Rattle.settings.specs.Settings.{settings, Kept, Refused, bodyOf, known, takes, recordFault, readSettings, versionRecord, oneRecord, twoRecord}
+use Rattle.settings.specs.Settings.{settingsOf, writeFault, GoodSettings}
 use Rattle.settings.specs.declared.Settings.{Settings}
 use Rattle.settings.specs.declared.read.Reading.{Reading}
 

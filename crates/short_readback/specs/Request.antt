@@ -50,7 +50,8 @@ ownOf c = ownFault (c .width) (c .height) (c .mode) (c .quants) (length (c .old)
 abbrev pub checkOf : WriteShort → ℕ
 checkOf c = planFault (c .width) (c .height) (c .old) (c .new) (c .picks)
 
--- "the glass shows what a full frame of the picture gives", a glass of 16 bits a word (0) or of 32 (1): every word of the channel does (`ShownOver` says it of a full frame: frame_readback/specs/Own)
+-- "the glass shows what a full frame of the picture gives", a glass of 16 bits a word (0) or of 32 (1): every word of the channel does (`ShownOver` says it
+-- of a full frame: frame_readback/specs/Own)
 abbrev pub Shows : ℕ → List ℕ → ℕ → ℕ → Quants → List ℕ → Type 0
 Shows glass p w h q pic = (px py : ℕ) → px < w → py < h → getD pic (py * w + px) 0 ≡ wordOver glass p w h q (tileNo w px py) (64 * (py % 64) + px % 64)
 
@@ -96,7 +97,8 @@ pub record RequestElevenFrames : Type 0 where
       → length cr ≡ 4096
       → length tmp ≡ 4096
       → c .height * c .width ≤ length pic
-      → FrameRead glass (recordOf glass 4 (c .width) (c .height) (c .mode)) (take (writingLength (c .answer)) (c .out′)) pic y cb cr tmp pic′ y′ cb′ cr′ tmp′ answer
+      → FrameRead glass (recordOf glass 4 (c .width) (c .height) (c .mode)) (take (writingLength (c .answer)) (c .out′)) pic y cb cr tmp pic′ y′ cb′ cr′
+      tmp′ answer
       → Shows glass (c .old) (c .width) (c .height) (c .quants) pic
       → ShortShown glass (c .new) (c .width) (c .height) (c .quants) (length (c .picks)) pic pic′ answer
   -- the words, with one set for both

@@ -1,4 +1,5 @@
 -- One line of the way back (01, "Bands and the wavelet"; 001, 3.1.8.2.4). L and H are the low and the high half, N numbers each.
+-- "Whole numbers, never wrapped."
 -- (01 is this project's scope document, 02 its change requests, 001 is MS-RDPRFX: README, "What 01 is".)
 use Prim.Native.Nat.{ℕ, zero, suc, _+_, _*_, _-_, _/_, _%_, min}
 use lib.IntN.{ℤ, pos, _+ℤ_, _-ℤ_, _*ℤ_}

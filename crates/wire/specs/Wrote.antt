@@ -11,6 +11,7 @@ use Rattle.wire.specs.declared.Writing.the-variants.{Done, Refused}
 
 -- ---- the answer: 01's number, and its value
 
+-- "0 done"
 unfoldable pub writingNumber : Writing → ℕ
 writingNumber (Done length) = 0
 writingNumber (Refused number) = number

@@ -71,7 +71,8 @@ pub headers-said :
 headers-said width height mode out x out′ w n f p e = wrote (headersFault width height mode) (headersOf width height mode) out x out′ w f p n e
 
 pub settings-said :
-    (s : Settings) (out x out′ : List ℕ) (w : Writing) (n : ℕ) → x ≡ replicate (length out) 0xA5 → Wrote (Kept.writeFault s (length x)) (settingsOf s) x out′ w →
+    (s : Settings) (out x out′ : List ℕ) (w : Writing) (n : ℕ) → x ≡ replicate (length out) 0xA5 →
+    Wrote (Kept.writeFault s (length x)) (settingsOf s) x out′ w →
     n ≡ writingLength w → WriterSaid (Kept.writeFault s (length out)) (settingsOf s) out out′ n
 settings-said s out x out′ w n f p e = wrote (Kept.writeFault s) (settingsOf s) out x out′ w f p n e
 
@@ -222,7 +223,8 @@ list-sent a pixels out out′ k one two n h e p =
 
 -- ---- a hand-over to the collector
 
-pub taken-made : (c : Collector) (bytes store store′ : List ℕ) (t : Took) → said t store′ ≡ collectOf (state c store) bytes → Taken c bytes store store′ (t .collector)
+pub taken-made :
+    (c : Collector) (bytes store store′ : List ℕ) (t : Took) → said t store′ ≡ collectOf (state c store) bytes → Taken c bytes store store′ (t .collector)
 taken-made c bytes store store′ t e = record {
   collector = ap (λ (x : HandOver). x .step .state .collector) e;
   left = ap (λ (x : HandOver). x .step .state .store) e;

@@ -20,7 +20,8 @@ use Rattle.app_text.specs.First.{firstOf}
 use Rattle.app_calls.specs.declared.calls.Lengths.{Lengths}
 use Rattle.app_calls.specs.declared.given.Desk.{Desk}
 use Rattle.app_calls.specs.Calls.{headerLeft, fits, FrameMade}
-use Rattle.app_calls.specs.Given.{started, moved, headerDesk, frameDesk, deskPart, shown, picturePart, partPlayed, Scene, scene, taken, played, sceneAfter, sceneGiven, givenTo}
+use Rattle.app_calls.specs.Given.{started, moved, headerDesk, frameDesk, deskPart, shown, picturePart, partPlayed, Scene, scene, taken, played}
+use Rattle.app_calls.specs.Given.{sceneAfter, sceneGiven, givenTo}
 
 -- bytes past their end: none
 pub past-end : (m : List ℕ) (at : ℕ) → length m < at → take 0 m ≡ drop at m

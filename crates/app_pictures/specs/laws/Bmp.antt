@@ -34,7 +34,8 @@ pub word-next :
     → i < length ws
     → y ≡ written (wordBytes (take (i + 1) ws)) out
 word-next ws out x y i v e w f h =
-    wrote-next x y (wordBytes (take i ws)) (bytes16 v) out (2 * i) e w (word-bytes-length (take i ws) ∙ ap (λ (k : ℕ). 2 * k) (length-take-le i ws (omega arith)))
+    wrote-next x y (wordBytes (take i ws)) (bytes16 v) out (2 * i) e w
+    (word-bytes-length (take i ws) ∙ ap (λ (k : ℕ). 2 * k) (length-take-le i ws (omega arith)))
     ∙ ap (λ (d : List ℕ). written d out) (ap (λ (k : ℕ). wordBytes (take i ws) ++ bytes16 k) f ∙ sym (word-snoc ws i h))
 
 pub words-none : (ws out : List ℕ) → out ≡ written (wordBytes (take 0 ws)) out

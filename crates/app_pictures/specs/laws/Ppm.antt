@@ -12,7 +12,8 @@ use Rattle.whole.specs.laws.Row.{fails, passes, held, case-yes, case-no, ne-is}
 use Rattle.app_pictures.specs.declared.ppm.Figure.{Figure}
 use Rattle.app_pictures.specs.declared.ppm.Head.{Head}
 use Rattle.app_pictures.specs.declared.ppm.Head.the-variants.{Good, Refused}
-use Rattle.app_pictures.specs.Ppm.{isDigit, moreOf, figure, digitsFrom, figureAt, afterOf, skipFrom, skipAt, fieldOf, fieldAt, isP6, blankAt, closedOf, headOf, sizeFault, bytesFault, sizedOf, sizedHead, pictureOf}
+use Rattle.app_pictures.specs.Ppm.{isDigit, moreOf, figure, digitsFrom, figureAt, afterOf, skipFrom, skipAt, fieldOf, fieldAt, isP6, blankAt}
+use Rattle.app_pictures.specs.Ppm.{closedOf, headOf, sizeFault, bytesFault, sizedOf, sizedHead, pictureOf}
 
 left : (n at : ℕ) → at < n → n - at ≡ suc (n - (at + 1))
 left n at l = omega arith

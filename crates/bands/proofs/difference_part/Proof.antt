@@ -1,3 +1,4 @@
+-- Invariant: the i places passed hold their differences, and `last` is the value that stood before place i (`lastOf`).
 use Prim.Native.Nat.{ℕ, _≤_, _-_}
 use mathlib.Core.Path.{_≡_, _∙_, sym, refl, subst}
 use native.Mathlib.Omega.{arith}
@@ -12,9 +13,6 @@ use Rattle.bands.specs.laws.Rounding.{lastOf, diff-is, last-more, last-n
 use Rattle.bands.specs.laws.Part.{Done, done-none, done-put, done-all}
 use Rattle.bands.proofs.difference_part.Statement.{statement}
 use Rattle.bands.proofs.difference_part.Tie as tie
-use Rattle.bands.proofs.difference_part.Reads as reads
-use Rattle.bands.proofs.difference_part.Lts as lts
-use Rattle.bands.proofs.minus.Reads as minus-reads
 
 abbrev Inv-loop : tie.InvT-loop
 Inv-loop part₀ last₀ i₀ part last i = (i ≤ 64) × (toZ w32 last ≡ lastOf (at part₀) i) × Done (diffAt (at part₀)) i part₀ part
@@ -32,11 +30,16 @@ mul-v c = omega (arith, c .before .loop .inv .2 .same, c .before .before .pre .0
 slice-copy-out-v : tie.Need-slice-copy-out-v Inv-loop μ-loop
 slice-copy-out-v c = omega (arith, c .before .loop .inv .2 .same, c .before .before .pre .0)
 
-here : (s : tie.At-loop Inv-loop μ-loop) → (at (s .loop .part) (s .loop .i) ≡ at (now (s .before .args .part)) (s .loop .i)) × Near 268443648 (at (s .loop .part) (s .loop .i))
+here :
+    (s : tie.At-loop Inv-loop μ-loop) →
+    (at (s .loop .part) (s .loop .i) ≡ at (now (s .before .args .part)) (s .loop .i)) × Near 268443648 (at (s .loop .part) (s .loop .i))
 here s = let e = s .loop .inv .2 .rest (s .loop .i) (omega arith) in (e, subst (Near 268443648) (sym e) (s .before .pre .1 .all (s .loop .i)))
 
 minus-requires : tie.Need-minus-requires Inv-loop μ-loop
-minus-requires c κs = (back-near w32 (here ((c .before .before)) .1) tt, subst (Near 268443648) (sym (c .before .before .loop .inv .1)) (last-near (at (now (c .before .before .before .args .part))) (c .before .before .loop .i) (c .before .before .before .pre .1 .all)))
+minus-requires c κs =
+    let c2 = c .before .before in
+    let c3 = c2 .before in
+    (back-near w32 (here ((c2)) .1) tt, subst (Near 268443648) (sym (c2 .loop .inv .1)) (last-near (at (now (c3 .args .part))) (c2 .loop .i) (c3 .pre .1 .all)))
 
 mul-t5 : tie.Need-mul-t5 Inv-loop μ-loop
 mul-t5 c = omega (arith, c .before .before .before .loop .inv .2 .same, c .before .before .before .before .pre .0)
@@ -54,17 +57,32 @@ loop-again : tie.Need-loop-again Inv-loop μ-loop
 loop-again c =
     let f : ℕ → ℤ = at (now (c .before .before .before .before .args .part)) in
     let h = here ((c .before .before .before)) in
-    let v : toZ w32 (ofZ w32 (c .minus .result)) ≡ diffAt f (c .before .before .before .loop .i) = cc (back-ok w32 (c .minus .result) (c .minus .ok), c .minus .ensures, back w32 (h .1) tt, h .0, c .before .before .before .loop .inv .1, diff-is f (c .before .before .before .loop .i)) in
-    (omega (arith, c .before .before .before .loop .inv .2 .same, c .before .before .before .before .pre .0), back w32 (h .1) tt ∙ (h .0 ∙ last-more f (c .before .before .before .loop .i)), done-put (diffAt f) (c .before .before .before .loop .i) (now (c .before .before .before .before .args .part)) (c .before .before .before .loop .part) _ (omega (arith, c .before .before .before .loop .inv .2 .same)) v (c .before .before .before .loop .inv .2))
+    let v : toZ w32 (ofZ w32 (c .minus .result)) ≡ diffAt f (c .before .before .before .loop .i) =
+    cc (
+      back-ok w32 (c .minus .result) (c .minus .ok),
+      c .minus .ensures,
+      back w32 (h .1) tt,
+      h .0,
+      c .before .before .before .loop .inv .1,
+      diff-is f (c .before .before .before .loop .i),
+    ) in (
+      omega (arith, c .before .before .before .loop .inv .2 .same, c .before .before .before .before .pre .0),
+      back w32 (h .1) tt
+          ∙ (h .0 ∙ last-more f (c .before .before .before .loop .i)),
+      done-put (diffAt f) (c .before .before .before .loop .i) (now (c .before .before .before .before .args .part))
+          (c .before .before .before .loop .part) _ (omega (arith, c .before .before .before .loop .inv .2 .same)) v
+          (c .before .before .before .loop .inv .2),
+    )
 
 same-length : tie.Need-same-length Inv-loop μ-loop
 same-length c = omega (arith, c .before .loop .inv .2 .same, c .before .before .pre .0)
 
 returns : tie.Need-returns Inv-loop μ-loop
 returns c =
-    let n : c .before .loop .i ≡ 64 = omega (arith, c .before .loop .inv .2 .same, c .before .before .pre .0) in
-    let f : ℕ → ℤ = diffAt (at (now (c .before .before .args .part))) in
-    let d = done-all f (c .before .loop .i) (now (c .before .before .args .part)) (c .before .loop .part) (c .before .before .pre .0 ∙ sym n) (c .before .loop .inv .2) in
+    let c2 = c .before .before in
+    let n : c .before .loop .i ≡ 64 = omega (arith, c .before .loop .inv .2 .same, c2 .pre .0) in
+    let f : ℕ → ℤ = diffAt (at (now (c2 .args .part))) in
+    let d = done-all f (c .before .loop .i) (now (c2 .args .part)) (c .before .loop .part) (c2 .pre .0 ∙ sym n) (c .before .loop .inv .2) in
     subst (λ (i : ℕ). c .before .loop .part ≡ table i f) n d
 
 pub difference-part-spec : {M : Type 1} → statement M

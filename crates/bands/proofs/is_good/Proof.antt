@@ -1,3 +1,4 @@
+-- Invariant: the first i values are good (`goodTo`); one that is not ends it (`bad-low`, `bad-high`).
 use Prim.Native.Nat.{ℕ, _≤_, _-_}
 use mathlib.Core.Bool.{true}
 use mathlib.Core.Path.{_≡_, sym, refl, subst}
@@ -6,8 +7,6 @@ use Rattle.bands.specs.Bands.{goodTo}
 use Rattle.bands.specs.laws.Band.{bad-low, bad-high, good-next}
 use Rattle.bands.proofs.is_good.Statement.{statement}
 use Rattle.bands.proofs.is_good.Tie as tie
-use Rattle.bands.proofs.is_good.Reads as reads
-use Rattle.bands.proofs.is_good.Lts as lts
 
 abbrev Inv-loop : tie.InvT-loop
 Inv-loop q i₀ i = (i ≤ 10) × (goodTo (q .v) i ≡ true)
@@ -19,38 +18,25 @@ loop-holds : tie.Need-loop-holds Inv-loop μ-loop
 unfolding goodTo
 loop-holds c = (omega arith, refl)
 
-element-copy-out-x : tie.Need-element-copy-out-x Inv-loop μ-loop
-element-copy-out-x c = omega arith
-
 returns : tie.Need-returns Inv-loop μ-loop
 returns c = bad-low (c .before .before .before .before .args .t1 .v) (c .before .before .before .loop .i) (omega arith) (omega arith)
 
 returns-2 : tie.Need-returns-2 Inv-loop μ-loop
-returns-2 c = bad-high (c .before .before .before .before .before .args .t1 .v) (c .before .before .before .before .loop .i) (omega arith) (omega arith) (omega arith)
-
-add-i : tie.Need-add-i Inv-loop μ-loop
-add-i c = omega arith
-
-loop-less : tie.Need-loop-less Inv-loop μ-loop
-loop-less c = omega arith
+returns-2 c =
+    bad-high (c .before .before .before .before .before .args .t1 .v) (c .before .before .before .before .loop .i) (omega arith) (omega arith) (omega arith)
 
 loop-again : tie.Need-loop-again Inv-loop μ-loop
-loop-again c = (omega arith, good-next (c .before .before .before .before .before .args .t1 .v) (c .before .before .before .before .loop .i) (c .before .before .before .before .loop .inv .1) (omega arith) (omega arith))
+loop-again c = (
+  omega arith,
+  good-next (c .before .before .before .before .before .args .t1 .v) (c .before .before .before .before .loop .i)
+      (c .before .before .before .before .loop .inv .1) (omega arith) (omega arith),
+)
 
 returns-3 : tie.Need-returns-3 Inv-loop μ-loop
-returns-3 c = let n : c .before .loop .i ≡ 10 = omega arith in sym (subst (λ (i : ℕ). goodTo (c .before .before .args .t1 .v) i ≡ true) n (c .before .loop .inv .1))
+returns-3 c =
+    let n : c .before .loop .i ≡ 10 = omega arith in sym (subst (λ (i : ℕ). goodTo (c .before .before .args .t1 .v) i ≡ true) n (c .before .loop .inv .1))
 
 pub is-good-spec : {M : Type 1} → statement M
 is-good-spec =
     tie.close
-    (tie.spec
-    Inv-loop
-    μ-loop
-    loop-holds
-    element-copy-out-x
-    returns
-    returns-2
-    add-i
-    loop-less
-    loop-again
-    returns-3)
+    (tie.spec Inv-loop μ-loop loop-holds (λ c. omega arith) returns returns-2 (λ c. omega arith) (λ c. omega arith) loop-again returns-3)

@@ -1,3 +1,4 @@
+-- One shifted by k is 2^k (`shl-one`), and small enough to be read as signed.
 use mathlib.Core.Path.{ap, _∙_}
 use native.Mathlib.Omega.{arith}
 use lib.IntN.{pos}
@@ -7,11 +8,6 @@ use Rattle.bands.specs.laws.Band.{shl-one, shl-small}
 use borrow.Author.Needs.{needs}
 use Rattle.bands.proofs.power.Statement.{statement}
 use Rattle.bands.proofs.power.Tie as tie
-use Rattle.bands.proofs.power.Reads as reads
-use Rattle.bands.proofs.power.Lts as lts
-
-shl-result : tie.Need-shl-result
-shl-result c = search needs
 
 cast-result : tie.Need-cast-result
 cast-result c = record { sfits = shl-small (c .args .k) (omega arith) }
@@ -20,4 +16,4 @@ returns : tie.Need-returns
 returns c = toZ-pos w32 (shl-small (c .args .k) (omega arith)) ∙ ap pos (shl-one (c .args .k) (omega arith))
 
 pub power-spec : {M : Type 1} → statement M
-power-spec = tie.close (tie.spec shl-result cast-result returns)
+power-spec = tie.close (tie.spec (λ c. search needs) cast-result returns)

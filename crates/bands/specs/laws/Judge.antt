@@ -15,7 +15,8 @@ use Rattle.whole.specs.Tab.{at, table}
 use Rattle.whole.specs.laws.Tab.{AllNear, at-tab}
 use Rattle.whole.specs.laws.Part.{part-length, part-at}
 use Rattle.bands.specs.declared.Band.{Band}
-use Rattle.bands.specs.Bands.{bands, firstBand, bandAt, quantAt, allIn, sumTo, ll3, sumsOf, summed, scaleAt, sumsFault, scaleFault, rangeFault, coefficientsFault}
+use Rattle.bands.specs.Bands.{bands, firstBand, bandAt, quantAt, allIn, sumTo, ll3, sumsOf, summed, scaleAt, sumsFault, scaleFault, rangeFault}
+use Rattle.bands.specs.Bands.{coefficientsFault}
 use Rattle.bands.specs.laws.Steps.{overs, limitOf, limitAt}
 use Rattle.bands.specs.laws.Band.{same-band, band-good}
 use Rattle.bands.specs.laws.Range.{all-each, each-all, overs-cong, overs-add, none-over, within-none, limit-scaled, scaled-limit, limit-near}

@@ -56,7 +56,8 @@ pub part-sums : (xs : List ℤ) (i : ℕ) → i < 64 → sumTo (at (take 64 (dro
 unfolding sumsOf
 part-sums xs i h = sum-cong (at (take 64 (drop 4032 xs))) (ll3 xs) (i + 1) (λ k l. part-at xs 4032 64 k (omega arith))
 
-pub sums-listed : (xs ys : List ℤ) → length xs ≡ 4096 → ys ≡ table 64 (λ (i : ℕ). sumTo (at (take 64 (drop 4032 xs))) (i + 1)) → putMid 4032 64 xs ys ≡ summed xs
+pub sums-listed :
+    (xs ys : List ℤ) → length xs ≡ 4096 → ys ≡ table 64 (λ (i : ℕ). sumTo (at (take 64 (drop 4032 xs))) (i + 1)) → putMid 4032 64 xs ys ≡ summed xs
 unfolding summed
 sums-listed xs ys l w =
     put-last xs ys l

@@ -95,4 +95,5 @@ sum-diff f i = ap (sumTo (diffAt f)) (add-one i) ∙ sum-back f i
 
 pub rounded-length : (q : List ℕ) (xs : List ℤ) → length (roundedBy q xs) ≡ 4096
 unfolding roundedBy differences
-rounded-length q xs = seam-length (table 4096 (roundAt q (at xs))) (table 64 (diffAt (ll3 (table 4096 (roundAt q (at xs)))))) (length-tab 4096 _) (length-tab 64 _)
+rounded-length q xs =
+    seam-length (table 4096 (roundAt q (at xs))) (table 64 (diffAt (ll3 (table 4096 (roundAt q (at xs)))))) (length-tab 4096 _) (length-tab 64 _)

@@ -1,3 +1,4 @@
+-- A byte shifted down and its last bit is the bit of the list at that place (`bitsOf-at`, `val-odd`).
 use denote.Ref.{now}
 use mathlib.Core.Path.{sym, ap, _∙_}
 use Rattle.bits.specs.Bits.{val}
@@ -5,28 +6,9 @@ use Rattle.bits.specs.laws.Bit.{bitsOf-at, val-odd}
 use borrow.Author.Needs.{needs}
 use Rattle.bits.proofs.digit.Statement.{statement}
 use Rattle.bits.proofs.digit.Tie as tie
-use Rattle.bits.proofs.digit.Reads as reads
-use Rattle.bits.proofs.digit.Lts as lts
-
-shared-slice-read-result : tie.Need-shared-slice-read-result
-shared-slice-read-result c = search needs
-
-sub-result : tie.Need-sub-result
-sub-result c = search needs
-
-cast-result : tie.Need-cast-result
-cast-result c = search needs
-
-shr-result : tie.Need-shr-result
-shr-result c = search needs
-
-cast-result-2 : tie.Need-cast-result-2
-cast-result-2 c = search needs
 
 returns : tie.Need-returns
 returns c = sym (ap val (bitsOf-at (now (c .before .args .s)) (c .before .args .at) (c .before .pre)) ∙ val-odd _)
 
 pub digit-spec : {M : Type 1} → statement M
-digit-spec =
-    tie.close
-    (tie.spec shared-slice-read-result sub-result cast-result shr-result cast-result-2 returns)
+digit-spec = tie.close (tie.spec (λ c. search needs) (λ c. search needs) (λ c. search needs) (λ c. search needs) (λ c. search needs) returns)

@@ -8,37 +8,32 @@ use Rattle.bits.specs.laws.Bit.{gr-bounds, gr-cut, gr-cut-low, gr-got}
 use borrow.Author.Needs.{needs}
 use Rattle.bits.proofs.golomb.Statement.{statement}
 use Rattle.bits.proofs.golomb.Tie as tie
-use Rattle.bits.proofs.golomb.Reads as reads
-use Rattle.bits.proofs.golomb.Lts as lts
-use Rattle.bits.proofs.number.Reads as number-reads
-use Rattle.bits.proofs.ones.Reads as ones-reads
-
-ones-requires : tie.Need-ones-requires
-ones-requires c κs = search needs
-
-enum-told : tie.Need-enum-told
-enum-told c = search needs
-
-enum-known-v : tie.Need-enum-known-v
-enum-known-v c = search needs
-
-number-requires : tie.Need-number-requires
-number-requires c κs = search needs
-
-enum-told-2 : tie.Need-enum-told-2
-enum-told-2 c = search needs
-
-enum-known-b : tie.Need-enum-known-b
-enum-known-b c = search needs
-
-shl-t12 : tie.Need-shl-t12
-shl-t12 c = search needs
 
 -- what the two calls gave, as the spec has it
-both : (c : tie.After-known-told2) → (onesOf 0 (c .before .before .before .before .before .before .before .before .before .args .from) (drop (c .before .before .before .before .before .before .before .before .before .args .from) (bitsOf (c .before .before .before .before .before .before .before .before .before .args .s .now))) ≡ Got (c .before .before .before .before .before .v .given .0 .0) (c .before .before .before .before .before .v .given .0 .1 .0)) × (numOf (c .before .before .before .before .before .before .before .before .before .args .k) 0 (c .before .before .before .before .before .v .given .0 .1 .0) (drop (c .before .before .before .before .before .v .given .0 .1 .0) (bitsOf (c .before .before .before .before .before .before .before .before .before .args .s .now))) ≡ Got (c .before .b .given .0 .0) (c .before .b .given .0 .1 .0))
-both c = (sym (c .before .before .before .before .before .before .before .ones .ensures) ∙ c .before .before .before .before .before .v .given .1, sym (c .before .before .before .number .ensures) ∙ c .before .b .given .1)
+both :
+    (c : tie.After-known-told2) →
+    (onesOf 0 (c .before .before .before .before .before .before .before .before .before .args .from)
+    (drop (c .before .before .before .before .before .before .before .before .before .args .from)
+    (bitsOf (c .before .before .before .before .before .before .before .before .before .args .s .now))) ≡ Got
+    (c .before .before .before .before .before .v .given .0 .0) (c .before .before .before .before .before .v .given .0 .1 .0))
+    × (numOf (c .before .before .before .before .before .before .before .before .before .args .k) 0
+    (c .before .before .before .before .before .v .given .0 .1 .0)
+    (drop (c .before .before .before .before .before .v .given .0 .1 .0)
+    (bitsOf (c .before .before .before .before .before .before .before .before .before .args .s .now))) ≡ Got (c .before .b .given .0 .0)
+    (c .before .b .given .0 .1 .0))
+both c =
+    let c3 = c .before .before .before in
+    let c5 = c3 .before .before in
+    let c7 = c5 .before .before in
+    (sym (c7 .ones .ensures) ∙ c5 .v .given .1, sym (c3 .number .ensures) ∙ c .before .b .given .1)
 
-bounds : (c : tie.After-known-told2) → (c .before .before .before .before .before .v .given .0 .0 * 2 ^ c .before .before .before .before .before .before .before .before .before .args .k % 2 ^ 64 ≡ c .before .before .before .before .before .v .given .0 .0 * 2 ^ c .before .before .before .before .before .before .before .before .before .args .k) × (c .before .before .before .before .before .v .given .0 .0 * 2 ^ c .before .before .before .before .before .before .before .before .before .args .k + c .before .b .given .0 .0 < 2 ^ 31)
+bounds :
+    (c : tie.After-known-told2) →
+    (c .before .before .before .before .before .v .given .0 .0 * 2 ^ c .before .before .before .before .before .before .before .before .before .args .k % 2
+    ^ 64 ≡ c .before .before .before .before .before .v .given .0 .0 * 2 ^ c .before .before .before .before .before .before .before .before .before
+    .args .k)
+    × (c .before .before .before .before .before .v .given .0 .0 * 2 ^ c .before .before .before .before .before .before .before .before .before .args .k
+    + c .before .b .given .0 .0 < 2 ^ 31)
 bounds c =
     let st = c .before .before .before .before .before .before .before .before .before in
     gr-bounds (st .args .k) (st .args .from) (st .args .s .now) _ _ _ _ (st .pre .1) (st .pre .0) (both c .0) (both c .1)
@@ -53,9 +48,14 @@ returns c =
 
 returns-2 : tie.Need-returns-2
 returns-2 c =
-    let a = c .before .before .before .before .before .before .before .before .args in
-    let v = c .before .before .before .before .v .given in
-    sym (gr-cut-low (a .k) (a .from) (bitsOf (a .s .now)) _ _ (sym (c .before .before .before .before .before .before .ones .ensures) ∙ v .1) (sym (c .before .before .number .ensures) ∙ c .enum-told2 .given .1))
+    let c4 = c .before .before .before .before in
+    let c6 = c4 .before .before in
+    let c8 = c6 .before .before in
+    let a = c8 .args in
+    let v = c4 .v .given in
+    sym
+    (gr-cut-low (a .k) (a .from) (bitsOf (a .s .now)) _ _ (sym (c6 .ones .ensures) ∙ v .1)
+    (sym (c .before .before .number .ensures) ∙ c .enum-told2 .given .1))
 
 returns-3 : tie.Need-returns-3
 returns-3 c =
@@ -65,15 +65,5 @@ returns-3 c =
 pub golomb-spec : {M : Type 1} → statement M
 golomb-spec =
     tie.close
-    (tie.spec
-    ones-requires
-    enum-told
-    enum-known-v
-    number-requires
-    enum-told-2
-    enum-known-b
-    shl-t12
-    add-t13
-    returns
-    returns-2
-    returns-3)
+    (tie.spec (λ c κs. search needs) (λ c. search needs) (λ c. search needs) (λ c κs. search needs) (λ c. search needs) (λ c. search needs)
+    (λ c. search needs) add-t13 returns returns-2 returns-3)

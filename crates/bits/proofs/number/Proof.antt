@@ -9,9 +9,6 @@ use Rattle.bits.specs.laws.Ahead.{ahead-number, number-cut}
 use borrow.Author.Needs.{needs}
 use Rattle.bits.proofs.number.Statement.{statement}
 use Rattle.bits.proofs.number.Tie as tie
-use Rattle.bits.proofs.number.Reads as reads
-use Rattle.bits.proofs.number.Lts as lts
-use Rattle.bits.proofs.word.ahead.Reads as ahead-reads
 
 returns : tie.Need-returns
 returns c =
@@ -19,36 +16,15 @@ returns c =
     let e : a .k ≡ 0 = c .if1 .taken in
     rw e (sym (num-end (bitsOf (a .s .now)) 0 (a .from)))
 
-mul-if2 : tie.Need-mul-if2
-mul-if2 c = search needs
-
 returns-2 : tie.Need-returns-2
 returns-2 c =
     let a = c .before .before .before .args in
     number-cut (a .s .now) (a .from) (a .k) (omega (arith, c .if2 .taken)) (omega (arith, c .before .if1 .left))
 
-mul-if3 : tie.Need-mul-if3
-mul-if3 c = search needs
-
-sub-if3 : tie.Need-sub-if3
-sub-if3 c = search needs
-
 returns-3 : tie.Need-returns-3
 returns-3 c =
     let a = c .before .before .before .before .args in
     number-cut (a .s .now) (a .from) (a .k) (omega (arith, c .if3 .taken)) (omega (arith, c .before .before .if1 .left))
-
-ahead-requires : tie.Need-ahead-requires
-ahead-requires c κs = search needs
-
-sub-n : tie.Need-sub-n
-sub-n c = search needs
-
-shr-n : tie.Need-shr-n
-shr-n c = search needs
-
-add-t8 : tie.Need-add-t8
-add-t8 c = search needs
 
 returns-4 : tie.Need-returns-4
 returns-4 c =
@@ -60,15 +36,5 @@ returns-4 c =
 pub number-spec : {M : Type 1} → statement M
 number-spec =
     tie.close
-    (tie.spec
-    returns
-    mul-if2
-    returns-2
-    mul-if3
-    sub-if3
-    returns-3
-    ahead-requires
-    sub-n
-    shr-n
-    add-t8
-    returns-4)
+    (tie.spec returns (λ c. search needs) returns-2 (λ c. search needs) (λ c. search needs) returns-3 (λ c κs. search needs) (λ c. search needs)
+    (λ c. search needs) (λ c. search needs) returns-4)

@@ -10,10 +10,6 @@ use Rattle.bits.specs.laws.Ahead.{ones-on, ones-here, ones-past, ones-fe
 use borrow.Author.Needs.{needs}
 use Rattle.bits.proofs.ones.Statement.{statement}
 use Rattle.bits.proofs.ones.Tie as tie
-use Rattle.bits.proofs.ones.Reads as reads
-use Rattle.bits.proofs.ones.Lts as lts
-use Rattle.bits.proofs.word.ahead.Reads as ahead-reads
-use Rattle.bits.proofs.word.ones_in.Reads as ones-in-reads
 
 abbrev Inv-loop : tie.InvT-loop
 Inv-loop s from v₀ at₀ v at = (v ≤ at) × (onesOf v at (drop at (bitsOf s)) ≡ onesOf 0 from (drop from (bitsOf s)))
@@ -24,26 +20,8 @@ abbrev μ-loop : tie.MeasureT-loop
 loop-holds : tie.Need-loop-holds Inv-loop μ-loop
 loop-holds c = (omega arith, refl)
 
-mul-loop : tie.Need-mul-loop Inv-loop μ-loop
-mul-loop c = omega arith
-
 ahead-requires : tie.Need-ahead-requires Inv-loop μ-loop
 ahead-requires c κs = (c .before .before .before .pre, omega (arith, c .loop-test .taken))
-
-ones-in-requires : tie.Need-ones-in-requires Inv-loop μ-loop
-ones-in-requires c κs = omega arith
-
-enum-told : tie.Need-enum-told Inv-loop μ-loop
-enum-told c = search needs
-
-add-v : tie.Need-add-v Inv-loop μ-loop
-add-v c = omega arith
-
-add-at : tie.Need-add-at Inv-loop μ-loop
-add-at c = omega arith
-
-loop-less : tie.Need-loop-less Inv-loop μ-loop
-loop-less c = omega arith
 
 loop-again : tie.Need-loop-again Inv-loop μ-loop
 loop-again c =
@@ -52,15 +30,6 @@ loop-again c =
     let s = o .before .before .before .before .before .args .s .now in
     let r = ones-on s (l .at) (o .before .ahead .result) (o .before .ahead .ensures .0) _ (o .ones-in .ensures) (c .enum-told .given .1) (l .v) in
     (omega arith, sym (r .1) ∙ l .inv .1)
-
-enum-known-m : tie.Need-enum-known-m Inv-loop μ-loop
-enum-known-m c = search needs
-
-mul-if1 : tie.Need-mul-if1 Inv-loop μ-loop
-mul-if1 c = omega arith
-
-sub-if1 : tie.Need-sub-if1 Inv-loop μ-loop
-sub-if1 c = omega arith
 
 returns : tie.Need-returns Inv-loop μ-loop
 returns c =
@@ -117,24 +86,6 @@ returns-3 c =
 pub ones-spec : {M : Type 1} → statement M
 ones-spec =
     tie.close
-    (tie.spec
-    Inv-loop
-    μ-loop
-    loop-holds
-    mul-loop
-    ahead-requires
-    ones-in-requires
-    enum-told
-    add-v
-    add-at
-    loop-less
-    loop-again
-    enum-known-m
-    mul-if1
-    sub-if1
-    returns
-    add-t12
-    add-t13
-    add-t14
-    returns-2
-    returns-3)
+    (tie.spec Inv-loop μ-loop loop-holds (λ c. omega arith) ahead-requires (λ c κs. omega arith) (λ c. search needs) (λ c. omega arith)
+    (λ c. omega arith) (λ c. omega arith) loop-again (λ c. search needs) (λ c. omega arith) (λ c. omega arith) returns add-t12 add-t13 add-t14
+    returns-2 returns-3)

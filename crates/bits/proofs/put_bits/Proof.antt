@@ -10,8 +10,6 @@ use Rattle.bits.specs.laws.Gr.{shift-one}
 use Rattle.bits.specs.laws.Wide.{Wide, wide-fits, wide-none, wide-byte, wide-end}
 use Rattle.bits.proofs.put_bits.Statement.{statement}
 use Rattle.bits.proofs.put_bits.Tie as tie
-use Rattle.bits.proofs.put_bits.Reads as reads
-use Rattle.bits.proofs.put_bits.Lts as lts
 
 abbrev Inv-loop : tie.InvT-loop
 Inv-loop out₀ k v at₀ n₀ acc out at n = (n ≤ 40) × Wide out₀ at₀ acc n₀ out at n

@@ -13,40 +13,15 @@ use Rattle.bits.specs.laws.Wide.{one-ones, one-shift, one-sum, gr-one}
 use borrow.Author.Needs.{needs}
 use Rattle.bits.proofs.put_gr.Statement.{statement}
 use Rattle.bits.proofs.put_gr.Tie as tie
-use Rattle.bits.proofs.put_gr.Reads as reads
-use Rattle.bits.proofs.put_gr.Lts as lts
-use Rattle.bits.proofs.put_bits.Reads as put-bits-reads
-use Rattle.bits.proofs.put_ones.Reads as put-ones-reads
-
-shr-v : tie.Need-shr-v
-shr-v c = search needs
-
-shl-low : tie.Need-shl-low
-shl-low c = search needs
 
 rem-low : tie.Need-rem-low
 rem-low c = rw (shift-one (c .before .args .k) (c .before .pre .1)) (pow-pos (c .before .args .k))
-
-add-put-bits : tie.Need-add-put-bits
-add-put-bits c = search needs
-
-add-put-bits-2 : tie.Need-add-put-bits-2
-add-put-bits-2 c = search needs
-
-shl-put-bits : tie.Need-shl-put-bits
-shl-put-bits c = search needs
 
 sub-put-bits : tie.Need-sub-put-bits
 sub-put-bits c =
     let s = c .before .before .before in
     let v = s .args .n / 2 ^ s .args .k in
     rw (one-ones (s .args .k) (s .args .n) v refl (c .before .if1 .taken) (s .pre .1)) (omega (arith, pow-pos v))
-
-add-put-bits-3 : tie.Need-add-put-bits-3
-add-put-bits-3 c = search needs
-
-shl-put-bits-2 : tie.Need-shl-put-bits-2
-shl-put-bits-2 c = search needs
 
 add-put-bits-4 : tie.Need-add-put-bits-4
 add-put-bits-4 c =
@@ -57,12 +32,6 @@ add-put-bits-4 c =
     let f = one-ones k n (n / 2 ^ k) refl h (s .pre .1) in
     let g = one-shift k n (n / 2 ^ k) refl h (s .pre .1) in
     record { fits = rw (f, g, shift-one k (s .pre .1)) (one-sum k n (n / 2 ^ k) refl h (s .pre .1)) }
-
-put-bits-requires : tie.Need-put-bits-requires
-put-bits-requires c κs = search needs
-
-same-length : tie.Need-same-length
-same-length c = search needs
 
 returns : tie.Need-returns
 returns c =
@@ -78,12 +47,6 @@ returns c =
     rw (f, g, shift-one k (s .pre .1)) at (b .ensures) in
     rw (← e) w
 
-put-ones-requires : tie.Need-put-ones-requires
-put-ones-requires c κs = search needs
-
-add-put-bits-5 : tie.Need-add-put-bits-5
-add-put-bits-5 c = search needs
-
 put-bits-requires-2 : tie.Need-put-bits-requires-2
 put-bits-requires-2 c κs =
     let o = c .before .before .before .put-ones in
@@ -94,9 +57,6 @@ put-bits-requires-2 c κs =
           (omega (arith, length-replicate (a .n / 2 ^ a .k) true)),
       omega (arith, s .pre .1),
     )
-
-same-length-2 : tie.Need-same-length-2
-same-length-2 c = search needs
 
 returns-2 : tie.Need-returns-2
 returns-2 c =
@@ -110,22 +70,6 @@ returns-2 c =
 pub put-gr-spec : {M : Type 1} → statement M
 put-gr-spec =
     tie.close
-    (tie.spec
-    shr-v
-    shl-low
-    rem-low
-    add-put-bits
-    add-put-bits-2
-    shl-put-bits
-    sub-put-bits
-    add-put-bits-3
-    shl-put-bits-2
-    add-put-bits-4
-    put-bits-requires
-    same-length
-    returns
-    put-ones-requires
-    add-put-bits-5
-    put-bits-requires-2
-    same-length-2
-    returns-2)
+    (tie.spec (λ c. search needs) (λ c. search needs) rem-low (λ c. search needs) (λ c. search needs) (λ c. search needs) sub-put-bits
+    (λ c. search needs) (λ c. search needs) add-put-bits-4 (λ c κs. search needs) (λ c. search needs) returns (λ c κs. search needs)
+    (λ c. search needs) put-bits-requires-2 (λ c. search needs) returns-2)

@@ -1,3 +1,4 @@
+-- Invariant: as many ones are put as are no longer left (`put-more`); the measure is the ones that are left.
 use Prim.Native.Nat.{ℕ, _-_, _≤_}
 use mathlib.Core.Path.{_≡_, sym, ap}
 use mathlib.Core.Bool.{true}
@@ -8,9 +9,6 @@ use Rattle.bits.specs.laws.Pen.{put-none, put-more, ready-after}
 use Rattle.bits.specs.laws.Gr.{rep-snoc}
 use Rattle.bits.proofs.put_ones.Statement.{statement}
 use Rattle.bits.proofs.put_ones.Tie as tie
-use Rattle.bits.proofs.put_ones.Reads as reads
-use Rattle.bits.proofs.put_ones.Lts as lts
-use Rattle.bits.proofs.put_bit.Reads as put-bit-reads
 
 abbrev Inv-loop : tie.InvT-loop
 Inv-loop out₀ v q₀ left₀ out q left = (left ≤ v) × Put out₀ q₀ out q (replicate (v - left) true)
@@ -27,21 +25,22 @@ loop-holds c =
 put-bit-requires : tie.Need-put-bit-requires Inv-loop μ-loop
 put-bit-requires c κs =
     let st = c .before .before .before .before in
-    let l = c .before .before .loop in
-    (ready-after (st .args .out .now) (l .out) (st .args .p) (l .q) (st .args .v) 1 (replicate (st .args .v - l .left) true) (st .pre) (l .inv .1) (omega (arith, l .inv .0, length-replicate (st .args .v - l .left) true, c .before .loop-test .taken)), omega arith)
-
-sub-left : tie.Need-sub-left Inv-loop μ-loop
-sub-left c = omega arith
-
-loop-less : tie.Need-loop-less Inv-loop μ-loop
-loop-less c = omega arith
+    let l = c .before .before .loop in (
+      ready-after (st .args .out .now) (l .out) (st .args .p) (l .q) (st .args .v) 1 (replicate (st .args .v - l .left) true) (st .pre) (l .inv .1)
+          (omega (arith, l .inv .0, length-replicate (st .args .v - l .left) true, c .before .loop-test .taken)),
+      omega arith,
+    )
 
 loop-again : tie.Need-loop-again Inv-loop μ-loop
 loop-again c =
     let st = c .before .before .before .before .before .before .before in
     let l = c .before .before .before .before .before .loop in
-    let h = c .before .before .before .before .loop-test .taken in
-    (omega arith, rw (← rep-snoc (st .args .v) (l .left) (l .inv .0) h) (put-more (st .args .out .now) (l .out) (c .before .before .put-bit .last .0) (st .args .p) (l .q) (c .before .before .put-bit .result) _ _ (l .inv .1) (c .before .before .put-bit .ensures)))
+    let h = c .before .before .before .before .loop-test .taken in (
+      omega arith,
+      rw (← rep-snoc (st .args .v) (l .left) (l .inv .0) h)
+          (put-more (st .args .out .now) (l .out) (c .before .before .put-bit .last .0) (st .args .p) (l .q) (c .before .before .put-bit .result) _ _
+          (l .inv .1) (c .before .before .put-bit .ensures)),
+    )
 
 same-length : tie.Need-same-length Inv-loop μ-loop
 same-length c = c .before .loop .inv .1 .long
@@ -57,13 +56,4 @@ returns c =
 pub put-ones-spec : {M : Type 1} → statement M
 put-ones-spec =
     tie.close
-    (tie.spec
-    Inv-loop
-    μ-loop
-    loop-holds
-    put-bit-requires
-    sub-left
-    loop-less
-    loop-again
-    same-length
-    returns)
+    (tie.spec Inv-loop μ-loop loop-holds put-bit-requires (λ c. omega arith) (λ c. omega arith) loop-again same-length returns)

@@ -43,7 +43,9 @@ bitsOf-at (b ∷ bs) i h = elim (decLt i 8) [ yes lt ↦ first lt | no ge ↦ la
         let m : 7 - i % 8 ≡ 8 - suc i = omega arith in
         rw (e, m) (List·getD-append (numBits 8 b) (bitsOf bs) false i (rw length-numBits lt) ∙ numBits-at 8 b i lt)
 
-    later : 8 ≤ i → ((j : ℕ) → j < 8 * length bs → getD (bitsOf bs) j false ≡ odd (getD bs (j / 8) 0 / 2 ^ (7 - j % 8))) → getD (numBits 8 b ++ bitsOf bs) i false ≡ odd (getD (b ∷ bs) (i / 8) 0 / 2 ^ (7 - i % 8))
+    later :
+        8 ≤ i → ((j : ℕ) → j < 8 * length bs → getD (bitsOf bs) j false ≡ odd (getD bs (j / 8) 0 / 2 ^ (7 - j % 8))) →
+        getD (numBits 8 b ++ bitsOf bs) i false ≡ odd (getD (b ∷ bs) (i / 8) 0 / 2 ^ (7 - i % 8))
     later ge ih =
         let j = i - 8 in
         let e : i / 8 ≡ suc (j / 8) = omega arith in
@@ -68,7 +70,8 @@ pub ones-cut : (B : List Bool) (v at : ℕ) → length B ≤ at → onesOf v at 
 unfolding onesOf
 ones-cut B v at h = rw (drop-of-length-le B h)
 
-pub num-more : (B : List Bool) (k acc at : ℕ) → at < length B → numOf (suc k) acc at (drop at B) ≡ numOf k (acc * 2 + val (getD B at false)) (at + 1) (drop (at + 1) B)
+pub num-more :
+    (B : List Bool) (k acc at : ℕ) → at < length B → numOf (suc k) acc at (drop at B) ≡ numOf k (acc * 2 + val (getD B at false)) (at + 1) (drop (at + 1) B)
 unfolding numOf
 num-more B k acc at h = rw (drop-cons B at false h, ← add-one at)
 
@@ -77,7 +80,9 @@ unfolding numOf
 num-end B acc at = refl
 
 -- the same in the code's form, k > 0 and k - 1
-pub num-step : (B : List Bool) (k acc at : ℕ) → 0 < k → at < length B → numOf k acc at (drop at B) ≡ numOf (k - 1) (acc * 2 + val (getD B at false)) (at + 1) (drop (at + 1) B)
+pub num-step :
+    (B : List Bool) (k acc at : ℕ) → 0 < k → at < length B →
+    numOf k acc at (drop at B) ≡ numOf (k - 1) (acc * 2 + val (getD B at false)) (at + 1) (drop (at + 1) B)
 num-step B zero acc at p h = absurd (omega arith)
 num-step B (suc k) acc at p h = rw (suc-sub-one k) (num-more B k acc at h)
 
@@ -145,7 +150,13 @@ unfolding onesOf
 ones-got v at [] w next e = let z : _≡_ {A = ℕ} 0 1 = cc in absurd (omega arith)
 ones-got v at (true ∷ bs) w next e =
     let r = ones-got (v + 1) (at + 1) bs w next e in
-    record { n = suc (r .n); rest = r .rest; count = omega (arith, r .count); place = omega (arith, r .place); front = ap (λ (l : List Bool). true ∷ l) (r .front) }
+    record {
+      n = suc (r .n);
+      rest = r .rest;
+      count = omega (arith, r .count);
+      place = omega (arith, r .place);
+      front = ap (λ (l : List Bool). true ∷ l) (r .front);
+    }
 ones-got v at (false ∷ bs) w next e =
     record { n = 0; rest = bs; count = sym (got-v e) ∙ omega arith; place = sym (got-at e) ∙ omega arith; front = refl }
 
@@ -160,7 +171,9 @@ num-got-lt (suc k) acc at (b ∷ bs) w next e =
 pub ones-got-le : (v at : ℕ) (bs : List Bool) (w next : ℕ) → onesOf v at bs ≡ Got w next → w < v + length bs
 ones-got-le v at bs w next e =
     let r = ones-got v at bs w next e in
-    let l : length bs ≡ r .n + suc (length (r .rest)) = ap length (r .front) ∙ length-append (replicate (r .n) true) (false ∷ r .rest) ∙ ap (λ (m : ℕ). m + suc (length (r .rest))) (length-replicate (r .n) true) in
+    let l : length bs ≡ r .n + suc (length (r .rest)) =
+    ap length (r .front) ∙ length-append (replicate (r .n) true) (false ∷ r .rest)
+    ∙ ap (λ (m : ℕ). m + suc (length (r .rest))) (length-replicate (r .n) true) in
     omega (arith, r .count, l)
 
 -- ---- a GR number by its two parts
@@ -171,7 +184,9 @@ gr-cut k at B e = rw e
 pub gr-cut-low : (k at : ℕ) (B : List Bool) (v mid : ℕ) → onesOf 0 at (drop at B) ≡ Got v mid → numOf k 0 mid (drop mid B) ≡ Cut → grOf k at B ≡ Cut
 gr-cut-low k at B v mid e f = rw (e, f)
 
-pub gr-got : (k at : ℕ) (B : List Bool) (v mid b next : ℕ) → onesOf 0 at (drop at B) ≡ Got v mid → numOf k 0 mid (drop mid B) ≡ Got b next → grOf k at B ≡ Got (v * 2 ^ k + b) next
+pub gr-got :
+    (k at : ℕ) (B : List Bool) (v mid b next : ℕ) → onesOf 0 at (drop at B) ≡ Got v mid → numOf k 0 mid (drop mid B) ≡ Got b next →
+    grOf k at B ≡ Got (v * 2 ^ k + b) next
 gr-got k at B v mid b next e f = rw (e, f)
 
 -- a GR number of at most 65,535 bytes and k at most 10 is small
@@ -181,7 +196,9 @@ gr-small k v b hk hv hb =
     let m : v * 2 ^ k ≤ 1048575 * 1024 = mul-le-mul {n₂ = 1048575} {m₂ = 1024} (omega arith) p in
     (mod-eq-of-lt (omega arith), omega arith)
 
-pub gr-bounds : (k at : ℕ) (s : List ℕ) (v mid b next : ℕ) → k ≤ 10 → length s ≤ 65535 → onesOf 0 at (drop at (bitsOf s)) ≡ Got v mid → numOf k 0 mid (drop mid (bitsOf s)) ≡ Got b next → (v * 2 ^ k % 2 ^ 64 ≡ v * 2 ^ k) × (v * 2 ^ k + b < 2 ^ 31)
+pub gr-bounds :
+    (k at : ℕ) (s : List ℕ) (v mid b next : ℕ) → k ≤ 10 → length s ≤ 65535 → onesOf 0 at (drop at (bitsOf s)) ≡ Got v mid →
+    numOf k 0 mid (drop mid (bitsOf s)) ≡ Got b next → (v * 2 ^ k % 2 ^ 64 ≡ v * 2 ^ k) × (v * 2 ^ k + b < 2 ^ 31)
 gr-bounds k at s v mid b next hk hs e f =
     gr-small k v b hk
     (omega (arith, ones-got-le 0 at (drop at (bitsOf s)) v mid e, length-drop at (bitsOf s), length-bitsOf s))

@@ -25,12 +25,29 @@ bitsOf-inj [] [] hs ht e = refl
 bitsOf-inj [] (y ∷ t) hs ht e = absurd (omega (arith, ap length e, length-append (numBits 8 y) (bitsOf t), length-numBits 8 y))
 bitsOf-inj (x ∷ s) [] hs ht e = absurd (omega (arith, ap length e, length-append (numBits 8 x) (bitsOf s), length-numBits 8 x))
 bitsOf-inj (x ∷ s) (y ∷ t) hs ht e =
-    let a : numBits 8 x ≡ numBits 8 y = sym (take-at (numBits 8 x) (bitsOf s) 8 (length-numBits 8 x)) ∙ ap (λ (l : List Bool). take 8 l) e ∙ take-at (numBits 8 y) (bitsOf t) 8 (length-numBits 8 y) in
-    let b : bitsOf s ≡ bitsOf t = sym (drop-at (numBits 8 x) (bitsOf s) 8 (length-numBits 8 x)) ∙ ap (λ (l : List Bool). drop 8 l) e ∙ drop-at (numBits 8 y) (bitsOf t) 8 (length-numBits 8 y) in
+    let a : numBits 8 x ≡ numBits 8 y =
+    sym (take-at (numBits 8 x) (bitsOf s) 8 (length-numBits 8 x)) ∙ ap (λ (l : List Bool). take 8 l) e
+    ∙ take-at (numBits 8 y) (bitsOf t) 8 (length-numBits 8 y) in
+    let b : bitsOf s ≡ bitsOf t =
+    sym (drop-at (numBits 8 x) (bitsOf s) 8 (length-numBits 8 x)) ∙ ap (λ (l : List Bool). drop 8 l) e
+    ∙ drop-at (numBits 8 y) (bitsOf t) 8 (length-numBits 8 y) in
     ap₂ (λ (z : ℕ) (l : List ℕ). z ∷ l) (numBits-inj 8 x y (hs 0) (ht 0) a) (bitsOf-inj s t (λ i. hs (suc i)) (λ i. ht (suc i)) b)
 
 -- the bytes of some bits are one list
 pub written-once : (s t : List ℕ) (bs : List Bool) → Bytes s → Bytes t → Written s bs → Written t bs → s ≡ t
 written-once s t bs hs ht p q =
-    let e : p .pad ≡ q .pad = omega (arith, ap length (p .bits), ap length (q .bits), length-append bs (replicate (p .pad) false), length-append bs (replicate (q .pad) false), length-replicate (p .pad) false, length-replicate (q .pad) false, length-bitsOf s, length-bitsOf t, p .few, q .few) in
+    let e : p .pad ≡ q .pad =
+    omega (
+      arith,
+      ap length (p .bits),
+      ap length (q .bits),
+      length-append bs (replicate (p .pad) false),
+      length-append bs (replicate (q .pad) false),
+      length-replicate (p .pad) false,
+      length-replicate (q .pad) false,
+      length-bitsOf s,
+      length-bitsOf t,
+      p .few,
+      q .few,
+    ) in
     bitsOf-inj s t hs ht (p .bits ∙ ap (λ (n : ℕ). bs ++ replicate n false) e ∙ sym (q .bits))

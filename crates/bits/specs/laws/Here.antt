@@ -19,7 +19,8 @@ use Rattle.bits.specs.declared.Num.the-variants.{Got, Cut}
 pub past : (at : ℕ) (B p rest : List Bool) → drop at B ≡ p ++ rest → drop (at + length p) B ≡ rest
 past at B p rest e = sym (drop-drop (length p) at B) ∙ ap (λ (l : List Bool). drop (length p) l) e ∙ drop-append-seam p rest
 
-pub num-here : (k n at : ℕ) (B rest : List Bool) → drop at B ≡ numBits k n ++ rest → n < 2 ^ k → (numOf k 0 at (drop at B) ≡ Got n (at + k)) × (drop (at + k) B ≡ rest)
+pub num-here :
+    (k n at : ℕ) (B rest : List Bool) → drop at B ≡ numBits k n ++ rest → n < 2 ^ k → (numOf k 0 at (drop at B) ≡ Got n (at + k)) × (drop (at + k) B ≡ rest)
 num-here k n at B rest e h =
     (rw e (num-put k n 0 at rest ∙ ap (λ (m : ℕ). Got m (at + k)) (omega (arith, mod-eq-of-lt h))), rw length-numBits at (past at B (numBits k n) rest e))
 
@@ -27,18 +28,25 @@ pub length-grBits : (k n : ℕ) → length (grBits k n) ≡ n / 2 ^ k + 1 + k
 unfolding grBits
 length-grBits k n = length-append (replicate (n / 2 ^ k) true) (false ∷ numBits k n) ∙ omega (arith, length-replicate (n / 2 ^ k) true, length-numBits k n)
 
-pub gr-here : (k n at : ℕ) (B rest : List Bool) → drop at B ≡ grBits k n ++ rest → (grOf k at B ≡ Got n (at + length (grBits k n))) × (drop (at + length (grBits k n)) B ≡ rest)
+pub gr-here :
+    (k n at : ℕ) (B rest : List Bool) → drop at B ≡ grBits k n ++ rest →
+    (grOf k at B ≡ Got n (at + length (grBits k n))) × (drop (at + length (grBits k n)) B ≡ rest)
 unfolding grBits
 gr-here k n at B rest e =
     let q = n / 2 ^ k in
     let e₁ : drop at B ≡ replicate q true ++ (false ∷ (numBits k n ++ rest)) = e ∙ append-assoc (replicate q true) (false ∷ numBits k n) rest in
-    let e₂ : drop at B ≡ (replicate q true ++ (false ∷ [])) ++ (numBits k n ++ rest) = e₁ ∙ sym (append-assoc (replicate q true) (false ∷ []) (numBits k n ++ rest)) in
+    let e₂ : drop at B ≡ (replicate q true ++ (false ∷ [])) ++ (numBits k n ++ rest) =
+    e₁ ∙ sym (append-assoc (replicate q true) (false ∷ []) (numBits k n ++ rest)) in
     let l : length (replicate q true ++ (false ∷ [])) ≡ q + 1 = length-append (replicate q true) (false ∷ []) ∙ omega (arith, length-replicate q true) in
     let s : at + q + 1 ≡ at + length (replicate q true ++ (false ∷ [])) = omega (arith, l) in
     let m : drop (at + q + 1) B ≡ numBits k n ++ rest = ap (λ (x : ℕ). drop x B) s ∙ past at B (replicate q true ++ (false ∷ [])) (numBits k n ++ rest) e₂ in
     let o : onesOf 0 at (drop at B) ≡ Got q (at + q + 1) = rw e₁ (ones-put q 0 at (numBits k n ++ rest) ∙ ap (λ (x : ℕ). Got x (at + q + 1)) (omega arith)) in
-    let r : numOf k 0 (at + q + 1) (drop (at + q + 1) B) ≡ Got (n % 2 ^ k) (at + q + 1 + k) = rw m (num-put k n 0 (at + q + 1) rest ∙ ap (λ (x : ℕ). Got x (at + q + 1 + k)) (omega arith)) in
-    (gr-got k at B q (at + q + 1) (n % 2 ^ k) (at + q + 1 + k) o r ∙ ap₂ Got (div-add-mod' n (2 ^ k)) (omega (arith, length-grBits k n)), past at B (grBits k n) rest e)
+    let r : numOf k 0 (at + q + 1) (drop (at + q + 1) B) ≡ Got (n % 2 ^ k) (at + q + 1 + k) =
+    rw m (num-put k n 0 (at + q + 1) rest ∙ ap (λ (x : ℕ). Got x (at + q + 1 + k)) (omega arith)) in (
+      gr-got k at B q (at + q + 1) (n % 2 ^ k) (at + q + 1 + k) o r
+          ∙ ap₂ Got (div-add-mod' n (2 ^ k)) (omega (arith, length-grBits k n)),
+      past at B (grBits k n) rest e,
+    )
 
 -- ---- and back
 
@@ -75,13 +83,15 @@ pub record NumBack (k acc at : ℕ) (bs : List Bool) (w next : ℕ) : Type 0 whe
 
 pub num-back : (k acc at : ℕ) (bs : List Bool) (w next : ℕ) → numOf k acc at bs ≡ Got w next → NumBack k acc at bs w next
 unfolding numOf numBits
-num-back zero acc at bs w next e = record { n = 0; rest = bs; small = omega arith; count = omega (arith, got-v e); place = omega (arith, got-at e); front = refl }
+num-back zero acc at bs w next e =
+    record { n = 0; rest = bs; small = omega arith; count = omega (arith, got-v e); place = omega (arith, got-at e); front = refl }
 num-back (suc k) acc at [] w next e = let z : _≡_ {A = ℕ} 0 1 = cc in absurd (omega arith)
 num-back (suc k) acc at (b ∷ bs) w next e =
     let r = num-back k (acc * 2 + val b) (at + 1) bs w next e in
     let h : (val b * 2 ^ k + r .n) / 2 ^ k ≡ val b = high (val b) k (r .small) in
     let l : (val b * 2 ^ k + r .n) % 2 ^ k ≡ r .n = low (val b) k (r .small) in
-    let low-bits : numBits k (r .n) ≡ numBits k (val b * 2 ^ k + r .n) = ap (λ (x : ℕ). numBits k x) (sym l) ∙ numBits-mod k k (val b * 2 ^ k + r .n) (omega arith) in
+    let low-bits : numBits k (r .n) ≡ numBits k (val b * 2 ^ k + r .n) =
+    ap (λ (x : ℕ). numBits k x) (sym l) ∙ numBits-mod k k (val b * 2 ^ k + r .n) (omega arith) in
     record {
       n = val b * 2 ^ k + r .n;
       rest = r .rest;
@@ -92,18 +102,25 @@ num-back (suc k) acc at (b ∷ bs) w next e =
     }
 
 -- a number read at a place
-num-flat : (k at : ℕ) (B : List Bool) (n next m : ℕ) (rest : List Bool) → m < 2 ^ k → n ≡ 0 * 2 ^ k + m → next ≡ at + k → drop at B ≡ numBits k m ++ rest → (n < 2 ^ k) × (next ≡ at + k) × (drop at B ≡ numBits k n ++ drop next B)
+num-flat :
+    (k at : ℕ) (B : List Bool) (n next m : ℕ) (rest : List Bool) → m < 2 ^ k → n ≡ 0 * 2 ^ k + m → next ≡ at + k → drop at B ≡ numBits k m ++ rest →
+    (n < 2 ^ k) × (next ≡ at + k) × (drop at B ≡ numBits k n ++ drop next B)
 num-flat k at B n next m rest h c p f =
     let v : n ≡ m = omega arith in
     let d : drop (at + k) B ≡ rest = rw length-numBits at (past at B (numBits k m) rest f) in
     (rw v h, p, rw (v, p, d) f)
 
-pub num-there : (k at : ℕ) (B : List Bool) (n next : ℕ) → numOf k 0 at (drop at B) ≡ Got n next → (n < 2 ^ k) × (next ≡ at + k) × (drop at B ≡ numBits k n ++ drop next B)
+pub num-there :
+    (k at : ℕ) (B : List Bool) (n next : ℕ) → numOf k 0 at (drop at B) ≡ Got n next →
+    (n < 2 ^ k) × (next ≡ at + k) × (drop at B ≡ numBits k n ++ drop next B)
 num-there k at B n next e =
     let r = num-back k 0 at (drop at B) n next e in
     num-flat k at B n next (r .n) (r .rest) (r .small) (r .count) (r .place) (r .front)
 
-gr-flat : (k at : ℕ) (B : List Bool) (g next v mid b m : ℕ) (rest : List Bool) → v ≡ 0 + m → mid ≡ at + m + 1 → drop at B ≡ replicate m true ++ (false ∷ rest) → b < 2 ^ k → next ≡ mid + k → drop mid B ≡ numBits k b ++ drop next B → v * 2 ^ k + b ≡ g → (next ≡ at + length (grBits k g)) × (drop at B ≡ grBits k g ++ drop next B)
+gr-flat :
+    (k at : ℕ) (B : List Bool) (g next v mid b m : ℕ) (rest : List Bool) → v ≡ 0 + m → mid ≡ at + m + 1 → drop at B ≡ replicate m true ++ (false ∷ rest) →
+    b < 2 ^ k → next ≡ mid + k → drop mid B ≡ numBits k b ++ drop next B → v * 2 ^ k + b ≡ g →
+    (next ≡ at + length (grBits k g)) × (drop at B ≡ grBits k g ++ drop next B)
 unfolding grBits
 gr-flat k at B g next v mid b m rest cv cp fr hb np nf eg =
     let q₀ : g / 2 ^ k ≡ v = rw (← eg) (high v k hb) in
@@ -115,7 +132,9 @@ gr-flat k at B g next v mid b m rest cv cp fr hb np nf eg =
     let d : rest ≡ numBits k b ++ drop next B = sym (past at B (replicate m true ++ (false ∷ [])) rest e₂) ∙ ap (λ (x : ℕ). drop x B) (sym s) ∙ nf in
     (omega (arith, length-grBits k g, q, np, cp), fr ∙ rw (q, low-bits, append-assoc) (ap (λ (y : List Bool). replicate m true ++ (false ∷ y)) d))
 
-gr-last : (k at : ℕ) (B : List Bool) (g next v mid b nx : ℕ) → onesOf 0 at (drop at B) ≡ Got v mid → numOf k 0 mid (drop mid B) ≡ Got b nx → v * 2 ^ k + b ≡ g → nx ≡ next → (next ≡ at + length (grBits k g)) × (drop at B ≡ grBits k g ++ drop next B)
+gr-last :
+    (k at : ℕ) (B : List Bool) (g next v mid b nx : ℕ) → onesOf 0 at (drop at B) ≡ Got v mid → numOf k 0 mid (drop mid B) ≡ Got b nx → v * 2 ^ k + b ≡ g →
+    nx ≡ next → (next ≡ at + length (grBits k g)) × (drop at B ≡ grBits k g ++ drop next B)
 gr-last k at B g next v mid b nx o f eg en =
     let r = ones-got 0 at (drop at B) v mid o in
     let t = num-there k mid B b next (f ∙ ap (λ (x : ℕ). Got b x) en) in
@@ -125,7 +144,9 @@ gr-last k at B g next v mid b nx o f eg en =
 pub gr-there : (k at : ℕ) (B : List Bool) (g next : ℕ) → grOf k at B ≡ Got g next → (next ≡ at + length (grBits k g)) × (drop at B ≡ grBits k g ++ drop next B)
 gr-there k at B g next e = first (onesOf 0 at (drop at B)) refl e
   where
-    last : (v mid : ℕ) → onesOf 0 at (drop at B) ≡ Got v mid → (b : Num) → numOf k 0 mid (drop mid B) ≡ b → thenLow k v b ≡ Got g next → (next ≡ at + length (grBits k g)) × (drop at B ≡ grBits k g ++ drop next B)
+    last :
+        (v mid : ℕ) → onesOf 0 at (drop at B) ≡ Got v mid → (b : Num) → numOf k 0 mid (drop mid B) ≡ b → thenLow k v b ≡ Got g next →
+        (next ≡ at + length (grBits k g)) × (drop at B ≡ grBits k g ++ drop next B)
     last v mid o Cut f e′ = let z : _≡_ {A = ℕ} 0 1 = cc in absurd (omega arith)
     last v mid o (Got b nx) f e′ = gr-last k at B g next v mid b nx o f (got-v e′) (got-at e′)
 
@@ -137,7 +158,8 @@ gr-there k at B g next e = first (onesOf 0 at (drop at B)) refl e
 pub gr-lt : (k at : ℕ) (s : List ℕ) (g next : ℕ) → k ≤ 10 → length s ≤ 65535 → grOf k at (bitsOf s) ≡ Got g next → g < 2 ^ 31
 gr-lt k at s g next hk hs e =
     let r = gr-there k at (bitsOf s) g next e in
-    let l : length (drop at (bitsOf s)) ≡ length (grBits k g) + length (drop next (bitsOf s)) = ap length (r .1) ∙ length-append (grBits k g) (drop next (bitsOf s)) in
+    let l : length (drop at (bitsOf s)) ≡ length (grBits k g) + length (drop next (bitsOf s)) =
+    ap length (r .1) ∙ length-append (grBits k g) (drop next (bitsOf s)) in
     let q : g / 2 ^ k < 524280 = omega (arith, l, length-grBits k g, length-drop at (bitsOf s), length-bitsOf s) in
     let p : 2 ^ k ≤ 1024 = pow-mono {j = 10} hk in
     let m : 524280 * 2 ^ k ≤ 524280 * 1024 = mul-le-mul-left 524280 p in

@@ -34,7 +34,9 @@ unfolding numBits
 no-bits = refl
 
 -- one bit more, which waits
-pub put-waits : (out : List ℕ) (at acc n b : ℕ) → b < 2 → n + 1 < 8 → acc < 2 ^ n → Put out (record { at = at; acc = acc; n = n }) out (record { at = at; acc = acc * 2 + b; n = n + 1 }) (odd b ∷ [])
+pub put-waits :
+    (out : List ℕ) (at acc n b : ℕ) → b < 2 → n + 1 < 8 → acc < 2 ^ n →
+    Put out (record { at = at; acc = acc; n = n }) out (record { at = at; acc = acc * 2 + b; n = n + 1 }) (odd b ∷ [])
 unfolding penBits
 put-waits out at acc n b hb hn ha = record {
   few = hn;
@@ -46,7 +48,9 @@ put-waits out at acc n b hb hn ha = record {
 }
 
 -- one bit more, which fills the byte
-pub put-fills : (out : List ℕ) (at acc n b : ℕ) → b < 2 → n ≡ 7 → acc < 2 ^ n → at < length out → Put out (record { at = at; acc = acc; n = n }) (set out at ((acc * 2 + b) % 256)) (record { at = at + 1; acc = 0; n = 0 }) (odd b ∷ [])
+pub put-fills :
+    (out : List ℕ) (at acc n b : ℕ) → b < 2 → n ≡ 7 → acc < 2 ^ n → at < length out →
+    Put out (record { at = at; acc = acc; n = n }) (set out at ((acc * 2 + b) % 256)) (record { at = at + 1; acc = 0; n = 0 }) (odd b ∷ [])
 unfolding penBits bitsOf
 put-fills out at acc n b hb hn ha hl =
     let x = (acc * 2 + b) % 256 in
@@ -55,7 +59,8 @@ put-fills out at acc n b hb hn ha hl =
     let t : take (at + 1) (set out at x) ≡ take at out ++ (x ∷ []) = rw (add-one at) (take-suc-set out at x hl) in
     let w : numBits 8 x ≡ numBits n acc ++ (odd b ∷ []) = rw (small, hn) (numBits-snoc 7 acc b hb) in
     let z : bitsOf (take at out ++ (x ∷ [])) ≡ (bitsOf (take at out) ++ numBits n acc) ++ (odd b ∷ []) =
-    bitsOf-append (take at out) (x ∷ []) ∙ ap (λ (l : List Bool). bitsOf (take at out) ++ l) (append-nil (numBits 8 x) ∙ w) ∙ sym (append-assoc (bitsOf (take at out)) (numBits n acc) (odd b ∷ [])) in
+    bitsOf-append (take at out) (x ∷ []) ∙ ap (λ (l : List Bool). bitsOf (take at out) ++ l) (append-nil (numBits 8 x) ∙ w)
+    ∙ sym (append-assoc (bitsOf (take at out)) (numBits n acc) (odd b ∷ [])) in
     record {
       few = omega arith;
       small = omega arith;
@@ -85,7 +90,9 @@ pub put-none : (a : List ℕ) (p : Pen) (size : ℕ) (k : ℕ) → Ready size p 
 put-none a p size k h = record { few = h .few; small = h .small; place = omega arith; long = refl; rest = refl; bits = sym (append-nil (penBits a p)) }
 
 -- room for what is still to come
-pub ready-after : (before after : List ℕ) (p q : Pen) (k m : ℕ) (bs : List Bool) → Ready (length before) p k → Put before p after q bs → length bs + m ≤ k → Ready (length after) q m
+pub ready-after :
+    (before after : List ℕ) (p q : Pen) (k m : ℕ) (bs : List Bool) → Ready (length before) p k → Put before p after q bs → length bs + m ≤ k →
+    Ready (length after) q m
 ready-after before after p q k m bs h w l = record { few = w .few; small = w .small; room = omega (arith, h .room, w .place, w .long) }
 
 -- ---- the last byte
@@ -100,7 +107,8 @@ numBits-shift (suc j) k a =
     let f : a * 2 ^ suc j ≡ a * 2 ^ j * 2 + 0 = rw (pow-suc 2 j, ← mul-assoc a (2 ^ j) 2) (omega arith) in
     let o : j + 1 ≡ suc j = omega arith in
     let g : replicate j false ++ (false ∷ []) ≡ replicate (suc j) false = replicate-append-replicate j 1 false ∙ ap (λ (m : ℕ). replicate m false) o in
-    ap₂ (λ (x y : ℕ). numBits x y) e f ∙ numBits-snoc (k + j) (a * 2 ^ j) 0 (omega arith) ∙ ap (λ (l : List Bool). l ++ (false ∷ [])) (numBits-shift j k a) ∙ append-assoc (numBits k a) (replicate j false) (false ∷ []) ∙ ap (λ (l : List Bool). numBits k a ++ l) g
+    ap₂ (λ (x y : ℕ). numBits x y) e f ∙ numBits-snoc (k + j) (a * 2 ^ j) 0 (omega arith) ∙ ap (λ (l : List Bool). l ++ (false ∷ [])) (numBits-shift j k a)
+    ∙ append-assoc (numBits k a) (replicate j false) (false ∷ []) ∙ ap (λ (l : List Bool). numBits k a ++ l) g
 
 none : (a : ℕ) → numBits 0 a ≡ []
 unfolding numBits
@@ -108,17 +116,38 @@ none a = refl
 
 pub close-even : (out : List ℕ) (p : Pen) → p .n ≡ 0 → Closed out p out (p .at)
 unfolding penBits
-close-even out p z = record { end = omega (arith, z); written = record { pad = 0; few = omega arith; bits = sym (append-nil _ ∙ ap (λ (l : List Bool). bitsOf (take (p .at) out) ++ l) (ap (λ (k : ℕ). numBits k (p .acc)) z ∙ none (p .acc)) ∙ append-nil (bitsOf (take (p .at) out))) }; long = refl; rest = refl }
+close-even out p z =
+    record {
+      end = omega (arith, z);
+      written = record {
+        pad = 0;
+        few = omega arith;
+        bits = sym (append-nil _ ∙ ap (λ (l : List Bool). bitsOf (take (p .at) out) ++ l)
+            (ap (λ (k : ℕ). numBits k (p .acc)) z ∙ none (p .acc)) ∙ append-nil (bitsOf (take (p .at) out)));
+      };
+      long = refl;
+      rest = refl;
+    }
 
-pub close-byte : (out : List ℕ) (p : Pen) (x : ℕ) → x ≡ p .acc * 2 ^ (8 - p .n) → p .n < 8 → (p .n ≡ 0 → ⊥) → p .at < length out → Closed out p (set out (p .at) x) (p .at + 1)
+pub close-byte :
+    (out : List ℕ) (p : Pen) (x : ℕ) → x ≡ p .acc * 2 ^ (8 - p .n) → p .n < 8 → (p .n ≡ 0 → ⊥) → p .at < length out →
+    Closed out p (set out (p .at) x) (p .at + 1)
 unfolding penBits bitsOf
 close-byte out p x ex h z l =
     let t : take (p .at + 1) (set out (p .at) x) ≡ take (p .at) out ++ (x ∷ []) = rw (add-one (p .at)) (take-suc-set out (p .at) x l) in
     let e : p .n + (8 - p .n) ≡ 8 = omega arith in
-    let w : numBits 8 x ≡ numBits (p .n) (p .acc) ++ replicate (8 - p .n) false = rw ex (ap (λ (m : ℕ). numBits m (p .acc * 2 ^ (8 - p .n))) (sym e) ∙ numBits-shift (8 - p .n) (p .n) (p .acc)) in
+    let w : numBits 8 x ≡ numBits (p .n) (p .acc) ++ replicate (8 - p .n) false =
+    rw ex (ap (λ (m : ℕ). numBits m (p .acc * 2 ^ (8 - p .n))) (sym e) ∙ numBits-shift (8 - p .n) (p .n) (p .acc)) in
     record {
       end = omega arith;
-      written = record { pad = 8 - p .n; few = omega arith; bits = ap bitsOf t ∙ bitsOf-append (take (p .at) out) (x ∷ []) ∙ ap (λ (y : List Bool). bitsOf (take (p .at) out) ++ y) (append-nil (numBits 8 x) ∙ w) ∙ sym (append-assoc (bitsOf (take (p .at) out)) (numBits (p .n) (p .acc)) (replicate (8 - p .n) false)) };
+      written =
+          record {
+            pad = 8 - p .n;
+            few = omega arith;
+            bits = ap bitsOf t ∙ bitsOf-append (take (p .at) out) (x ∷ []) ∙ ap
+                (λ (y : List Bool). bitsOf (take (p .at) out) ++ y) (append-nil (numBits 8 x) ∙ w) ∙ sym
+                (append-assoc (bitsOf (take (p .at) out)) (numBits (p .n) (p .acc)) (replicate (8 - p .n) false));
+          };
       long = length-set out (p .at) x;
       rest = drop-set-lt (p .at + 1) out (p .at) x (omega arith);
     }

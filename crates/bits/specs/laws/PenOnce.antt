@@ -45,8 +45,12 @@ same-bits : (n k x y : ℕ) (a b : List ℕ) → n ≤ length a → n ≤ length
     bitsOf (take n a) ++ numBits k x ≡ bitsOf (take n b) ++ numBits k y → (take n a ≡ take n b) × (x ≡ y)
 same-bits n k x y a b la lb ha hb hx hy e =
     let long : (s : List ℕ) → n ≤ length s → length (bitsOf (take n s)) ≡ 8 * n = λ s l. omega (arith, length-bitsOf (take n s), length-take n s, l) in
-    let t = sym (take-at (bitsOf (take n a)) (numBits k x) (8 * n) (long a la)) ∙ ap (take (8 * n)) e ∙ take-at (bitsOf (take n b)) (numBits k y) (8 * n) (long b lb) in
-    let d = sym (drop-at (bitsOf (take n a)) (numBits k x) (8 * n) (long a la)) ∙ ap (drop (8 * n)) e ∙ drop-at (bitsOf (take n b)) (numBits k y) (8 * n) (long b lb) in
+    let t =
+    sym (take-at (bitsOf (take n a)) (numBits k x) (8 * n) (long a la)) ∙ ap (take (8 * n)) e
+    ∙ take-at (bitsOf (take n b)) (numBits k y) (8 * n) (long b lb) in
+    let d =
+    sym (drop-at (bitsOf (take n a)) (numBits k x) (8 * n) (long a la)) ∙ ap (drop (8 * n)) e
+    ∙ drop-at (bitsOf (take n b)) (numBits k y) (8 * n) (long b lb) in
     (bitsOf-inj (take n a) (take n b) (bytes-take n a ha) (bytes-take n b hb) t, numBits-inj k x y hx hy d)
 
 pub put-once :

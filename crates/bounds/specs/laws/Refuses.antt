@@ -170,7 +170,8 @@ module _ {w h mode : ℕ} {v : List ℕ} {index : ℕ} {p : List ℕ} {list list
   unfolding setCount
   one-count ten = let s = ap length (sets-one (oneFor v) (is-same (record { v = v }))) in omega arith
 
-  pub writer-done : 0 ≡ argFault w h mode v (length p) (length list) (length scratch) → length v ≡ 10 → 72 + 194911 * tilesNo w h ≤ length out → writingNumber r ≡ 0
+  pub writer-done :
+      0 ≡ argFault w h mode v (length p) (length list) (length scratch) → length v ≡ 10 → 72 + 194911 * tilesNo w h ≤ length out → writingNumber r ≡ 0
   writer-done e ten l =
       let s = ap length (sets-one (oneFor v) (is-same (record { v = v }))) in
       let n = one-count ten in

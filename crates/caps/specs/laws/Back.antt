@@ -16,7 +16,8 @@ use Rattle.wire.specs.Mode.{isMode}
 use Rattle.wire.specs.laws.Mode.{mode-is}
 use Rattle.caps.specs.Walk.{Bytes, spelled, gives, _then_, Came, walk, Both}
 use Rattle.caps.specs.laws.Walk.{bytes-behind, field-back, field-in, row-back, row-same, fixed-in, behind, gives-back, gives-same, then-back, then-same}
-use Rattle.caps.specs.Caps.{entry, entryOf, Entries, noEntry, oneEntry, twoEntries, entries, entriesOf, capset, capsetOf, block, blockOf, capsWith, entriesIn, container, capsOf, GoodEntry, GoodEntries, none, one, two, GoodIn, GoodCaps}
+use Rattle.caps.specs.Caps.{entry, entryOf, Entries, noEntry, oneEntry, twoEntries, entries, entriesOf, capset, capsetOf, block, blockOf, capsWith}
+use Rattle.caps.specs.Caps.{entriesIn, container, capsOf, GoodEntry, GoodEntries, none, one, two, GoodIn, GoodCaps}
 use Rattle.caps.specs.AckCap.{ackCap, ackCapOf, GoodAckCap}
 use Rattle.caps.specs.Ack.{ack, ackOf, GoodAck}
 use Rattle.caps.specs.declared.walk.Width.the-variants.{One, Two, Four}
@@ -129,7 +130,9 @@ capset-back capsLength s rest g =
     ∙ row-back (eqb (13 + 8 * s .n) (13 + 8 * s .n)) 4 _ _ (eq-eqb (13 + 8 * s .n) (13 + 8 * s .n) refl)
     ∙ entries-back s rest (g .0)
 
-capset-same : (capsLength : ℕ) (m : List ℕ) (s : Entries) (rest : List ℕ) → Bytes m → walk (capset capsLength) m ≡ Came s rest → GoodIn capsLength s × (m ≡ capsetOf s ++ rest)
+capset-same :
+    (capsLength : ℕ) (m : List ℕ) (s : Entries) (rest : List ℕ) → Bytes m → walk (capset capsLength) m ≡ Came s rest →
+    GoodIn capsLength s × (m ≡ capsetOf s ++ rest)
 unfolding capset capsetOf spelled bytes16 bytes32
 capset-same capsLength m s rest b w =
     fixed-in Two 0xCBC1 5 _ m s rest b w λ m₁ blockType b₁ w₁.
@@ -166,7 +169,9 @@ block-back capsLength s rest g =
     ∙ field-back Two _ 1 _ (omega arith)
     ∙ capset-back capsLength s rest g
 
-block-same : (capsLength : ℕ) (m : List ℕ) (s : Entries) (rest : List ℕ) → Bytes m → walk (block capsLength) m ≡ Came s rest → GoodIn capsLength s × (m ≡ blockOf s ++ rest)
+block-same :
+    (capsLength : ℕ) (m : List ℕ) (s : Entries) (rest : List ℕ) → Bytes m → walk (block capsLength) m ≡ Came s rest →
+    GoodIn capsLength s × (m ≡ blockOf s ++ rest)
 unfolding block blockOf spelled bytes16 bytes32
 block-same capsLength m s rest b w =
     fixed-in Two 0xCBC0 5 _ m s rest b w λ m₁ blockType b₁ w₁.

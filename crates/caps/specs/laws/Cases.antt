@@ -29,7 +29,9 @@ pub sample-good : GoodCaps sample
 unfolding isMode _⇒_∣_
 sample-good = record {
   flags = omega arith;
-  entries = two (record { flags = 0; mode = 1 }) (record { flags = 0; mode = 4 }) (record { flags = omega arith; mode = refl }) (record { flags = omega arith; mode = refl });
+  entries =
+      two (record { flags = 0; mode = 1 }) (record { flags = 0; mode = 4 }) (record { flags = omega arith; mode = refl })
+      (record { flags = omega arith; mode = refl });
 }
 
 pub sample-read : readCaps (capsOf sample) ≡ Taken sample

@@ -16,7 +16,8 @@ use Rattle.wire.specs.laws.Wrote.{answerOf, wrote-bytes, wrote-answer, wrote-on
 use Rattle.wire.specs.declared.Writing.{Writing}
 use Rattle.wire.specs.declared.Writing.the-variants.{Done}
 use Rattle.caps.specs.Walk.{Bytes, Layout, walk, ended, Both}
-use Rattle.caps.specs.Caps.{entriesOver, entriesOf, entriesIn, capsetOf, blockOf, capsWith, container, readCaps, capsOf, modesGood, capsFault, GoodEntries, none, one, two, GoodCaps}
+use Rattle.caps.specs.Caps.{entriesOver, entriesOf, entriesIn, capsetOf, blockOf, capsWith, container, readCaps, capsOf, modesGood, capsFault}
+use Rattle.caps.specs.Caps.{GoodEntries, none, one, two, GoodCaps}
 use Rattle.caps.specs.AckCap.{ackCap, readAckCap, ackCapOf, ackCapFault, GoodAckCap}
 use Rattle.caps.specs.Ack.{ack, readAck, ackOf, ackFault, GoodAck}
 use Rattle.caps.specs.Calls.{sentBy, ReadCaps, WriteCaps, there, fieldsOf, ReadAckCap, WriteAckCap, ReadAck, AckFit, WriteAck}
@@ -104,7 +105,8 @@ good-there (suc (suc zero)) e f h g p q =
 good-there (suc (suc (suc n))) e f h g p q = absurd (omega arith)
 
 -- what the writer wrote is read back by the reader
-pub caps-written : (w : WriteCaps) (r : ReadCaps) → writingNumber (w .answer) ≡ 0 → r .message ≡ sentBy (w .answer) (w .out′) → r .answer ≡ Taken (fieldsOf (w .caps))
+pub caps-written :
+    (w : WriteCaps) (r : ReadCaps) → writingNumber (w .answer) ≡ 0 → r .message ≡ sentBy (w .answer) (w .out′) → r .answer ≡ Taken (fieldsOf (w .caps))
 caps-written w r e is =
     let c = w .caps in
     let s = sent _ (capsOf c) (w .out) (w .out′) (r .message) (w .answer) (w .promise) e is in
@@ -136,12 +138,14 @@ ack-cap-fine : (room : ℕ) → 8 ≤ room → 0 ≡ ackCapFault room
 unfolding ackCapFault
 ack-cap-fine room h = passes _ _ _ _ (le-leb 8 room h) refl
 
-pub ack-cap-written : (w : WriteAckCap) (r : ReadAckCap) → writingNumber (w .answer) ≡ 0 → r .message ≡ sentBy (w .answer) (w .out′) → r .answer ≡ TakenCap (w .count)
+pub ack-cap-written :
+    (w : WriteAckCap) (r : ReadAckCap) → writingNumber (w .answer) ≡ 0 → r .message ≡ sentBy (w .answer) (w .out′) → r .answer ≡ TakenCap (w .count)
 ack-cap-written w r e is =
     let s = sent _ (ackCapOf (w .count)) (w .out) (w .out′) (r .message) (w .answer) (w .promise) e is in
     r .promise ∙ (ap readAckCap (s .1) ∙ ack-cap-back (w .count) (w .fit))
 
-pub ack-cap-again : (r : ReadAckCap) (w : WriteAckCap) → r .answer ≡ TakenCap (w .count) → length (r .message) ≤ length (w .out) → Again (r .message) (w .out′) (w .answer)
+pub ack-cap-again :
+    (r : ReadAckCap) (w : WriteAckCap) → r .answer ≡ TakenCap (w .count) → length (r .message) ≤ length (w .out) → Again (r .message) (w .out′) (w .answer)
 ack-cap-again r w e room =
     let s = ack-cap-same (r .message) (w .count) (r .bytes) (sym (r .promise) ∙ e) in
     let l = ack-cap-some (w .count) in

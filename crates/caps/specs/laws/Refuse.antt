@@ -200,7 +200,8 @@ pub record Apart {A R : Type 0} (taken : A → R) (refused : ℕ → R) : Type 0
   pub apart : (n : ℕ) (a : A) → refused n ≡ taken a → ⊥
 
 module _
-    {A R : Type 0} (taken : A → R) (refused : ℕ → R) (l : Layout A) {Good : A → Type 0} {bytes : A → List ℕ} (both : Both l Good bytes) (k : Apart taken refused)
+    {A R : Type 0} (taken : A → R) (refused : ℕ → R) (l : Layout A) {Good : A → Type 0} {bytes : A → List ℕ} (both : Both l Good bytes)
+    (k : Apart taken refused)
   where
     came : (m : List ℕ) (a : A) → ended taken refused (walk l m) ≡ taken a → walk l m ≡ Came a []
     came m a e = ends taken refused l both a (λ x. k .same-fields x a) (λ n. k .apart n a) m e
@@ -210,7 +211,8 @@ module _
     read-cut m a n e h = ap (ended taken refused) (walk-cut l m a n (came m a e) h)
 
     pub read-longer :
-        (m : List ℕ) (a : A) (b : ℕ) (more : List ℕ) → Bytes m → ended taken refused (walk l m) ≡ taken a → ended taken refused (walk l (m ++ b ∷ more)) ≡ refused 4
+        (m : List ℕ) (a : A) (b : ℕ) (more : List ℕ) → Bytes m → ended taken refused (walk l m) ≡ taken a →
+        ended taken refused (walk l (m ++ b ∷ more)) ≡ refused 4
     unfolding ended
     read-longer m a b more h e =
         let s = read-same taken refused l both a (λ x. k .same-fields x a) (λ n. k .apart n a) m h e in

@@ -22,7 +22,8 @@ use Rattle.caps.specs.Request.{readNumber, RequestTwelve}
 use Rattle.caps.specs.laws.Walk.{onward, walk-then, field-back, row-back}
 use Rattle.caps.specs.laws.Back.{entry-both, capset-both, block-both, container-both, ack-cap-both, ack-both}
 use Rattle.caps.specs.laws.Refuse.{Apart, container-refusing, ack-cap-refusing, ack-refusing, read-cut, read-longer, read-says}
-use Rattle.caps.specs.laws.ReadBack.{caps-some, caps-written, caps-again, caps-once, ack-cap-written, ack-cap-again, ack-cap-once, ack-written, ack-again, ack-once}
+use Rattle.caps.specs.laws.ReadBack.{caps-some, caps-written, caps-again, caps-once, ack-cap-written, ack-cap-again, ack-cap-once, ack-written}
+use Rattle.caps.specs.laws.ReadBack.{ack-again, ack-once}
 use Rattle.caps.specs.declared.Caps.{Caps}
 use Rattle.caps.specs.declared.Ack.{Ack}
 use Rattle.caps.specs.declared.walk.Width.the-variants.{One, Two, Four}
@@ -49,7 +50,8 @@ row-stops {A = A} t n l m h = ap (λ (k : Layout A). walk k m) (sym (fails _ _ _
 
 block-many :
     (size n : ℕ) (more : List ℕ) → 20 + size < 4294967296 → n < 65536 → 2 < n →
-    walk (block (8 + size)) (bytes16 0xCBC0 ++ (bytes32 8 ++ (bytes16 1 ++ (bytes16 0xCBC1 ++ (bytes32 size ++ (1 ∷ (bytes16 0xCFC0 ++ (bytes16 n ++ more))))))))
+    walk (block (8 + size))
+    (bytes16 0xCBC0 ++ (bytes32 8 ++ (bytes16 1 ++ (bytes16 0xCBC1 ++ (bytes32 size ++ (1 ∷ (bytes16 0xCFC0 ++ (bytes16 n ++ more))))))))
     ≡ Stopped 6
 unfolding block capset spelled bytes16 bytes32 _!_⨾_
 block-many size n more s h t =

@@ -102,7 +102,8 @@ next-on w next m s r e = go (eqb (s .fault) 0) refl
         let q : r ≡ stands 0 (s .at + size w) (numberAt w m (s .at)) = e ∙ sym (passes _ _ _ _ f (passes _ _ _ _ t refl)) in
         left-on (field w next) m s f
         ∙ (sym (passes _ _ _ _ (there-left w m (s .at) ∙ t) refl)
-        ∙ (rw (number-at w m (s .at), drop-drop (size w) (s .at) m, q) (sym (left-on (next (numberAt w m (s .at))) m (stands 0 (s .at + size w) (numberAt w m (s .at))) refl))))
+        ∙ (rw (number-at w m (s .at), drop-drop (size w) (s .at) m, q) (sym (left-on (next (numberAt w m (s .at))) m
+        (stands 0 (s .at + size w) (numberAt w m (s .at))) refl))))
     more false f t =
         let q : r ≡ stands 1 (s .at) 0 = e ∙ sym (passes _ _ _ _ f (fails _ _ _ _ t refl)) in
         left-on (field w next) m s f ∙ (sym (fails _ _ _ _ (there-left w m (s .at) ∙ t) refl) ∙ rw q (sym (left-stopped (next 0) m (stands 1 (s .at) 0) refl)))
@@ -128,7 +129,9 @@ judge-on t n l m s r h e = go (eqb (s .fault) 0) refl t e
         left-stopped (t ! refuse n ⨾ l) m s f ∙ rw q (sym (left-stopped l m s f))
 
 -- a field with a fixed value
-pub fixed-on : {A : Type 0} (w : Width) (v n : ℕ) (l : Layout A) (m : List ℕ) (s r : Step) → 0 < n → r ≡ fixedOf w v n m s → left (field w λ x. eqb x v ! refuse n ⨾ l) m s ≡ left l m r
+pub fixed-on :
+    {A : Type 0} (w : Width) (v n : ℕ) (l : Layout A) (m : List ℕ) (s r : Step) → 0 < n → r ≡ fixedOf w v n m s →
+    left (field w λ x. eqb x v ! refuse n ⨾ l) m s ≡ left l m r
 unfolding fixedOf
 fixed-on w v n l m s r h e = next-on w (λ x. eqb x v ! refuse n ⨾ l) m s (nextOf w m s) refl ∙ judge-on (eqb (nextOf w m s .value) v) n l m (nextOf w m s) r h e
 
@@ -140,7 +143,9 @@ behind l next m s = go (eqb (s .fault) 0) refl
     go true f = left-on (l then next) m s f ∙ (walk-then l next (drop (s .at) m) ∙ sym (ap (onward next) (left-on l m s f)))
     go false f = left-stopped (l then next) m s f ∙ sym (ap (onward next) (left-stopped l m s f))
 
-pub then-on : {A B : Type 0} (l : Layout A) (next : A → Layout B) (a : A) (m : List ℕ) (s r : Step) → left l m s ≡ left (gives a) m r → left (l then next) m s ≡ left (next a) m r
+pub then-on :
+    {A B : Type 0} (l : Layout A) (next : A → Layout B) (a : A) (m : List ℕ) (s r : Step) → left l m s ≡ left (gives a) m r →
+    left (l then next) m s ≡ left (next a) m r
 unfolding _then_
 then-on l next a m s r e = behind l next m s ∙ (ap (onward next) e ∙ sym (behind (gives a) next m r))
 
@@ -160,11 +165,13 @@ module _ {A R : Type 0} (taken : A → R) (refused : ℕ → R) (l : Layout A) (
       more true f t =
           let o : 0 ≡ finishOf m s = passes _ _ _ _ (eq-eqb (s .fault) 0 f) (passes _ _ _ _ t refl) in
           let z : length (drop (s .at) m) ≡ 0 = rw length-drop (omega (arith, leb-true (length m) (s .at) t)) in
-          ap (ended taken refused) (left-on (gives a) m s (eq-eqb (s .fault) 0 f)) ∙ (sym (passes _ _ _ _ (eq-eqb (length (drop (s .at) m)) 0 z) refl) ∙ ap (answer taken refused a) o)
+          ap (ended taken refused) (left-on (gives a) m s (eq-eqb (s .fault) 0 f))
+          ∙ (sym (passes _ _ _ _ (eq-eqb (length (drop (s .at) m)) 0 z) refl) ∙ ap (answer taken refused a) o)
       more false f t =
           let o : 4 ≡ finishOf m s = passes _ _ _ _ (eq-eqb (s .fault) 0 f) (fails _ _ _ _ t refl) in
           let z : length (drop (s .at) m) ≡ 0 → ⊥ = rw length-drop (λ q. omega (arith, leb-false (length m) (s .at) t)) in
-          ap (ended taken refused) (left-on (gives a) m s (eq-eqb (s .fault) 0 f)) ∙ (sym (fails _ _ _ _ (ne-eqb (length (drop (s .at) m)) 0 z) refl) ∙ ap (answer taken refused a) o)
+          ap (ended taken refused) (left-on (gives a) m s (eq-eqb (s .fault) 0 f))
+          ∙ (sym (fails _ _ _ _ (ne-eqb (length (drop (s .at) m)) 0 z) refl) ∙ ap (answer taken refused a) o)
 
       go : (f : ℕ) → s .fault ≡ f → ended taken refused (left (gives a) m s) ≡ answer taken refused a (finishOf m s)
       go zero f = more (leb (length m) (s .at)) f refl

@@ -28,7 +28,8 @@ bytes-behind xs mid m b e i = subst (λ (n : ℕ). n < 256) (ap (λ (l : List �
 
 -- ---- one field: written, it is read back
 
-pub field-back : {A : Type 0} (w : Width) (next : ℕ → Layout A) (v : ℕ) (rest : List ℕ) → v < most w → walk (field w next) (spelled w v ++ rest) ≡ walk (next v) rest
+pub field-back :
+    {A : Type 0} (w : Width) (next : ℕ → Layout A) (v : ℕ) (rest : List ℕ) → v < most w → walk (field w next) (spelled w v ++ rest) ≡ walk (next v) rest
 unfolding walk size most number spelled le16 le32 bytes16 bytes32 _!_⨾_
 field-back One next v rest h = rw (le-leb 1 (suc (length rest)) (omega arith))
 field-back Two next v rest h = rw (le-leb 2 (suc (suc (length rest))) (omega arith), two-bytes v h)
@@ -67,7 +68,9 @@ field-in w next m a rest b e more =
 pub row-back : {A : Type 0} (t : Bool) (n : ℕ) (l : Layout A) (m : List ℕ) → t ≡ true → walk (t ! refuse n ⨾ l) m ≡ walk l m
 row-back {A = A} t n l m h = ap (λ (k : Layout A). walk k m) (sym (passes _ _ _ _ h refl))
 
-pub row-same : {A : Type 0} (t : Bool) (n : ℕ) (l : Layout A) (m : List ℕ) (a : A) (rest : List ℕ) → walk (t ! refuse n ⨾ l) m ≡ Came a rest → (t ≡ true) × (walk l m ≡ Came a rest)
+pub row-same :
+    {A : Type 0} (t : Bool) (n : ℕ) (l : Layout A) (m : List ℕ) (a : A) (rest : List ℕ) → walk (t ! refuse n ⨾ l) m ≡ Came a rest →
+    (t ≡ true) × (walk l m ≡ Came a rest)
 unfolding walk _!_⨾_
 row-same true n l m a rest e = (refl, e)
 row-same false n l m a rest e = absurd (no-stop a rest n (sym e))
@@ -109,7 +112,9 @@ walk-then {A = A} {B = B} (field w more) next m = go (leb (size w) (length m)) _
     go true x y e = e
     go false x y e = refl
 
-pub then-back : {A B : Type 0} (l : Layout A) (next : A → Layout B) (m : List ℕ) (a : A) (mid : List ℕ) → walk l m ≡ Came a mid → walk (l then next) m ≡ walk (next a) mid
+pub then-back :
+    {A B : Type 0} (l : Layout A) (next : A → Layout B) (m : List ℕ) (a : A) (mid : List ℕ) → walk l m ≡ Came a mid →
+    walk (l then next) m ≡ walk (next a) mid
 then-back l next m a mid e = walk-then l next m ∙ ap (onward next) e
 
 pub record Then {A B : Type 0} (l : Layout A) (next : A → Layout B) (m : List ℕ) (b : B) (rest : List ℕ) : Type 0 where
@@ -118,7 +123,8 @@ pub record Then {A B : Type 0} (l : Layout A) (next : A → Layout B) (m : List 
   pub front : walk l m ≡ Came given mid
   pub on : walk (next given) mid ≡ Came b rest
 
-pub then-same : {A B : Type 0} (l : Layout A) (next : A → Layout B) (m : List ℕ) (b : B) (rest : List ℕ) → walk (l then next) m ≡ Came b rest → Then l next m b rest
+pub then-same :
+    {A B : Type 0} (l : Layout A) (next : A → Layout B) (m : List ℕ) (b : B) (rest : List ℕ) → walk (l then next) m ≡ Came b rest → Then l next m b rest
 then-same {A = A} {B = B} l next m b rest e = go (walk l m) refl (sym (walk-then l next m) ∙ e)
   where
     go : (x : Walked A) → walk l m ≡ x → onward next x ≡ Came b rest → Then l next m b rest

@@ -11,7 +11,8 @@ use Rattle.whole.specs.Row.{_⇒_∣_}
 use Rattle.whole.specs.laws.Row.{held, passes, case-yes, case-no}
 use Rattle.wire.specs.Le.{bytes16, bytes32, patch}
 use Rattle.wire.specs.laws.Le.{patch-none, patch-next}
-use Rattle.caps.specs.Caps.{entryOf, Entries, entriesOver, entriesIn, entriesOf, capsetOf, blockOf, capsOf, modesGood, capsFault, GoodEntries, none, one, two}
+use Rattle.caps.specs.Caps.{entryOf, Entries, entriesOver, entriesIn, entriesOf, capsetOf, blockOf, capsOf, modesGood, capsFault, GoodEntries, none}
+use Rattle.caps.specs.Caps.{one, two}
 use Rattle.caps.specs.Ack.{ackFault}
 use Rattle.caps.specs.declared.Entry.{Entry}
 use Rattle.caps.specs.declared.Caps.{Caps}

@@ -110,10 +110,15 @@ module _ (mode : ℕ) (m : isMode mode ≡ true) (z : code mode (first (pos 0)) 
 
   tail : readFault mode 4096 (0x00 ∷ 0x00 ∷ 0x00 ∷ 0x00 ∷ []) ≡ 11
   unfolding clean _!_⨾_
-  tail = ap (λ (n : ℕ). readFault mode n (0x00 ∷ 0x00 ∷ 0x00 ∷ 0x00 ∷ [])) (sym full) ∙ behind-number mode (0x00 ∷ 0x00 ∷ 0x00 ∷ 0x00 ∷ []) (first (pos 0)) (first (pos 0)) call (listed (pos 0) (omega arith)) (replicate 11 false) four
+  tail =
+      ap (λ (n : ℕ). readFault mode n (0x00 ∷ 0x00 ∷ 0x00 ∷ 0x00 ∷ [])) (sym full)
+      ∙ behind-number mode (0x00 ∷ 0x00 ∷ 0x00 ∷ 0x00 ∷ []) (first (pos 0)) (first (pos 0)) call (listed (pos 0) (omega arith)) (replicate 11 false) four
 
   tail-bits : readBits mode 4096 (0x00 ∷ 0x00 ∷ 0x00 ∷ 0x00 ∷ []) ≡ 21
-  tail-bits = ap (λ (n : ℕ). readBits mode n (0x00 ∷ 0x00 ∷ 0x00 ∷ 0x00 ∷ [])) (sym full) ∙ behind-bits mode (0x00 ∷ 0x00 ∷ 0x00 ∷ 0x00 ∷ []) (first (pos 0)) (first (pos 0)) call (listed (pos 0) (omega arith)) (replicate 11 false) four ∙ long
+  tail-bits =
+      ap (λ (n : ℕ). readBits mode n (0x00 ∷ 0x00 ∷ 0x00 ∷ 0x00 ∷ [])) (sym full)
+      ∙ behind-bits mode (0x00 ∷ 0x00 ∷ 0x00 ∷ 0x00 ∷ []) (first (pos 0)) (first (pos 0)) call (listed (pos 0) (omega arith)) (replicate 11 false) four
+      ∙ long
 
 folds : (unfoldZ 0 ≡ pos 0) × (unfoldZ 1 ≡ negsuc 0) × (unfoldZ 2 ≡ pos 1) × (unfoldZ 3 ≡ negsuc 1)
 unfolding unfoldZ unfoldBy
@@ -121,7 +126,8 @@ folds = (refl, refl, refl, refl)
 
 pub cases : Cases
 cases = record {
-  zeros = (coded 1 _ (pos 0) is-1 (omega arith) (omega arith) (three 1 is-1 zeros-1), coded 4 _ (pos 0) is-4 (omega arith) (omega arith) (three 4 is-4 zeros-4));
+  zeros =
+      (coded 1 _ (pos 0) is-1 (omega arith) (omega arith) (three 1 is-1 zeros-1), coded 4 _ (pos 0) is-4 (omega arith) (omega arith) (three 4 is-4 zeros-4));
   zeros-bits = (long 1 is-1 zeros-1, long 4 is-4 zeros-4);
   two-cut = (cut-1, cut-4);
   four-tail = (tail 1 is-1 zeros-1, tail 4 is-4 zeros-4);

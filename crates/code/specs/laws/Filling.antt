@@ -56,7 +56,9 @@ pub record Grew (n : ℕ) (out : List ℤ) (i : ℕ) (new : List ℤ) (j : ℕ) 
 grew-zeros : (n : ℕ) (out : List ℤ) (i m : ℕ) → Clear n out i → i + m ≤ n → Grew n out i out (i + m) (replicate m 0)
 grew-zeros n out i m c h =
     let z : drop i out ≡ replicate (n - i) (pos 0) = c .zeros in
-    let t : take (i + m) out ≡ take i out ++ replicate m (pos 0) = take-add i m out ∙ ap (λ (l : List ℤ). take i out ++ take m l) z ∙ ap (λ (l : List ℤ). take i out ++ l) (take-rep m (n - i) (pos 0) (omega arith)) in
+    let t : take (i + m) out ≡ take i out ++ replicate m (pos 0) =
+    take-add i m out ∙ ap (λ (l : List ℤ). take i out ++ take m l) z
+    ∙ ap (λ (l : List ℤ). take i out ++ l) (take-rep m (n - i) (pos 0) (omega arith)) in
     let k : n - i - m ≡ n - (i + m) = omega arith in
     record {
       clear = record {
@@ -81,7 +83,8 @@ grew-value n out i v c h =
       vals = ap (λ (l : List ℤ). map foldZ l) t ∙ map-append (take i out) (unfoldZ v ∷ []) ∙ ap (λ (x : ℕ). map foldZ (take i out) ++ (x ∷ [])) (fold-unfold v);
     }
 
-grew-more : (n : ℕ) (a : List ℤ) (i : ℕ) (b : List ℤ) (j : ℕ) (c : List ℤ) (k : ℕ) (f g : List ℕ) → Grew n a i b j f → Grew n b j c k g → Grew n a i c k (f ++ g)
+grew-more :
+    (n : ℕ) (a : List ℤ) (i : ℕ) (b : List ℤ) (j : ℕ) (c : List ℤ) (k : ℕ) (f g : List ℕ) → Grew n a i b j f → Grew n b j c k g → Grew n a i c k (f ++ g)
 grew-more n a i b j c k f g p q = record {
   clear = q .clear;
   next = omega (arith, p .next, q .next, length-append f g);
@@ -100,19 +103,25 @@ placed-one n out i z v c h =
     let g = grew-zeros n out i z c (omega arith) in
     grew-more n out i out (i + z) (set out (i + z) (unfoldZ v)) (i + z + 1) (replicate z 0) (v ∷ []) g (grew-value n out (i + z) v (g .clear) h)
 
-placed-two : (n : ℕ) (out : List ℤ) (i a b : ℕ) → Clear n out i → i < n → Grew n out i (ltb (i + 1) n ⇒ set (set out i (unfoldZ a)) (i + 1) (unfoldZ b) ∣ set out i (unfoldZ a)) (min n (i + 2)) (take (n - i) (a ∷ b ∷ []))
+placed-two :
+    (n : ℕ) (out : List ℤ) (i a b : ℕ) → Clear n out i → i < n →
+    Grew n out i (ltb (i + 1) n ⇒ set (set out i (unfoldZ a)) (i + 1) (unfoldZ b) ∣ set out i (unfoldZ a)) (min n (i + 2)) (take (n - i) (a ∷ b ∷ []))
 unfolding _⇒_∣_
 placed-two n out i a b c h = go (ltb (i + 1) n) refl
   where
     g : Grew n out i (set out i (unfoldZ a)) (i + 1) (a ∷ [])
     g = grew-value n out i a c h
 
-    go : (t : Bool) → ltb (i + 1) n ≡ t → Grew n out i (t ⇒ set (set out i (unfoldZ a)) (i + 1) (unfoldZ b) ∣ set out i (unfoldZ a)) (min n (i + 2)) (take (n - i) (a ∷ b ∷ []))
+    go :
+        (t : Bool) → ltb (i + 1) n ≡ t →
+        Grew n out i (t ⇒ set (set out i (unfoldZ a)) (i + 1) (unfoldZ b) ∣ set out i (unfoldZ a)) (min n (i + 2)) (take (n - i) (a ∷ b ∷ []))
     go true e =
         let l : i + 1 < n = ltb-true (i + 1) n e in
         let j : i + 1 + 1 ≡ min n (i + 2) = omega arith in
         let t : take (n - i) (a ∷ b ∷ []) ≡ a ∷ b ∷ [] = take-all (n - i) (a ∷ b ∷ []) (omega arith) in
-        rw (t, ← j) (grew-more n out i (set out i (unfoldZ a)) (i + 1) (set (set out i (unfoldZ a)) (i + 1) (unfoldZ b)) (i + 1 + 1) (a ∷ []) (b ∷ []) g (grew-value n (set out i (unfoldZ a)) (i + 1) b (g .clear) l))
+        rw (t, ← j)
+        (grew-more n out i (set out i (unfoldZ a)) (i + 1) (set (set out i (unfoldZ a)) (i + 1) (unfoldZ b)) (i + 1 + 1) (a ∷ []) (b ∷ []) g
+        (grew-value n (set out i (unfoldZ a)) (i + 1) b (g .clear) l))
     go false e =
         let l : n ≤ i + 1 = ltb-false (i + 1) n e in
         let k : n - i ≡ 1 = omega arith in
@@ -172,25 +181,39 @@ module _ (rlgr3 : Bool) (n : ℕ) (B : List Bool) where
   walk-none (suc f) kp krp at done = refl
 
   -- one turn of the walk, in the loop's form
-  walk-turn : (f : ℕ) (kp krp at left : ℕ) (done : List ℕ) → 0 < left → left ≤ f → (g : ℕ) × (f ≡ suc g) × (walk f rlgr3 kp krp at left done B ≡ step (elemOf rlgr3 kp krp left at B) left done (λ s l d. walk g rlgr3 (s .kp) (s .krp) (s .at) l d B))
+  walk-turn :
+      (f : ℕ) (kp krp at left : ℕ) (done : List ℕ) → 0 < left → left ≤ f →
+      (g : ℕ) × (f ≡ suc g)
+      × (walk f rlgr3 kp krp at left done B ≡ step (elemOf rlgr3 kp krp left at B) left done (λ s l d. walk g rlgr3 (s .kp) (s .krp) (s .at) l d B))
   unfolding walk
   walk-turn zero kp krp at left done p h = absurd (omega arith)
   walk-turn (suc g) kp krp at zero done p h = absurd (omega arith)
   walk-turn (suc g) kp krp at (suc left) done p h = (g, refl, refl)
 
   module _ (out : List ℤ) (c : State) (i : ℕ) (w : Filling rlgr3 n B out c i) (h : i < n) where
-    advance : (new : List ℤ) (s : State) (j g : ℕ) (front : List ℕ) → w .f ≡ suc g → Took rlgr3 (c .kp) (c .krp) (n - i) (c .at) B front s → Grew n out i new j front → walk g rlgr3 (s .kp) (s .krp) (s .at) (n - j) (map foldZ (take i out) ++ front) B ≡ readList rlgr3 n B → Filling rlgr3 n B new s j × (i < j)
+    advance :
+        (new : List ℤ) (s : State) (j g : ℕ) (front : List ℕ) → w .f ≡ suc g → Took rlgr3 (c .kp) (c .krp) (n - i) (c .at) B front s →
+        Grew n out i new j front → walk g rlgr3 (s .kp) (s .krp) (s .at) (n - j) (map foldZ (take i out) ++ front) B ≡ readList rlgr3 n B →
+        Filling rlgr3 n B new s j × (i < j)
     advance new s j g front ef t r e = (
-      record { f = g; clear = r .clear; fuel = omega (arith, w .fuel, r .next, t .some, ef); kps = t .kps (w .kps); krs = t .krs (w .krs); same = rw (r .vals) e },
+      record
+          { f = g; clear = r .clear; fuel = omega (arith, w .fuel, r .next, t .some, ef); kps = t .kps (w .kps); krs = t .krs (w .krs); same = rw (r .vals) e },
       omega (arith, r .next, t .some),
     )
 
-    pub filling-next : (e : Element) → e ≡ elemOf rlgr3 (c .kp) (c .krp) (n - i) (c .at) B → (j : ℕ) (s : State) → At j s ≡ placedOf n i e → Filling rlgr3 n B (storedOf out i e) s j × (i < j)
+    pub filling-next :
+        (e : Element) → e ≡ elemOf rlgr3 (c .kp) (c .krp) (n - i) (c .at) B → (j : ℕ) (s : State) → At j s ≡ placedOf n i e →
+        Filling rlgr3 n B (storedOf out i e) s j × (i < j)
     filling-next e q j s p =
         let t = walk-turn (w .f) (c .kp) (c .krp) (c .at) (n - i) (map foldZ (take i out)) (omega arith) (w .fuel) in
-        go e (rw q (elem-told rlgr3 (c .kp) (c .krp) (n - i) (c .at) B (omega arith))) p (t .0) (t .1) (ap (λ (x : Element). step x (n - i) (map foldZ (take i out)) (λ s l d. walk (t .0) rlgr3 (s .kp) (s .krp) (s .at) l d B)) q ∙ sym (t .2) ∙ w .same)
+        go e (rw q (elem-told rlgr3 (c .kp) (c .krp) (n - i) (c .at) B (omega arith))) p (t .0) (t .1)
+        (ap (λ (x : Element). step x (n - i) (map foldZ (take i out)) (λ s l d. walk (t .0) rlgr3 (s .kp) (s .krp) (s .at) l d B)) q ∙ sym (t .2)
+        ∙ w .same)
       where
-        go : (e : Element) → Told rlgr3 (c .kp) (c .krp) (n - i) (c .at) B e → At j s ≡ placedOf n i e → (g : ℕ) → w .f ≡ suc g → step e (n - i) (map foldZ (take i out)) (λ s l d. walk g rlgr3 (s .kp) (s .krp) (s .at) l d B) ≡ readList rlgr3 n B → Filling rlgr3 n B (storedOf out i e) s j × (i < j)
+        go :
+            (e : Element) → Told rlgr3 (c .kp) (c .krp) (n - i) (c .at) B e → At j s ≡ placedOf n i e → (g : ℕ) → w .f ≡ suc g →
+            step e (n - i) (map foldZ (take i out)) (λ s l d. walk g rlgr3 (s .kp) (s .krp) (s .at) l d B) ≡ readList rlgr3 n B →
+            Filling rlgr3 n B (storedOf out i e) s j × (i < j)
         go (Refused r) t p g ef k = let z : _≡_ {A = ℕ} 0 1 = cc in absurd (omega arith)
         go (Zeros z s′) t p g ef k =
             let l : n - i - z ≡ n - min n (i + z) = omega arith in
@@ -198,17 +221,24 @@ module _ (rlgr3 : Bool) (n : ℕ) (B : List Bool) where
         go (One z v s′) t p g ef k =
             let m : i + z < n = omega (arith, t .fits, length-append (replicate z 0) (v ∷ []), length-replicate {A = ℕ} z 0) in
             let l : n - i - (z + 1) ≡ n - (i + z + 1) = omega arith in
-            rw (at-j p, at-s p) (advance (set out (i + z) (unfoldZ v)) s′ (i + z + 1) g (replicate z 0 ++ (v ∷ [])) ef t (placed-one n out i z v (w .clear) m) (rw l at k))
+            rw (at-j p, at-s p)
+            (advance (set out (i + z) (unfoldZ v)) s′ (i + z + 1) g (replicate z 0 ++ (v ∷ [])) ef t (placed-one n out i z v (w .clear) m) (rw l at k))
         go (Two a b s′) t p g ef k =
             let l : n - i - 2 ≡ n - min n (i + 2) = omega arith in
-            rw (at-j p, at-s p, w .clear .len) (advance (ltb (i + 1) n ⇒ set (set out i (unfoldZ a)) (i + 1) (unfoldZ b) ∣ set out i (unfoldZ a)) s′ (min n (i + 2)) g (take (n - i) (a ∷ b ∷ [])) ef t (placed-two n out i a b (w .clear) h) (rw l at k))
+            rw (at-j p, at-s p, w .clear .len)
+            (advance (ltb (i + 1) n ⇒ set (set out i (unfoldZ a)) (i + 1) (unfoldZ b) ∣ set out i (unfoldZ a)) s′ (min n (i + 2)) g
+            (take (n - i) (a ∷ b ∷ [])) ef t (placed-two n out i a b (w .clear) h) (rw l at k))
 
     pub filling-bad : (e : Element) → e ≡ elemOf rlgr3 (c .kp) (c .krp) (n - i) (c .at) B → (r : Refusal) → No r ≡ placedOf n i e → readList rlgr3 n B ≡ bad r
     filling-bad e q r p =
         let t = walk-turn (w .f) (c .kp) (c .krp) (c .at) (n - i) (map foldZ (take i out)) (omega arith) (w .fuel) in
-        go e p (t .0) (ap (λ (x : Element). step x (n - i) (map foldZ (take i out)) (λ s l d. walk (t .0) rlgr3 (s .kp) (s .krp) (s .at) l d B)) q ∙ sym (t .2) ∙ w .same)
+        go e p (t .0)
+        (ap (λ (x : Element). step x (n - i) (map foldZ (take i out)) (λ s l d. walk (t .0) rlgr3 (s .kp) (s .krp) (s .at) l d B)) q ∙ sym (t .2)
+        ∙ w .same)
       where
-        go : (e : Element) → No r ≡ placedOf n i e → (g : ℕ) → step e (n - i) (map foldZ (take i out)) (λ s l d. walk g rlgr3 (s .kp) (s .krp) (s .at) l d B) ≡ readList rlgr3 n B → readList rlgr3 n B ≡ bad r
+        go :
+            (e : Element) → No r ≡ placedOf n i e → (g : ℕ) →
+            step e (n - i) (map foldZ (take i out)) (λ s l d. walk g rlgr3 (s .kp) (s .krp) (s .at) l d B) ≡ readList rlgr3 n B → readList rlgr3 n B ≡ bad r
         go (Refused r′) p g k = sym k ∙ ap bad (sym (no-r p))
         go (Zeros z s′) p g k = cc
         go (One z v s′) p g k = cc
@@ -222,10 +252,12 @@ module _ (rlgr3 : Bool) (n : ℕ) (B : List Bool) where
       let z : n - i ≡ 0 = omega arith in
       let e : walk (w .f) rlgr3 (c .kp) (c .krp) (c .at) 0 (map foldZ (take i out)) B ≡ readList rlgr3 n B = rw z at (w .same) in
       let t : take i out ≡ out = take-all i out (omega (arith, w .clear .len)) in
-      rw (sym e ∙ walk-none (w .f) (c .kp) (c .krp) (c .at) (map foldZ (take i out))) (sym (ap (λ (l : List ℕ). map unfoldZ l) (ap (λ (l : List ℤ). map foldZ l) t) ∙ map-unfold out), refl)
+      rw (sym e ∙ walk-none (w .f) (c .kp) (c .krp) (c .at) (map foldZ (take i out)))
+      (sym (ap (λ (l : List ℕ). map unfoldZ l) (ap (λ (l : List ℤ). map foldZ l) t) ∙ map-unfold out), refl)
 
   -- in the code's forms
-  module _ (out new : List ℤ) (c : State) (i : ℕ) (e : Element) (r : Placed) (w : Filling rlgr3 n B out c i) (h : i < n) (q : e ≡ elemOf rlgr3 (c .kp) (c .krp) (n - i) (c .at) B) (pr : r ≡ placedOf (length out) i e) where
+  module _ (out new : List ℤ) (c : State) (i : ℕ) (e : Element) (r : Placed) (w : Filling rlgr3 n B out c i) (h : i < n)
+      (q : e ≡ elemOf rlgr3 (c .kp) (c .krp) (n - i) (c .at) B) (pr : r ≡ placedOf (length out) i e) where
     pub turn-next : (j : ℕ) (s : State) → new ≡ storedOf out i e → r ≡ At j s → Filling rlgr3 n B new s j × (i < j)
     turn-next j s pn g = rw pn (filling-next out c i w h e q j s (sym g ∙ pr ∙ ap (λ (m : ℕ). placedOf m i e) (w .clear .len)))
 

@@ -17,7 +17,8 @@ use Rattle.whole.specs.laws.Among.{said, among-row, among-then, numbers, each, 
 use Rattle.wire.specs.Mode.{isMode}
 use Rattle.bits.specs.Bits.{bitsOf}
 use Rattle.code.specs.ReadList.{Walked, whole, bad, readList, refusalNumber}
-use Rattle.code.specs.Read.{readingNumber, clean, endReading, endList, codeReading, codeList, shellFault, afterShell, reading, readFault, decoded, readInto, ComponentRead}
+use Rattle.code.specs.Read.{readingNumber, clean, endReading, endList, codeReading, codeList, shellFault, afterShell, reading, readFault, decoded}
+use Rattle.code.specs.Read.{readInto, ComponentRead}
 use Rattle.code.specs.declared.element.Refusal.{Refusal}
 use Rattle.code.specs.declared.element.Refusal.the-variants.{Cut as Short, Range, Overrun}
 use Rattle.code.specs.declared.read.Reading.{Reading}

@@ -22,7 +22,8 @@ use Rattle.code.specs.laws.Fold.{map-unfold, map-fold, range-fold, fold-
 use Rattle.code.specs.Code.{codeOf, InRange}
 use Rattle.code.specs.ReadList.{whole, readList}
 use Rattle.code.specs.laws.List.{read-back, prefix-free, Taken}
-use Rattle.code.specs.Read.{readingNumber, readingBits, noOnes, clean, endReading, endList, codeReading, codeList, shellFault, reading, readFault, readBits, decoded, readInto, ComponentRead}
+use Rattle.code.specs.Read.{readingNumber, readingBits, noOnes, clean, endReading, endList, codeReading, codeList, shellFault, reading, readFault}
+use Rattle.code.specs.Read.{readBits, decoded, readInto, ComponentRead}
 use Rattle.code.specs.laws.Read.{accepted, accepted-list, accepted-taken, passed, read-number, into-decoded, shell-goes}
 use Rattle.code.specs.declared.read.Reading.{Reading}
 use Rattle.code.specs.declared.read.Reading.the-variants.{Done, Tail}
@@ -56,12 +57,14 @@ is-clean pad h = sym (passes _ _ _ _ (lt-ltb (length (replicate pad false)) 8 (o
 module _ (mode : ℕ) (s : List ℕ) (before zs : List ℤ) (c : Call mode s before) (l : Listed zs) (rest : List Bool) (e : bitsOf s ≡ code mode zs ++ rest) where
   shell-zero : shellFault mode (length before) (length s) ≡ 0
   unfolding shellFault
-  shell-zero = sym (passes _ _ _ _ (c .allowed) (passes _ _ _ _ (eq-eqb (length before) 4096 (c .room)) (passes _ _ _ _ (le-leb (length s) 65535 (c .small)) refl)))
+  shell-zero =
+      sym (passes _ _ _ _ (c .allowed) (passes _ _ _ _ (eq-eqb (length before) 4096 (c .room)) (passes _ _ _ _ (le-leb (length s) 65535 (c .small)) refl)))
 
   walked : readList (eqb mode 4) 4096 (bitsOf s) ≡ whole (map foldZ zs) (length (code mode zs))
   walked =
       let n : 4096 ≡ length (map foldZ zs) = sym (length-map zs foldZ ∙ l .len) in
-      ap (λ (k : ℕ). readList (eqb mode 4) k (bitsOf s)) n ∙ ap (λ (b : List Bool). readList (eqb mode 4) (length (map foldZ zs)) b) e ∙ read-back (eqb mode 4) (map foldZ zs) rest (range-fold zs (l .range))
+      ap (λ (k : ℕ). readList (eqb mode 4) k (bitsOf s)) n ∙ ap (λ (b : List Bool). readList (eqb mode 4) (length (map foldZ zs)) b) e
+      ∙ read-back (eqb mode 4) (map foldZ zs) rest (range-fold zs (l .range))
 
   tail-is : clean (drop (length (code mode zs)) (bitsOf s)) ≡ clean rest
   tail-is = ap (λ (b : List Bool). clean (drop (length (code mode zs)) b)) e ∙ ap clean (drop-at (code mode zs) rest (length (code mode zs)) refl)
@@ -94,31 +97,46 @@ module _ (mode : ℕ) (s : List ℕ) (before zs : List ℤ) (c : Call mode s bef
   behind-list t =
       sym (passes _ _ _ _ (eq-eqb _ 0 shell-zero) refl) ∙ ap (endList (bitsOf s)) walked ∙ sym (passes _ _ _ _ (tail-is ∙ t) refl) ∙ map-unfold zs
 
-pub exactly-answers : (mode : ℕ) (s : List ℕ) (before zs : List ℤ) → Exactly mode s before zs → (reading mode (length before) s ≡ Done (length (code mode zs))) × (readInto mode s before ≡ zs)
+pub exactly-answers :
+    (mode : ℕ) (s : List ℕ) (before zs : List ℤ) → Exactly mode s before zs →
+    (reading mode (length before) s ≡ Done (length (code mode zs))) × (readInto mode s before ≡ zs)
 exactly-answers mode s before zs e =
     let k = is-clean (e .bytes .pad) (e .bytes .few) in (
       behind mode s before zs (e .call) (e .list) (replicate (e .bytes .pad) false) (e .bytes .bits) ∙ sym (passes _ _ _ _ k refl),
       behind-list mode s before zs (e .call) (e .list) (replicate (e .bytes .pad) false) (e .bytes .bits) k,
     )
 
-pub answers-exactly : (mode : ℕ) (s : List ℕ) (before zs : List ℤ) → readFault mode (length before) s ≡ 0 → readInto mode s before ≡ zs → Exactly mode s before zs
+pub answers-exactly :
+    (mode : ℕ) (s : List ℕ) (before zs : List ℤ) → readFault mode (length before) s ≡ 0 → readInto mode s before ≡ zs → Exactly mode s before zs
 answers-exactly mode s before zs f r =
     let a = accepted mode (length before) s (sym f) in
     let p = passed mode (length before) (length s) (a .shell) in
     let z : zs ≡ map unfoldZ (a .xs) = sym r ∙ into-decoded mode s before (sym f) ∙ accepted-list mode (length before) s a in
-    go (a .xs) (a .at) z (accepted-taken mode (length before) s a) (clean-is (drop (a .at) (bitsOf s)) (a .tail)) (record { allowed = p .known; room = p .full; small = p .small })
+    go (a .xs) (a .at) z (accepted-taken mode (length before) s a) (clean-is (drop (a .at) (bitsOf s)) (a .tail))
+    (record { allowed = p .known; room = p .full; small = p .small })
   where
-    go : (xs : List ℕ) (at : ℕ) → zs ≡ map unfoldZ xs → Taken (eqb mode 4) 4096 (bitsOf s) xs at → (length (drop at (bitsOf s)) < 8) × (drop at (bitsOf s) ≡ replicate (length (drop at (bitsOf s))) false) → Call mode s before → Exactly mode s before zs
+    go :
+        (xs : List ℕ) (at : ℕ) → zs ≡ map unfoldZ xs → Taken (eqb mode 4) 4096 (bitsOf s) xs at →
+        (length (drop at (bitsOf s)) < 8) × (drop at (bitsOf s) ≡ replicate (length (drop at (bitsOf s))) false) → Call mode s before →
+        Exactly mode s before zs
     go xs at z t k c =
         let x : xs ≡ map foldZ zs = sym (map-fold xs) ∙ ap (map foldZ) (sym z) in
         record {
           call = c;
           list = record { len = ap length z ∙ length-map xs unfoldZ ∙ t .len; range = fold-range zs (subst InRange x (t .range)) };
-          bytes = record { pad = length (drop at (bitsOf s)); few = k .0; bits = t .bits ∙ ap (λ (b : List Bool). codeOf (eqb mode 4) xs ++ b) (k .1) ∙ ap (λ (y : List ℕ). codeOf (eqb mode 4) y ++ replicate (length (drop at (bitsOf s))) false) x };
+          bytes =
+              record {
+                pad = length (drop at (bitsOf s));
+                few = k .0;
+                bits = t .bits ∙ ap (λ (b : List Bool). codeOf (eqb mode 4) xs ++ b) (k .1) ∙ ap
+                    (λ (y : List ℕ). codeOf (eqb mode 4) y ++ replicate (length (drop at (bitsOf s))) false) x;
+              };
         }
 
 -- the bytes of a list's code are read as that list: what a frame's reader makes of a frame that our writer wrote
-pub written-decoded : (mode : ℕ) (s : List ℕ) (zs : List ℤ) → isMode mode ≡ true → length s ≤ 65535 → Listed zs → Written s (code mode zs) → (readFault mode 4096 s ≡ 0) × (decoded mode s ≡ zs)
+pub written-decoded :
+    (mode : ℕ) (s : List ℕ) (zs : List ℤ) → isMode mode ≡ true → length s ≤ 65535 → Listed zs → Written s (code mode zs) →
+    (readFault mode 4096 s ≡ 0) × (decoded mode s ≡ zs)
 unfolding readFault readingNumber
 written-decoded mode s zs m h l w =
     let a = exactly-answers mode s zs zs (record { call = record { allowed = m; room = l .len; small = h }; list = l; bytes = w }) in
@@ -143,12 +161,15 @@ module _ (mode : ℕ) (s : List ℕ) (before after : List ℤ) (r : Reading) (p 
 pub start-once : (mode : ℕ) (xs ys : List ℤ) (r : List Bool) → Listed xs → Listed ys → code mode xs ++ r ≡ code mode ys → xs ≡ ys
 start-once mode xs ys r p q e =
     let l : length (map foldZ xs) ≡ length (map foldZ ys) = length-map xs foldZ ∙ p .len ∙ sym (length-map ys foldZ ∙ q .len) in
-    let f : map foldZ xs ≡ map foldZ ys = prefix-free (eqb mode 4) (map foldZ xs) (map foldZ ys) r [] l (range-fold xs (p .range)) (range-fold ys (q .range)) (e ∙ sym (append-nil (code mode ys))) in
+    let f : map foldZ xs ≡ map foldZ ys =
+    prefix-free (eqb mode 4) (map foldZ xs) (map foldZ ys) r [] l (range-fold xs (p .range)) (range-fold ys (q .range))
+    (e ∙ sym (append-nil (code mode ys))) in
     sym (map-unfold xs) ∙ ap (map unfoldZ) f ∙ map-unfold ys
 
 pub bytes-once : (mode : ℕ) (s t : List ℕ) (zs : List ℤ) → Bytes s → Bytes t → Written s (code mode zs) → Written t (code mode zs) → s ≡ t
 bytes-once mode s t zs = written-once s t (code mode zs)
 
 -- ---- (d) two answers, and two lists, that meet the promise for the same input are equal
-pub read-once : (mode : ℕ) (s : List ℕ) (before a b : List ℤ) (r q : Reading) → ComponentRead mode s before a r → ComponentRead mode s before b q → (r ≡ q) × (a ≡ b)
+pub read-once :
+    (mode : ℕ) (s : List ℕ) (before a b : List ℤ) (r q : Reading) → ComponentRead mode s before a r → ComponentRead mode s before b q → (r ≡ q) × (a ≡ b)
 read-once mode s before a b r q x y = (x .answer ∙ sym (y .answer), x .list ∙ sym (y .list))

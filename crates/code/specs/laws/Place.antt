@@ -36,16 +36,22 @@ module _ (out : List ℤ) (i : ℕ) (e : Element) where
   pub place-zeros : (z : ℕ) (s : State) (j : ℕ) → e ≡ Zeros z s → j ≡ min (length out) (i + z) → (At j s ≡ placedOf (length out) i e) × (out ≡ storedOf out i e)
   place-zeros z s j q p = (rw (q, p), rw q)
 
-  pub place-one : (z v : ℕ) (s : State) (x : ℤ) → e ≡ One z v s → SFits w32 x → x ≡ unfoldZ v → (At (i + z + 1) s ≡ placedOf (length out) i e) × (set out (i + z) (toZ w32 (ofZ w32 x)) ≡ storedOf out i e)
+  pub place-one :
+      (z v : ℕ) (s : State) (x : ℤ) → e ≡ One z v s → SFits w32 x → x ≡ unfoldZ v →
+      (At (i + z + 1) s ≡ placedOf (length out) i e) × (set out (i + z) (toZ w32 (ofZ w32 x)) ≡ storedOf out i e)
   place-one z v s x q f p = (rw q, rw (q, same-bits x v f p))
 
-  pub place-lone : (a b : ℕ) (s : State) (x : ℤ) → e ≡ Two a b s → i < length out → length out - i < 2 → SFits w32 x → x ≡ unfoldZ a → (At (length (set out i (toZ w32 (ofZ w32 x)))) s ≡ placedOf (length out) i e) × (set out i (toZ w32 (ofZ w32 x)) ≡ storedOf out i e)
+  pub place-lone :
+      (a b : ℕ) (s : State) (x : ℤ) → e ≡ Two a b s → i < length out → length out - i < 2 → SFits w32 x → x ≡ unfoldZ a →
+      (At (length (set out i (toZ w32 (ofZ w32 x)))) s ≡ placedOf (length out) i e) × (set out i (toZ w32 (ofZ w32 x)) ≡ storedOf out i e)
   unfolding _⇒_∣_
   place-lone a b s x q l h f p =
       let m : length (set out i (toZ w32 (ofZ w32 x))) ≡ min (length out) (i + 2) = length-set out i (toZ w32 (ofZ w32 x)) ∙ omega arith in
       (rw (q, m), rw (q, same-bits x a f p, le-ltb (i + 1) (length out) (omega arith)))
 
-  pub place-two : (a b : ℕ) (s : State) (x y : ℤ) → e ≡ Two a b s → 2 ≤ length out - i → SFits w32 x → x ≡ unfoldZ a → SFits w32 y → y ≡ unfoldZ b → (At (i + 2) s ≡ placedOf (length out) i e) × (set (set out i (toZ w32 (ofZ w32 x))) (i + 1) (toZ w32 (ofZ w32 y)) ≡ storedOf out i e)
+  pub place-two :
+      (a b : ℕ) (s : State) (x y : ℤ) → e ≡ Two a b s → 2 ≤ length out - i → SFits w32 x → x ≡ unfoldZ a → SFits w32 y → y ≡ unfoldZ b →
+      (At (i + 2) s ≡ placedOf (length out) i e) × (set (set out i (toZ w32 (ofZ w32 x))) (i + 1) (toZ w32 (ofZ w32 y)) ≡ storedOf out i e)
   unfolding _⇒_∣_
   place-two a b s x y q h f p g r =
       let m : i + 2 ≡ min (length out) (i + 2) = omega arith in

@@ -43,13 +43,15 @@ no-two : {a b : ℕ} {s : State} {r : Refusal} → Two a b s ≡ Refused r → �
 no-two e = let z : _≡_ {A = ℕ} 0 1 = cc in absurd (omega arith)
 
 -- an element read in some bits ends in them
-took-within : (rlgr3 : Bool) (kp krp left i : ℕ) (P : List Bool) (front : List ℕ) (s : State) → i ≤ length P → Took rlgr3 kp krp left i P front s → s .at ≤ length P
+took-within :
+    (rlgr3 : Bool) (kp krp left i : ℕ) (P : List Bool) (front : List ℕ) (s : State) → i ≤ length P → Took rlgr3 kp krp left i P front s → s .at ≤ length P
 took-within rlgr3 kp krp left i P front s h t =
     let l : length (drop i P) ≡ length (t .H) + length (drop (s .at) P) = ap length (t .bits) ∙ length-append (t .H) (drop (s .at) P) in
     omega (arith, l, t .place, length-drop i P, length-drop (s .at) P)
 
 -- what is stored of the element at place m of the word w ends in the word
-pub word-inside : (rlgr3 : Bool) (kp krp n i m w : ℕ) (e : Element) → m ≤ 57 → i < n → e ≡ elemOf rlgr3 kp krp (n - i) m (numBits 57 w) → Inside (placedOf n i e)
+pub word-inside :
+    (rlgr3 : Bool) (kp krp n i m w : ℕ) (e : Element) → m ≤ 57 → i < n → e ≡ elemOf rlgr3 kp krp (n - i) m (numBits 57 w) → Inside (placedOf n i e)
 word-inside rlgr3 kp krp n i m w e l h q = go e (rw q (elem-told rlgr3 kp krp (n - i) m (numBits 57 w) (omega arith)))
   where
     k : m ≤ length (numBits 57 w)

@@ -26,7 +26,8 @@ use Rattle.code.specs.laws.List.{taken, Taken}
 use Rattle.code.specs.declared.element.Refusal.{Refusal}
 use Rattle.code.specs.declared.element.Refusal.the-variants.{Cut as Short, Range, Overrun}
 use Rattle.code.specs.Fill.{Fills}
-use Rattle.code.specs.Read.{readingNumber, readingBits, noOnes, clean, endReading, endList, codeReading, codeList, shellFault, afterShell, reading, readFault, readBits, decoded, readInto, CodeRead, ComponentRead}
+use Rattle.code.specs.Read.{readingNumber, readingBits, noOnes, clean, endReading, endList, codeReading, codeList, shellFault, afterShell, reading}
+use Rattle.code.specs.Read.{readFault, readBits, decoded, readInto, CodeRead, ComponentRead}
 use Rattle.code.specs.declared.read.Filled.{Filled}
 use Rattle.code.specs.declared.read.Filled.the-variants.{Whole, Bad}
 use Rattle.code.specs.declared.read.Reading.{Reading}

@@ -91,17 +91,23 @@ pub one-wide : (kp krp : ℕ) (n : Num) (g next : ℕ) → n ≡ Got g next → 
 unfolding _⇒_∣_
 one-wide kp krp n g next e h = rw (e, lt-ltb 65534 g h)
 
-pub one-ok : (kp krp : ℕ) (n : Num) (g next q r : ℕ) → n ≡ Got g next → g ≤ 65534 → q ≡ kpOne kp g → r ≡ krAfter krp g → oneElem kp krp n ≡ One 0 g (stateAt next q r)
+pub one-ok :
+    (kp krp : ℕ) (n : Num) (g next q r : ℕ) → n ≡ Got g next → g ≤ 65534 → q ≡ kpOne kp g → r ≡ krAfter krp g →
+    oneElem kp krp n ≡ One 0 g (stateAt next q r)
 unfolding _⇒_∣_
 one-ok kp krp n g next q r e h p s = rw (e, le-ltb 65534 g h, p, s)
 
 pub two-cut : (kp krp left : ℕ) (B : List Bool) (n : Num) → n ≡ Cut → twoElem kp krp left B n ≡ Refused Short
 two-cut kp krp left B n e = rw e
 
-pub two-cut-low : (kp krp left : ℕ) (B : List Bool) (n : Num) (g mid k : ℕ) → n ≡ Got g mid → k ≡ size g → numOf k 0 mid (drop mid B) ≡ Cut → twoElem kp krp left B n ≡ Refused Short
+pub two-cut-low :
+    (kp krp left : ℕ) (B : List Bool) (n : Num) (g mid k : ℕ) → n ≡ Got g mid → k ≡ size g → numOf k 0 mid (drop mid B) ≡ Cut →
+    twoElem kp krp left B n ≡ Refused Short
 two-cut-low kp krp left B n g mid k e ek f = rw (e, ← ek, f)
 
-pub two-got : (kp krp left : ℕ) (B : List Bool) (n : Num) (g mid k a next : ℕ) → n ≡ Got g mid → k ≡ size g → numOf k 0 mid (drop mid B) ≡ Got a next → twoElem kp krp left B n ≡ judgeTwo kp krp left g a next
+pub two-got :
+    (kp krp left : ℕ) (B : List Bool) (n : Num) (g mid k a next : ℕ) → n ≡ Got g mid → k ≡ size g → numOf k 0 mid (drop mid B) ≡ Got a next →
+    twoElem kp krp left B n ≡ judgeTwo kp krp left g a next
 two-got kp krp left B n g mid k a next e ek f = rw (e, ← ek, f)
 
 pub judge-above : (kp krp left g a next : ℕ) → g < a → judgeTwo kp krp left g a next ≡ Refused Range
@@ -120,7 +126,9 @@ pub judge-lone : (kp krp left g a next : ℕ) → a ≤ g → a ≤ 65534 → g 
 unfolding _⇒_∣_
 judge-lone kp krp left g a next h v w l p = rw (le-ltb g a h, le-ltb 65534 a v, le-ltb 65534 (g - a) w, lt-ltb left 2 l, lt-ltb 0 (g - a) p)
 
-pub judge-pair : (kp krp left g a next q r : ℕ) → a ≤ g → a ≤ 65534 → g - a ≤ 65534 → (left < 2 → g - a ≡ 0) → q ≡ kpTwo kp a (g - a) → r ≡ krAfter krp g → judgeTwo kp krp left g a next ≡ Two a (g - a) (stateAt next q r)
+pub judge-pair :
+    (kp krp left g a next q r : ℕ) → a ≤ g → a ≤ 65534 → g - a ≤ 65534 → (left < 2 → g - a ≡ 0) → q ≡ kpTwo kp a (g - a) → r ≡ krAfter krp g →
+    judgeTwo kp krp left g a next ≡ Two a (g - a) (stateAt next q r)
 unfolding _⇒_∣_
 judge-pair kp krp left g a next q r h v w l p s = rw (le-ltb g a h, le-ltb 65534 a v, le-ltb 65534 (g - a) w, lone-not left (g - a) l, p, s)
 
@@ -156,7 +164,8 @@ module _ (kp krp left : ℕ) (B : List Bool) where
   pub run-cut : (n : Num) → n ≡ Cut → runElem kp krp left B n ≡ Refused Short
   run-cut n e = rw e
 
-  pub run-full : (n : Num) (b next w q : ℕ) → n ≡ Got b next → b ≡ 0 → w ≡ 2 ^ (kp / 8) → q ≡ raised 4 kp → runElem kp krp left B n ≡ Zeros w (stateAt next q krp)
+  pub run-full :
+      (n : Num) (b next w q : ℕ) → n ≡ Got b next → b ≡ 0 → w ≡ 2 ^ (kp / 8) → q ≡ raised 4 kp → runElem kp krp left B n ≡ Zeros w (stateAt next q krp)
   run-full n b next w q e z f g = rw (e, z, f, g)
 
   pub run-some : (n : Num) (b next : ℕ) → n ≡ Got b next → (b ≡ 0 → ⊥) → runElem kp krp left B n ≡ runFirst kp krp left B (numOf (kp / 8) 0 next (drop next B))
@@ -169,10 +178,14 @@ module _ (kp krp left : ℕ) (B : List Bool) where
   pub run2-cut : (n : Num) (z mid : ℕ) → n ≡ Got z mid → numOf 1 0 mid (drop mid B) ≡ Cut → runFirst kp krp left B n ≡ Refused Short
   run2-cut n z mid e f = rw (e, f)
 
-  pub run3-cut : (n : Num) (z mid s late : ℕ) → n ≡ Got z mid → numOf 1 0 mid (drop mid B) ≡ Got s late → grOf (krp / 8) late B ≡ Cut → runFirst kp krp left B n ≡ Refused Short
+  pub run3-cut :
+      (n : Num) (z mid s late : ℕ) → n ≡ Got z mid → numOf 1 0 mid (drop mid B) ≡ Got s late → grOf (krp / 8) late B ≡ Cut →
+      runFirst kp krp left B n ≡ Refused Short
   run3-cut n z mid s late e f g = rw (e, f, g)
 
-  pub run3-got : (n : Num) (z mid s late g next : ℕ) → n ≡ Got z mid → numOf 1 0 mid (drop mid B) ≡ Got s late → grOf (krp / 8) late B ≡ Got g next → runFirst kp krp left B n ≡ judgeRun kp krp left z s g next
+  pub run3-got :
+      (n : Num) (z mid s late g next : ℕ) → n ≡ Got z mid → numOf 1 0 mid (drop mid B) ≡ Got s late → grOf (krp / 8) late B ≡ Got g next →
+      runFirst kp krp left B n ≡ judgeRun kp krp left z s g next
   run3-got n z mid s late g next e f h = rw (e, f, h)
 
 pub run-wide : (kp krp left z s g next : ℕ) → 32766 < g → judgeRun kp krp left z s g next ≡ Refused Range
@@ -183,7 +196,9 @@ pub run-over : (kp krp left z s g next : ℕ) → g ≤ 32766 → left ≤ z →
 unfolding _⇒_∣_
 run-over kp krp left z s g next h l = rw (le-ltb 32766 g h, le-leb left z l)
 
-pub run-one : (kp krp left z s g next q r : ℕ) → g ≤ 32766 → z < left → q ≡ kp - 6 → r ≡ krAfter krp g → judgeRun kp krp left z s g next ≡ One z (2 * (g + 1) - s) (stateAt next q r)
+pub run-one :
+    (kp krp left z s g next q r : ℕ) → g ≤ 32766 → z < left → q ≡ kp - 6 → r ≡ krAfter krp g →
+    judgeRun kp krp left z s g next ≡ One z (2 * (g + 1) - s) (stateAt next q r)
 unfolding _⇒_∣_
 run-one kp krp left z s g next q r h l p t = rw (le-ltb 32766 g h, lt-leb left z l, p, t)
 

@@ -20,7 +20,9 @@ use Rattle.code.specs.Code.{raised, krAfter, size, sizeF, kpOne, kpTwo, 
 use Rattle.code.specs.ReadList.{stateAt, elemOf, noSecondPlace, whole, walk}
 use Rattle.code.specs.declared.element.Element.the-variants.{Zeros, One, Two}
 
-pub bit-here : (at : ℕ) (B : List Bool) (b : Bool) (rest : List Bool) → drop at B ≡ b ∷ rest → (numOf 1 0 at (drop at B) ≡ Got (val b) (at + 1)) × (drop (at + 1) B ≡ rest)
+pub bit-here :
+    (at : ℕ) (B : List Bool) (b : Bool) (rest : List Bool) → drop at B ≡ b ∷ rest →
+    (numOf 1 0 at (drop at B) ≡ Got (val b) (at + 1)) × (drop (at + 1) B ≡ rest)
 unfolding numOf
 bit-here at B true rest e = (rw e, past at B (true ∷ []) rest e)
 bit-here at B false rest e = (rw e, past at B (false ∷ []) rest e)
@@ -54,11 +56,15 @@ module _ (kp krp left at : ℕ) (B rest : List Bool) where
   unfolding elemOf
   elem-full rlgr3 h e = rw (le-ltb kp 8 h, bit-here at B false rest e .0)
 
-  pub elem-one : kp < 8 → (v : ℕ) → v ≤ 65534 → drop at B ≡ grBits (krp / 8) v ++ rest → elemOf false kp krp left at B ≡ One 0 v (stateAt (at + length (grBits (krp / 8) v)) (kpOne kp v) (krAfter krp v))
+  pub elem-one :
+      kp < 8 → (v : ℕ) → v ≤ 65534 → drop at B ≡ grBits (krp / 8) v ++ rest →
+      elemOf false kp krp left at B ≡ One 0 v (stateAt (at + length (grBits (krp / 8) v)) (kpOne kp v) (krAfter krp v))
   unfolding elemOf
   elem-one h v hv e = rw (lt-ltb kp 8 h, gr-here (krp / 8) v at B rest e .0, le-ltb 65534 v hv)
 
-  pub elem-two : kp < 8 → (a b : ℕ) → a ≤ 65534 → b ≤ 65534 → (left < 2 → b ≡ 0) → drop at B ≡ pairBits krp a b ++ rest → elemOf true kp krp left at B ≡ Two a b (stateAt (at + length (pairBits krp a b)) (kpTwo kp a b) (krAfter krp (a + b)))
+  pub elem-two :
+      kp < 8 → (a b : ℕ) → a ≤ 65534 → b ≤ 65534 → (left < 2 → b ≡ 0) → drop at B ≡ pairBits krp a b ++ rest →
+      elemOf true kp krp left at B ≡ Two a b (stateAt (at + length (pairBits krp a b)) (kpTwo kp a b) (krAfter krp (a + b)))
   unfolding elemOf pairBits
   elem-two h a b ha hb hl e =
       let n = size (a + b) in
@@ -71,7 +77,9 @@ module _ (kp krp left at : ℕ) (B rest : List Bool) where
       rw (lt-ltb kp 8 h, r .0, m .0, le-ltb (a + b) a (omega arith), le-ltb 65534 a ha, d, le-ltb 65534 b hb, lone-not left b hl)
       (ap (λ (x : ℕ). Two a b (stateAt x (kpTwo kp a b) (krAfter krp (a + b)))) len)
 
-  pub elem-run : (rlgr3 : Bool) → 8 ≤ kp → (z v : ℕ) → z < 2 ^ (kp / 8) → z < left → 0 < v → v ≤ 65534 → drop at B ≡ runBits kp krp z v ++ rest → elemOf rlgr3 kp krp left at B ≡ One z v (stateAt (at + length (runBits kp krp z v)) (kp - 6) (krAfter krp ((v - 1) / 2)))
+  pub elem-run :
+      (rlgr3 : Bool) → 8 ≤ kp → (z v : ℕ) → z < 2 ^ (kp / 8) → z < left → 0 < v → v ≤ 65534 → drop at B ≡ runBits kp krp z v ++ rest →
+      elemOf rlgr3 kp krp left at B ≡ One z v (stateAt (at + length (runBits kp krp z v)) (kp - 6) (krAfter krp ((v - 1) / 2)))
   unfolding elemOf runBits
   elem-run rlgr3 h z v hz hl v0 hv e =
       let k = kp / 8 in
@@ -84,7 +92,8 @@ module _ (kp krp left at : ℕ) (B rest : List Bool) where
       let g0 : ltb 32766 g ≡ false = le-ltb 32766 g (omega arith) in
       let l0 : leb left z ≡ false = lt-leb left z hl in
       let v1 : 2 * (g + 1) - val (odd v) ≡ v = rw (val-odd v) (omega arith) in
-      let len : at + 1 + k + 1 + length G ≡ at + suc (length (numBits k z ++ (odd v ∷ G))) = omega (arith, length-append (numBits k z) (odd v ∷ G), length-numBits k z) in
+      let len : at + 1 + k + 1 + length G ≡ at + suc (length (numBits k z ++ (odd v ∷ G))) =
+      omega (arith, length-append (numBits k z) (odd v ∷ G), length-numBits k z) in
       rw (le-ltb kp 8 h, b .0, n .0, s .0, r .0, g0, l0, v1) (ap (λ (x : ℕ). One z v (stateAt x (kp - 6) (krAfter krp g))) len)
 
 -- ---- the zeros at the front
@@ -103,13 +112,19 @@ zeros-next (zero ∷ xs) h = zeros-next xs (omega arith)
 zeros-next (suc x ∷ xs) h = omega arith
 
 pub drop-min : (n : ℕ) (l : List ℕ) → drop n l ≡ drop (min n (length l)) l
-drop-min n l = elim (native.Mathlib.Decide.decLe n (length l)) [ yes h ↦ (let e : n ≡ min n (length l) = omega arith in ap (λ (m : ℕ). drop m l) e) | no h ↦ drop-of-length-le l {i = n} (omega arith) ∙ sym (drop-of-length-le l {i = min n (length l)} (omega arith)) ]
+drop-min n l =
+    elim (native.Mathlib.Decide.decLe n (length l)) [
+      | yes h ↦ (let e : n ≡ min n (length l) = omega arith in ap (λ (m : ℕ). drop m l) e)
+      | no h ↦
+          drop-of-length-le l {i = n} (omega arith) ∙ sym (drop-of-length-le l {i = min n (length l)} (omega arith))
+    ]
 
 -- ---- a whole list
 
 -- that the list xs is read back from its code, which T is
 abbrev Back : ℕ → Bool → ℕ → ℕ → List ℕ → List Bool → List Bool → Type 0
-Back f rlgr3 kp krp xs T B = (at : ℕ) (done : List ℕ) (rest : List Bool) → drop at B ≡ T ++ rest → walk f rlgr3 kp krp at (length xs) done B ≡ whole (done ++ xs) (at + length T)
+Back f rlgr3 kp krp xs T B =
+    (at : ℕ) (done : List ℕ) (rest : List Bool) → drop at B ≡ T ++ rest → walk f rlgr3 kp krp at (length xs) done B ≡ whole (done ++ xs) (at + length T)
 
 -- the bits H of an element and then the rest T of the code
 turn : (H T rest : List Bool) (at : ℕ) (B : List Bool) → drop at B ≡ (H ++ T) ++ rest → (drop at B ≡ H ++ (T ++ rest)) × (drop (at + length H) B ≡ T ++ rest)
@@ -130,7 +145,9 @@ run-front : (l : List ℕ) (z v : ℕ) → zerosOf l ≡ z → getD l z 0 ≡ v 
 run-front l z v ez ev h = append-assoc (replicate z 0) (v ∷ []) (drop (suc z) l) ∙ rw (← ev, ← drop-cons l z 0 h) (zeros-front z l (omega arith))
 
 module _ (f kp krp : ℕ) (B : List Bool) where
-  back-one : kp < 8 → (x : ℕ) (xs : List ℕ) (T : List Bool) → x ≤ 65534 → Back f false (kpOne kp x) (krAfter krp x) xs T B → Back (suc f) false kp krp (x ∷ xs) (grBits (krp / 8) x ++ T) B
+  back-one :
+      kp < 8 → (x : ℕ) (xs : List ℕ) (T : List Bool) → x ≤ 65534 → Back f false (kpOne kp x) (krAfter krp x) xs T B →
+      Back (suc f) false kp krp (x ∷ xs) (grBits (krp / 8) x ++ T) B
   unfolding walk
   back-one h x xs T hx ih at done rest e =
       let H = grBits (krp / 8) x in
@@ -139,7 +156,10 @@ module _ (f kp krp : ℕ) (B : List Bool) where
       rw (elem-one kp krp (suc (length xs)) at B (T ++ rest) h x hx (t .0), l)
       (ih (at + length H) (done ++ (x ∷ [])) rest (t .1) ∙ fin at H T _ _ (append-assoc done (x ∷ []) xs))
 
-  back-two : kp < 8 → (x : ℕ) (xs : List ℕ) (T : List Bool) → x ≤ 65534 → getD xs 0 0 ≤ 65534 → Back f true (kpTwo kp x (getD xs 0 0)) (krAfter krp (x + getD xs 0 0)) (drop 1 xs) T B → Back (suc f) true kp krp (x ∷ xs) (pairBits krp x (getD xs 0 0) ++ T) B
+  back-two :
+      kp < 8 → (x : ℕ) (xs : List ℕ) (T : List Bool) → x ≤ 65534 → getD xs 0 0 ≤ 65534 →
+      Back f true (kpTwo kp x (getD xs 0 0)) (krAfter krp (x + getD xs 0 0)) (drop 1 xs) T B →
+      Back (suc f) true kp krp (x ∷ xs) (pairBits krp x (getD xs 0 0) ++ T) B
   unfolding walk
   back-two h x xs T hx hy ih at done rest e =
       let y = getD xs 0 0 in
@@ -147,19 +167,27 @@ module _ (f kp krp : ℕ) (B : List Bool) where
       let t = turn H T rest at B e in
       let l : suc (length xs) - 2 ≡ length (drop 1 xs) = omega (arith, length-drop 1 xs) in
       rw (elem-two kp krp (suc (length xs)) at B (T ++ rest) h x y hx hy (λ s. lone-zero xs (omega arith)) (t .0), l)
-      (ih (at + length H) (done ++ take (suc (length xs)) (x ∷ y ∷ [])) rest (t .1) ∙ fin at H T _ _ (append-assoc done _ _ ∙ ap (λ (r : List ℕ). done ++ r) (two-front x xs)))
+      (ih (at + length H) (done ++ take (suc (length xs)) (x ∷ y ∷ [])) rest (t .1)
+      ∙ fin at H T _ _ (append-assoc done _ _ ∙ ap (λ (r : List ℕ). done ++ r) (two-front x xs)))
 
-  back-full : (rlgr3 : Bool) → 8 ≤ kp → (x : ℕ) (xs : List ℕ) (T : List Bool) → min (2 ^ (kp / 8)) (length (x ∷ xs)) ≤ zerosOf (x ∷ xs) → Back f rlgr3 (raised 4 kp) krp (drop (2 ^ (kp / 8)) (x ∷ xs)) T B → Back (suc f) rlgr3 kp krp (x ∷ xs) (false ∷ T) B
+  back-full :
+      (rlgr3 : Bool) → 8 ≤ kp → (x : ℕ) (xs : List ℕ) (T : List Bool) → min (2 ^ (kp / 8)) (length (x ∷ xs)) ≤ zerosOf (x ∷ xs) →
+      Back f rlgr3 (raised 4 kp) krp (drop (2 ^ (kp / 8)) (x ∷ xs)) T B → Back (suc f) rlgr3 kp krp (x ∷ xs) (false ∷ T) B
   unfolding walk
   back-full rlgr3 h x xs T hz ih at done rest e =
       let n = 2 ^ (kp / 8) in
       let t = turn (false ∷ []) T rest at B e in
       let l : suc (length xs) - n ≡ length (drop n (x ∷ xs)) = omega (arith, length-drop n (x ∷ xs)) in
-      let p : replicate (min n (suc (length xs))) 0 ++ drop n (x ∷ xs) ≡ x ∷ xs = rw (drop-min n (x ∷ xs)) (zeros-front (min n (suc (length xs))) (x ∷ xs) hz) in
+      let p : replicate (min n (suc (length xs))) 0 ++ drop n (x ∷ xs) ≡ x ∷ xs =
+      rw (drop-min n (x ∷ xs)) (zeros-front (min n (suc (length xs))) (x ∷ xs) hz) in
       rw (elem-full kp krp (suc (length xs)) at B (T ++ rest) rlgr3 h (t .0), l)
-      (ih (at + 1) (done ++ replicate (min n (suc (length xs))) 0) rest (t .1) ∙ fin at (false ∷ []) T _ _ (append-assoc done _ _ ∙ ap (λ (r : List ℕ). done ++ r) p))
+      (ih (at + 1) (done ++ replicate (min n (suc (length xs))) 0) rest (t .1)
+      ∙ fin at (false ∷ []) T _ _ (append-assoc done _ _ ∙ ap (λ (r : List ℕ). done ++ r) p))
 
-  back-run : (rlgr3 : Bool) → 8 ≤ kp → (x : ℕ) (xs : List ℕ) (T : List Bool) (z v : ℕ) → zerosOf (x ∷ xs) ≡ z → getD (x ∷ xs) z 0 ≡ v → z < 2 ^ (kp / 8) → z < length (x ∷ xs) → v ≤ 65534 → Back f rlgr3 (kp - 6) (krAfter krp ((v - 1) / 2)) (drop (suc z) (x ∷ xs)) T B → Back (suc f) rlgr3 kp krp (x ∷ xs) (runBits kp krp z v ++ T) B
+  back-run :
+      (rlgr3 : Bool) → 8 ≤ kp → (x : ℕ) (xs : List ℕ) (T : List Bool) (z v : ℕ) → zerosOf (x ∷ xs) ≡ z → getD (x ∷ xs) z 0 ≡ v → z < 2 ^ (kp / 8) →
+      z < length (x ∷ xs) → v ≤ 65534 → Back f rlgr3 (kp - 6) (krAfter krp ((v - 1) / 2)) (drop (suc z) (x ∷ xs)) T B →
+      Back (suc f) rlgr3 kp krp (x ∷ xs) (runBits kp krp z v ++ T) B
   unfolding walk
   back-run rlgr3 h x xs T z v ez ev hz hl hv ih at done rest e =
       let H = runBits kp krp z v in
@@ -167,17 +195,24 @@ module _ (f kp krp : ℕ) (B : List Bool) where
       let v0 : 0 < v = rw (← ev, ← ez) (zeros-next (x ∷ xs) (omega arith)) in
       let l : suc (length xs) - (z + 1) ≡ length (drop (suc z) (x ∷ xs)) = omega (arith, length-drop (suc z) (x ∷ xs)) in
       rw (elem-run kp krp (suc (length xs)) at B (T ++ rest) rlgr3 h z v hz hl v0 hv (t .0), l)
-      (ih (at + length H) (done ++ (replicate z 0 ++ (v ∷ []))) rest (t .1) ∙ fin at H T _ _ (append-assoc done _ _ ∙ ap (λ (r : List ℕ). done ++ r) (run-front (x ∷ xs) z v ez ev hl)))
+      (ih (at + length H) (done ++ (replicate z 0 ++ (v ∷ []))) rest (t .1)
+      ∙ fin at H T _ _ (append-assoc done _ _ ∙ ap (λ (r : List ℕ). done ++ r) (run-front (x ∷ xs) z v ez ev hl)))
 
 pub range-drop : (n : ℕ) (xs : List ℕ) → InRange xs → InRange (drop n xs)
 range-drop n xs r i = rw (getD-drop n xs i 0) (r (n + i))
 
 module _ (f kp krp x : ℕ) (xs : List ℕ) (B : List Bool) (h : length xs ≤ f) (r : InRange (x ∷ xs)) where
-  code-low : (rlgr3 : Bool) → kp < 8 → ((kp′ krp′ : ℕ) (ys : List ℕ) → length ys ≤ f → InRange ys → Back f rlgr3 kp′ krp′ ys (codeF f rlgr3 kp′ krp′ ys) B) → Back (suc f) rlgr3 kp krp (x ∷ xs) (codeF (suc f) rlgr3 kp krp (x ∷ xs)) B
-  code-low true k ih = rw (codeF-twin f kp krp x xs k) (back-two f kp krp B k x xs _ (r 0) (r 1) (ih _ _ (drop 1 xs) (omega (arith, length-drop 1 xs)) (range-drop 1 xs (λ i. r (suc i)))))
+  code-low :
+      (rlgr3 : Bool) → kp < 8 → ((kp′ krp′ : ℕ) (ys : List ℕ) → length ys ≤ f → InRange ys → Back f rlgr3 kp′ krp′ ys (codeF f rlgr3 kp′ krp′ ys) B) →
+      Back (suc f) rlgr3 kp krp (x ∷ xs) (codeF (suc f) rlgr3 kp krp (x ∷ xs)) B
+  code-low true k ih =
+      rw (codeF-twin f kp krp x xs k)
+      (back-two f kp krp B k x xs _ (r 0) (r 1) (ih _ _ (drop 1 xs) (omega (arith, length-drop 1 xs)) (range-drop 1 xs (λ i. r (suc i)))))
   code-low false k ih = rw (codeF-single f kp krp x xs k) (back-one f kp krp B k x xs _ (r 0) (ih _ _ xs h (λ i. r (suc i))))
 
-  code-step : (rlgr3 : Bool) → ((kp′ krp′ : ℕ) (ys : List ℕ) → length ys ≤ f → InRange ys → Back f rlgr3 kp′ krp′ ys (codeF f rlgr3 kp′ krp′ ys) B) → Back (suc f) rlgr3 kp krp (x ∷ xs) (codeF (suc f) rlgr3 kp krp (x ∷ xs)) B
+  code-step :
+      (rlgr3 : Bool) → ((kp′ krp′ : ℕ) (ys : List ℕ) → length ys ≤ f → InRange ys → Back f rlgr3 kp′ krp′ ys (codeF f rlgr3 kp′ krp′ ys) B) →
+      Back (suc f) rlgr3 kp krp (x ∷ xs) (codeF (suc f) rlgr3 kp krp (x ∷ xs)) B
   code-step rlgr3 ih = go (ltb kp 8) refl (leb (min n (length (x ∷ xs))) z) refl
     where
       n : ℕ
@@ -189,21 +224,28 @@ module _ (f kp krp x : ℕ) (xs : List ℕ) (B : List Bool) (h : length xs ≤ f
       v : ℕ
       v = getD (x ∷ xs) z 0
 
-      go : (b : Bool) → ltb kp 8 ≡ b → (c : Bool) → leb (min n (length (x ∷ xs))) z ≡ c → Back (suc f) rlgr3 kp krp (x ∷ xs) (codeF (suc f) rlgr3 kp krp (x ∷ xs)) B
+      go :
+          (b : Bool) → ltb kp 8 ≡ b → (c : Bool) → leb (min n (length (x ∷ xs))) z ≡ c →
+          Back (suc f) rlgr3 kp krp (x ∷ xs) (codeF (suc f) rlgr3 kp krp (x ∷ xs)) B
       go true k c e = code-low rlgr3 (ltb-true kp 8 k) ih
       go false k true e =
           let m : min n (length (x ∷ xs)) ≤ z = leb-true (min n (length (x ∷ xs))) z e in
           let k′ : 8 ≤ kp = ltb-false kp 8 k in
           rw (codeF-full f rlgr3 kp krp k′ (x ∷ xs) (omega arith) m)
-          (back-full f kp krp B rlgr3 k′ x xs (codeF f rlgr3 (raised 4 kp) krp (drop n (x ∷ xs))) m (ih (raised 4 kp) krp (drop n (x ∷ xs)) (omega (arith, length-drop n (x ∷ xs), pow-pos (kp / 8))) (range-drop n (x ∷ xs) r)))
+          (back-full f kp krp B rlgr3 k′ x xs (codeF f rlgr3 (raised 4 kp) krp (drop n (x ∷ xs))) m
+          (ih (raised 4 kp) krp (drop n (x ∷ xs)) (omega (arith, length-drop n (x ∷ xs), pow-pos (kp / 8))) (range-drop n (x ∷ xs) r)))
       go false k false e =
           let m : z < min n (length (x ∷ xs)) = leb-false (min n (length (x ∷ xs))) z e in
           let k′ : 8 ≤ kp = ltb-false kp 8 k in
           rw (codeF-rest f rlgr3 kp krp k′ (x ∷ xs) z v refl refl (omega arith) (omega arith))
-          (back-run f kp krp B rlgr3 k′ x xs (codeF f rlgr3 (kp - 6) (krAfter krp ((v - 1) / 2)) (drop (suc z) (x ∷ xs))) z v refl refl (omega arith) (omega arith) (r z) (ih (kp - 6) (krAfter krp ((v - 1) / 2)) (drop (suc z) (x ∷ xs)) (omega (arith, length-drop (suc z) (x ∷ xs))) (range-drop (suc z) (x ∷ xs) r)))
+          (back-run f kp krp B rlgr3 k′ x xs (codeF f rlgr3 (kp - 6) (krAfter krp ((v - 1) / 2)) (drop (suc z) (x ∷ xs))) z v refl refl (omega arith)
+          (omega arith) (r z)
+          (ih (kp - 6) (krAfter krp ((v - 1) / 2)) (drop (suc z) (x ∷ xs)) (omega (arith, length-drop (suc z) (x ∷ xs)))
+          (range-drop (suc z) (x ∷ xs) r)))
 
 -- the list xs in code is read back, whatever stands after it
-pub code-read : (f : ℕ) (rlgr3 : Bool) (kp krp : ℕ) (xs : List ℕ) (B : List Bool) → length xs ≤ f → InRange xs → Back f rlgr3 kp krp xs (codeF f rlgr3 kp krp xs) B
+pub code-read :
+    (f : ℕ) (rlgr3 : Bool) (kp krp : ℕ) (xs : List ℕ) (B : List Bool) → length xs ≤ f → InRange xs → Back f rlgr3 kp krp xs (codeF f rlgr3 kp krp xs) B
 unfolding codeF walk
 code-read zero rlgr3 kp krp [] B h r = λ at done rest e. ap₂ whole (sym (append-nil done)) (omega arith)
 code-read zero rlgr3 kp krp (x ∷ xs) B h r = absurd (omega arith)

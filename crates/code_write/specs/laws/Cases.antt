@@ -24,7 +24,8 @@ full x = ap suc (length-replicate 4095 (pos 0))
 
 accepted : (mode : ℕ) (s : List ℕ) (x : ℤ) → Coded mode s (first x) → Exactly mode s (first x) (first x)
 unfolding readFault readingNumber
-accepted mode s x c = answers-exactly mode s (first x) (first x) (ap (λ (n : ℕ). readFault mode n s) (full x) ∙ ap readingNumber (c .answer)) (c .list (first x) (full x))
+accepted mode s x c =
+    answers-exactly mode s (first x) (first x) (ap (λ (n : ℕ). readFault mode n s) (full x) ∙ ap readingNumber (c .answer)) (c .list (first x) (full x))
 
 sent : (mode : ℕ) (s : List ℕ) (x : ℤ) → Bytes s → Coded mode s (first x) → CodeSent mode s (first x)
 unfolding writeFault
@@ -36,7 +37,12 @@ sent mode s x b c =
     record {
       bytes = e;
       done = writes-done mode zs (length s) (record { allowed = g .call .allowed; list = g .list; small = omega (arith, g .call .small); fits = omega arith });
-      short = λ room k. sym (goes-on _ _ _ (sym (is-called mode (length zs) (record { allowed = g .call .allowed; long = g .list .len }))) (goes-on _ _ _ (sym (is-fine mode zs (record { range = is-range zs (g .list .range); small = omega (arith, g .call .small) }))) (fails _ _ _ _ (lt-leb (length (bytesOf mode zs)) room (omega arith)) refl)));
+      short =
+          λ room k.
+          sym
+          (goes-on _ _ _ (sym (is-called mode (length zs) (record { allowed = g .call .allowed; long = g .list .len })))
+          (goes-on _ _ _ (sym (is-fine mode zs (record { range = is-range zs (g .list .range); small = omega (arith, g .call .small) })))
+          (fails _ _ _ _ (lt-leb (length (bytesOf mode zs)) room (omega arith)) refl)));
     }
 
 both-sent : (s : List ℕ) (x : ℤ) → Bytes s → Both (λ mode. Coded mode s (first x)) → Both (λ mode. CodeSent mode s (first x))

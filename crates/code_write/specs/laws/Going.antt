@@ -69,7 +69,9 @@ code-nil zero rlgr3 kp krp = refl
 code-nil (suc f) rlgr3 kp krp = refl
 
 -- a crude bound on the code's length: each item takes a place or more
-code-few-f : (f : ℕ) (rlgr3 : Bool) (kp krp : ℕ) (l : List ℕ) → kp ≤ 80 → krp ≤ 80 → length l ≤ 4096 → InRange l → length (codeF f rlgr3 kp krp l) ≤ length l * 131200
+code-few-f :
+    (f : ℕ) (rlgr3 : Bool) (kp krp : ℕ) (l : List ℕ) → kp ≤ 80 → krp ≤ 80 → length l ≤ 4096 → InRange l →
+    length (codeF f rlgr3 kp krp l) ≤ length l * 131200
 unfolding codeF
 code-few-f zero rlgr3 kp krp l hp hr hl r = omega arith
 code-few-f (suc f) rlgr3 kp krp [] hp hr hl r = omega arith
@@ -79,7 +81,8 @@ code-few-f (suc f) rlgr3 kp krp (x ∷ xs) hp hr hl r =
     let rest = drop (itemUsed kp it) l in
     let d = length-drop (itemUsed kp it) l in
     let s = used-some kp it in
-    let more = code-few-f f rlgr3 (itemKp kp it) (itemKrp krp it) rest (kps-next kp it hp) (krs-next krp it hr) (omega arith) (range-drop (itemUsed kp it) l r) in
+    let more =
+    code-few-f f rlgr3 (itemKp kp it) (itemKrp krp it) rest (kps-next kp it hp) (krs-next krp it hr) (omega arith) (range-drop (itemUsed kp it) l r) in
     let one = item-few kp krp it hp hr (item-good rlgr3 kp l hl r .0) in
     let a = length-append (itemBits kp krp it) (codeF f rlgr3 (itemKp kp it) (itemKrp krp it) rest) in
     let e = ap length (code-item f rlgr3 kp krp l (omega arith)) in
@@ -101,15 +104,21 @@ pub going-start : (rlgr3 : Bool) (l : List ℕ) → Going rlgr3 l [] 0 8 8
 unfolding codeOf
 going-start rlgr3 l = record { f = length l; fuel = omega arith; kps = omega arith; krs = omega arith; all = refl }
 
-module _ (rlgr3 : Bool) (l : List ℕ) (D : List Bool) (i kp krp : ℕ) (few : length l ≤ 4096) (range : InRange l) (w : Going rlgr3 l D i kp krp) (h : i < length l) (it : Item) (e : it ≡ itemOf rlgr3 kp (drop i l)) where
+module _ (rlgr3 : Bool) (l : List ℕ) (D : List Bool) (i kp krp : ℕ) (few : length l ≤ 4096) (range : InRange l) (w : Going rlgr3 l D i kp krp)
+    (h : i < length l) (it : Item) (e : it ≡ itemOf rlgr3 kp (drop i l)) where
   pub going-good : SmallItem it × FewZeros it
   going-good = rw e (item-good rlgr3 kp (drop i l) (omega (arith, length-drop i l)) (range-drop i l range))
 
   -- the code from here is the item's bits and the rest
-  rest : (g : ℕ) × (w .f ≡ suc g) × (D ++ (itemBits kp krp it ++ codeF g rlgr3 (itemKp kp it) (itemKrp krp it) (drop (itemUsed kp it) (drop i l))) ≡ codeOf rlgr3 l)
+  rest :
+      (g : ℕ) × (w .f ≡ suc g)
+      × (D ++ (itemBits kp krp it ++ codeF g rlgr3 (itemKp kp it) (itemKrp krp it) (drop (itemUsed kp it) (drop i l))) ≡ codeOf rlgr3 l)
   rest = go (w .f) (w .fuel) (w .all)
     where
-      go : (f : ℕ) → length l ≤ i + f → D ++ codeF f rlgr3 kp krp (drop i l) ≡ codeOf rlgr3 l → (g : ℕ) × (f ≡ suc g) × (D ++ (itemBits kp krp it ++ codeF g rlgr3 (itemKp kp it) (itemKrp krp it) (drop (itemUsed kp it) (drop i l))) ≡ codeOf rlgr3 l)
+      go :
+          (f : ℕ) → length l ≤ i + f → D ++ codeF f rlgr3 kp krp (drop i l) ≡ codeOf rlgr3 l →
+          (g : ℕ) × (f ≡ suc g)
+          × (D ++ (itemBits kp krp it ++ codeF g rlgr3 (itemKp kp it) (itemKrp krp it) (drop (itemUsed kp it) (drop i l))) ≡ codeOf rlgr3 l)
       go zero n a = absurd (omega arith)
       go (suc g) n a = (g, refl, rw e (ap (λ (y : List Bool). D ++ y) (sym (code-item g rlgr3 kp krp (drop i l) (omega (arith, length-drop i l)))) ∙ a))
 
@@ -127,7 +136,13 @@ module _ (rlgr3 : Bool) (l : List ℕ) (D : List Bool) (i kp krp : ℕ) (few : l
       let r = rest in
       let T = codeF (r .0) rlgr3 kq kr (drop (i + u) l) in
       let c : D ++ (itemBits kp krp it ++ T) ≡ codeOf rlgr3 l = rw (ep, er, eu, ← drop-drop (itemUsed kp it) i l) (r .2) in
-      record { f = r .0; fuel = omega (arith, w .fuel, r .1, going-used u eu .0); kps = rw ep (kps-next kp it (w .kps)); krs = rw er (krs-next krp it (w .krs)); all = append-assoc D (itemBits kp krp it) T ∙ c }
+      record {
+        f = r .0;
+        fuel = omega (arith, w .fuel, r .1, going-used u eu .0);
+        kps = rw ep (kps-next kp it (w .kps));
+        krs = rw er (krs-next krp it (w .krs));
+        all = append-assoc D (itemBits kp krp it) T ∙ c;
+      }
 
 pub going-end : (rlgr3 : Bool) (l : List ℕ) (D : List Bool) (i kp krp : ℕ) → length l ≤ i → Going rlgr3 l D i kp krp → D ≡ codeOf rlgr3 l
 going-end rlgr3 l D i kp krp h w =

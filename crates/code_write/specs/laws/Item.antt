@@ -61,17 +61,22 @@ none-past l i k h = getD-drop i l k 0 ∙ List·getD-eq-default l 0 h
 -- ---- a run's bits, part by part
 pub run-length : (kp krp z v : ℕ) → length (runBits kp krp z v) ≡ 1 + kp / 8 + 1 + grLen (krp / 8) ((v - 1) / 2)
 unfolding runBits
-run-length kp krp z v = omega (arith, length-append (numBits (kp / 8) z) (odd v ∷ grBits (krp / 8) ((v - 1) / 2)), length-numBits (kp / 8) z, length-grBits (krp / 8) ((v - 1) / 2))
+run-length kp krp z v =
+    omega
+    (arith, length-append (numBits (kp / 8) z) (odd v ∷ grBits (krp / 8) ((v - 1) / 2)), length-numBits (kp / 8) z, length-grBits (krp / 8) ((v - 1) / 2))
 
 pub run-parts : (kp krp z v : ℕ) → (((odd 1 ∷ []) ++ numBits (kp / 8) z) ++ (odd (v % 2) ∷ [])) ++ grBits (krp / 8) ((v - 1) / 2) ≡ runBits kp krp z v
 unfolding runBits
 run-parts kp krp z v =
     let o : odd (v % 2) ≡ odd v = ap (λ (r : ℕ). eqb r 1) (mod-mod v 2) in
-    ap (λ (l : List Bool). true ∷ l) (append-assoc (numBits (kp / 8) z) (odd (v % 2) ∷ []) (grBits (krp / 8) ((v - 1) / 2)) ∙ ap (λ (b : Bool). numBits (kp / 8) z ++ (b ∷ grBits (krp / 8) ((v - 1) / 2))) o)
+    ap (λ (l : List Bool). true ∷ l)
+    (append-assoc (numBits (kp / 8) z) (odd (v % 2) ∷ []) (grBits (krp / 8) ((v - 1) / 2))
+    ∙ ap (λ (b : Bool). numBits (kp / 8) z ++ (b ∷ grBits (krp / 8) ((v - 1) / 2))) o)
 
 pub pair-length : (krp a b : ℕ) → length (pairBits krp a b) ≡ grLen (krp / 8) (a + b) + size (a + b)
 unfolding pairBits
-pair-length krp a b = omega (arith, length-append (grBits (krp / 8) (a + b)) (numBits (size (a + b)) a), length-numBits (size (a + b)) a, length-grBits (krp / 8) (a + b))
+pair-length krp a b =
+    omega (arith, length-append (grBits (krp / 8) (a + b)) (numBits (size (a + b)) a), length-numBits (size (a + b)) a, length-grBits (krp / 8) (a + b))
 
 pub pair-parts : (krp a b n : ℕ) → n ≡ size (a + b) → grBits (krp / 8) (a + b) ++ numBits n a ≡ pairBits krp a b
 unfolding pairBits

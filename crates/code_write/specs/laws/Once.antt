@@ -53,14 +53,22 @@ done-writes mode zs room e =
     let c = called mode (length zs) (a .0) in
     let f = fine mode zs (b .0) in
     let r = held (leb (length (bytesOf mode zs)) room) 13 0 0 (λ z. omega arith) (b .1) in
-    record { allowed = c .allowed; list = record { len = c .long; range = range-is zs (f .range) }; small = f .small; fits = leb-true (length (bytesOf mode zs)) room (r .0) }
+    record {
+      allowed = c .allowed;
+      list = record { len = c .long; range = range-is zs (f .range) };
+      small = f .small;
+      fits = leb-true (length (bytesOf mode zs)) room (r .0);
+    }
 
 -- ---- (b) what is written is read back as the list, and what is read is what would be written
 
 pub written-exactly : (mode : ℕ) (zs before : List ℤ) (room : ℕ) → Writes mode zs room → length before ≡ 4096 → Exactly mode (bytesOf mode zs) before zs
-written-exactly mode zs before room w l = record { call = record { allowed = w .allowed; room = l; small = w .small }; list = w .list; bytes = bytes-written mode zs }
+written-exactly mode zs before room w l =
+    record { call = record { allowed = w .allowed; room = l; small = w .small }; list = w .list; bytes = bytes-written mode zs }
 
-pub written-read : (mode : ℕ) (zs before : List ℤ) (room : ℕ) → Writes mode zs room → length before ≡ 4096 → (reading mode (length before) (bytesOf mode zs) ≡ Read (length (code mode zs))) × (readInto mode (bytesOf mode zs) before ≡ zs)
+pub written-read :
+    (mode : ℕ) (zs before : List ℤ) (room : ℕ) → Writes mode zs room → length before ≡ 4096 →
+    (reading mode (length before) (bytesOf mode zs) ≡ Read (length (code mode zs))) × (readInto mode (bytesOf mode zs) before ≡ zs)
 written-read mode zs before room w l = exactly-answers mode (bytesOf mode zs) before zs (written-exactly mode zs before room w l)
 
 -- bytes that the reader takes are those of the list it hands back
@@ -89,7 +97,12 @@ some-code : (f : ℕ) (rlgr3 : Bool) (kp krp : ℕ) (l : List ℕ) → 0 < f →
 some-code zero rlgr3 kp krp l h k = absurd (omega arith)
 some-code (suc f) rlgr3 kp krp l h k =
     let it = itemOf rlgr3 kp l in
-    omega (arith, ap length (code-item f rlgr3 kp krp l k), length-append (itemBits kp krp it) (codeF f rlgr3 (itemKp kp it) (itemKrp krp it) (drop (itemUsed kp it) l)), some-bits kp krp it)
+    omega (
+      arith,
+      ap length (code-item f rlgr3 kp krp l k),
+      length-append (itemBits kp krp it) (codeF f rlgr3 (itemKp kp it) (itemKrp krp it) (drop (itemUsed kp it) l)),
+      some-bits kp krp it,
+    )
 
 -- no list's code is empty, so a done answer says a length that no refusal says
 some-bytes : (mode : ℕ) (zs : List ℤ) → length zs ≡ 4096 → 0 < length (bytesOf mode zs)
@@ -101,5 +114,6 @@ some-bytes mode zs l =
 some-written : (mode : ℕ) (zs : List ℤ) (room : ℕ) → writeFault mode zs room ≡ 0 → 0 < length (bytesOf mode zs)
 some-written mode zs room e = some-bytes mode zs (done-writes mode zs room e .list .len)
 
-pub write-once : (mode : ℕ) (zs : List ℤ) (out a b : List ℕ) (r q : Writing) → ComponentWritten mode zs out a r → ComponentWritten mode zs out b q → (r ≡ q) × (a ≡ b)
+pub write-once :
+    (mode : ℕ) (zs : List ℤ) (out a b : List ℕ) (r q : Writing) → ComponentWritten mode zs out a r → ComponentWritten mode zs out b q → (r ≡ q) × (a ≡ b)
 write-once mode zs out a b r q x y = wrote-once _ _ out a b r q (some-written mode zs (length out)) x y

@@ -24,14 +24,16 @@ value-bits [] k acc = let e : k + 0 ≡ k = omega arith in ap (λ (n : ℕ). num
 value-bits (b ∷ bs) k acc =
     let e : k + suc (length bs) ≡ suc k + length bs = omega arith in
     let n = acc * 2 + val b in
-    ap (λ (m : ℕ). numBits m (value n bs)) e ∙ value-bits bs (suc k) n ∙ ap (λ (l : List Bool). l ++ bs) (numBits-snoc k acc (val b) (val-lt b)) ∙ append-assoc (numBits k acc) (odd (val b) ∷ []) bs ∙ ap (λ (c : Bool). numBits k acc ++ (c ∷ bs)) (odd-val b)
+    ap (λ (m : ℕ). numBits m (value n bs)) e ∙ value-bits bs (suc k) n ∙ ap (λ (l : List Bool). l ++ bs) (numBits-snoc k acc (val b) (val-lt b))
+    ∙ append-assoc (numBits k acc) (odd (val b) ∷ []) bs ∙ ap (λ (c : Bool). numBits k acc ++ (c ∷ bs)) (odd-val b)
 
 value-lt : (bs : List Bool) (acc : ℕ) → value acc bs < (acc + 1) * 2 ^ length bs
 unfolding value
 value-lt [] acc = omega arith
 value-lt (b ∷ bs) acc =
     lt-of-lt-of-le (value-lt bs (acc * 2 + val b))
-    (rw (pow-suc 2 (length bs), mul-comm (2 ^ length bs) 2, ← mul-assoc (acc + 1) 2 (2 ^ length bs)) (mul-le-mul-right (2 ^ length bs) (omega (arith, val-lt b))))
+    (rw (pow-suc 2 (length bs), mul-comm (2 ^ length bs) 2, ← mul-assoc (acc + 1) 2 (2 ^ length bs))
+    (mul-le-mul-right (2 ^ length bs) (omega (arith, val-lt b))))
 
 no-bits : numBits 0 0 ≡ []
 unfolding numBits
@@ -44,7 +46,8 @@ eights-bits zero (b ∷ bs) h = absurd (omega arith)
 eights-bits (suc n) bs h =
     let t : length (take 8 bs) ≡ 8 = length-take 8 bs ∙ omega arith in
     let e : 8 ≡ 0 + length (take 8 bs) = omega arith in
-    let v : numBits 8 (value 0 (take 8 bs)) ≡ take 8 bs = ap (λ (m : ℕ). numBits m (value 0 (take 8 bs))) e ∙ value-bits (take 8 bs) 0 0 ∙ ap (λ (l : List Bool). l ++ take 8 bs) no-bits in
+    let v : numBits 8 (value 0 (take 8 bs)) ≡ take 8 bs =
+    ap (λ (m : ℕ). numBits m (value 0 (take 8 bs))) e ∙ value-bits (take 8 bs) 0 0 ∙ ap (λ (l : List Bool). l ++ take 8 bs) no-bits in
     ap₂ (λ (x y : List Bool). x ++ y) v (eights-bits n (drop 8 bs) (length-drop 8 bs ∙ omega arith)) ∙ take-append-drop 8 bs
 
 eights-length : (n : ℕ) (bs : List Bool) → length (eights n bs) ≡ n

@@ -101,7 +101,8 @@ pub range-next : (zs : List ℤ) (i : ℕ) (good n : Bool) → i < length zs →
     (good && allInRange (drop i zs)) ≡ ((good && n) && allInRange (drop (i + 1) zs))
 unfolding allInRange
 range-next zs i good n h e =
-    rw (drop-cons zs i (pos 0) h, add-one i) (ap (λ (b : Bool). good && b) (and-row _ _ ∙ ap (λ (b : Bool). b && allInRange (drop (suc i) zs)) e) ∙ and-three good n _)
+    rw (drop-cons zs i (pos 0) h, add-one i)
+    (ap (λ (b : Bool). good && b) (and-row _ _ ∙ ap (λ (b : Bool). b && allInRange (drop (suc i) zs)) e) ∙ and-three good n _)
 
 pub range-past : (zs : List ℤ) (i : ℕ) (good : Bool) → length zs ≤ i → good ≡ (good && allInRange (drop i zs))
 unfolding allInRange
@@ -178,7 +179,8 @@ module _ (mode : ℕ) (zs : List ℤ) (o : List ℕ) (at : ℕ) (fits : at + len
       put-closed =
           let B = bytesOf mode zs in
           let long : length o2 ≡ length o = closed .long ∙ put .long in
-          let m : min r (length o) ≡ at + length B = omega (arith, long, ap length front, length-take r o2, length-append (take at o) B, length-take-le at o (omega arith)) in
+          let m : min r (length o) ≡ at + length B =
+          omega (arith, long, ap length front, length-take r o2, length-append (take at o) B, length-take-le at o (omega arith)) in
           let past : drop r o2 ≡ drop r o = closed .rest ∙ later (q .at) r o1 o (omega (arith, m, put .place, bytes-length mode zs)) (put .rest) in
           let tail : drop r o2 ≡ drop (at + length B) o = past ∙ drop-min r o ∙ ap (λ (k : ℕ). drop k o) m in
           sym (take-append-drop r o2) ∙ ap₂ (λ (x y : List ℕ). x ++ y) front tail ∙ append-assoc (take at o) B (drop (at + length B) o)
@@ -266,10 +268,17 @@ module _ (mode : ℕ) (zs : List ℤ) (out : List ℕ) where
     unfolding writeFault
     write-room h l =
         let k = m .size h in
-        refused _ 13 _ out (goes-on _ _ _ (sym c ∙ z) (goes-on _ _ _ (sym (m .number) ∙ h) (fails _ _ _ _ (lt-leb (length (bytesOf mode zs)) (length out) (omega arith)) refl))) (λ y. omega arith)
+        refused _ 13 _ out
+        (goes-on _ _ _ (sym c ∙ z)
+        (goes-on _ _ _ (sym (m .number) ∙ h) (fails _ _ _ _ (lt-leb (length (bytesOf mode zs)) (length out) (omega arith)) refl))) (λ y. omega arith)
 
-    pub write-done : s .number ≡ 0 → s .size ≤ length out → (out′ : List ℕ) (k : ℕ) → out′ ≡ patch out 0 (bytesOf mode zs) → k ≡ 0 + length (bytesOf mode zs) → Wrote (writeFault mode zs (length out)) (bytesOf mode zs) out out′ (Done k)
+    pub write-done :
+        s .number ≡ 0 → s .size ≤ length out → (out′ : List ℕ) (k : ℕ) → out′ ≡ patch out 0 (bytesOf mode zs) → k ≡ 0 + length (bytesOf mode zs) →
+        Wrote (writeFault mode zs (length out)) (bytesOf mode zs) out out′ (Done k)
     unfolding writeFault
     write-done h l out′ k p e =
         let n = m .size h in
-        done _ k _ out out′ (goes-on _ _ _ (sym c ∙ z) (goes-on _ _ _ (sym (m .number) ∙ h) (passes _ _ _ _ (le-leb (length (bytesOf mode zs)) (length out) (omega arith)) refl))) (e ∙ omega arith) (p ∙ patch-front out (bytesOf mode zs))
+        done _ k _ out out′
+        (goes-on _ _ _ (sym c ∙ z)
+        (goes-on _ _ _ (sym (m .number) ∙ h) (passes _ _ _ _ (le-leb (length (bytesOf mode zs)) (length out) (omega arith)) refl))) (e ∙ omega arith)
+        (p ∙ patch-front out (bytesOf mode zs))

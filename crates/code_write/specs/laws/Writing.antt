@@ -41,17 +41,21 @@ module _ (rlgr3 : Bool) (xs : List ℤ) (few : length xs ≤ 4096) (range : InRa
   pub list-few : length (codeOf rlgr3 (map foldZ xs)) ≤ 4096 * 131200
   list-few = omega (arith, code-few rlgr3 (map foldZ xs) few-l range, few-l)
 
-  module _ (D : List Bool) (i kp krp : ℕ) (w : Going rlgr3 (map foldZ xs) D i kp krp) (h : i < length xs) (it : Item) (e : it ≡ itemOf rlgr3 kp (drop i (map foldZ xs))) where
+  module _ (D : List Bool) (i kp krp : ℕ) (w : Going rlgr3 (map foldZ xs) D i kp krp) (h : i < length xs) (it : Item)
+      (e : it ≡ itemOf rlgr3 kp (drop i (map foldZ xs))) where
     turn-of : Turn kp it
     turn-of =
         let g = going-good rlgr3 (map foldZ xs) D i kp krp few-l range w (omega (arith, length-map xs foldZ)) it e in
-        record { small = g .0; few = g .1; used = λ u eu. going-used rlgr3 (map foldZ xs) D i kp krp few-l range w (omega (arith, length-map xs foldZ)) it e u eu }
+        record
+        { small = g .0; few = g .1; used = λ u eu. going-used rlgr3 (map foldZ xs) D i kp krp few-l range w (omega (arith, length-map xs foldZ)) it e u eu }
 
   module _ (before : List ℕ) (p : Pen) (ready : Ready (length before) p (length (codeOf rlgr3 (map foldZ xs)))) where
     pub writing-start : Writing rlgr3 (map foldZ xs) before p before p 0 8 8
-    writing-start = record { D = []; going = going-start rlgr3 (map foldZ xs); put = put-none before p (length before) (length (codeOf rlgr3 (map foldZ xs))) ready }
+    writing-start =
+        record { D = []; going = going-start rlgr3 (map foldZ xs); put = put-none before p (length before) (length (codeOf rlgr3 (map foldZ xs))) ready }
 
-    module _ (out : List ℕ) (q : Pen) (i kp krp : ℕ) (w : Writing rlgr3 (map foldZ xs) before p out q i kp krp) (h : i < length xs) (it : Item) (e : it ≡ itemOf rlgr3 kp (drop i (map foldZ xs))) where
+    module _ (out : List ℕ) (q : Pen) (i kp krp : ℕ) (w : Writing rlgr3 (map foldZ xs) before p out q i kp krp) (h : i < length xs) (it : Item)
+        (e : it ≡ itemOf rlgr3 kp (drop i (map foldZ xs))) where
       pub writing-turn : Turn kp it
       writing-turn = turn-of (w .D) i kp krp (w .going) h it e
 
@@ -60,27 +64,35 @@ module _ (rlgr3 : Bool) (xs : List ℤ) (few : length xs ≤ 4096) (range : InRa
           ready-after before out p q (length (codeOf rlgr3 (map foldZ xs))) (length (itemBits kp krp it)) (w .D) ready (w .put)
           (going-fits rlgr3 (map foldZ xs) (w .D) i kp krp few-l range (w .going) (omega (arith, length-map xs foldZ)) it e)
 
-      pub writing-next : (new : List ℕ) (s : Pen) (u kq kr : ℕ) → Put out q new s (itemBits kp krp it) → u ≡ itemUsed kp it → kq ≡ itemKp kp it → kr ≡ itemKrp krp it → Writing rlgr3 (map foldZ xs) before p new s (i + u) kq kr
+      pub writing-next :
+          (new : List ℕ) (s : Pen) (u kq kr : ℕ) → Put out q new s (itemBits kp krp it) → u ≡ itemUsed kp it → kq ≡ itemKp kp it → kr ≡ itemKrp krp it →
+          Writing rlgr3 (map foldZ xs) before p new s (i + u) kq kr
       writing-next new s u kq kr t eu ep er = record {
         D = w .D ++ itemBits kp krp it;
         going = going-next rlgr3 (map foldZ xs) (w .D) i kp krp few-l range (w .going) (omega (arith, length-map xs foldZ)) it e u kq kr eu ep er;
         put = put-more before out new p q s (w .D) (itemBits kp krp it) (w .put) t;
       }
 
-    pub writing-end : (out : List ℕ) (q : Pen) (i kp krp : ℕ) → length xs ≤ i → Writing rlgr3 (map foldZ xs) before p out q i kp krp → Put before p out q (codeOf rlgr3 (map foldZ xs))
+    pub writing-end :
+        (out : List ℕ) (q : Pen) (i kp krp : ℕ) → length xs ≤ i → Writing rlgr3 (map foldZ xs) before p out q i kp krp →
+        Put before p out q (codeOf rlgr3 (map foldZ xs))
     writing-end out q i kp krp h w = rw (← going-end rlgr3 (map foldZ xs) (w .D) i kp krp (omega (arith, length-map xs foldZ)) (w .going)) (w .put)
 
   pub sizing-start : Sizing rlgr3 (map foldZ xs) 0 0 8 8
   sizing-start = record { D = []; going = going-start rlgr3 (map foldZ xs); is = refl }
 
-  module _ (n i kp krp : ℕ) (w : Sizing rlgr3 (map foldZ xs) n i kp krp) (h : i < length xs) (it : Item) (e : it ≡ itemOf rlgr3 kp (drop i (map foldZ xs))) where
+  module _ (n i kp krp : ℕ) (w : Sizing rlgr3 (map foldZ xs) n i kp krp) (h : i < length xs) (it : Item)
+      (e : it ≡ itemOf rlgr3 kp (drop i (map foldZ xs))) where
     pub sizing-turn : Turn kp it
     sizing-turn = turn-of (w .D) i kp krp (w .going) h it e
 
     pub sizing-few : (m : ℕ) → m ≡ length (itemBits kp krp it) → n + m ≤ 4096 * 131200
-    sizing-few m em = omega (arith, w .is, list-few, going-fits rlgr3 (map foldZ xs) (w .D) i kp krp few-l range (w .going) (omega (arith, length-map xs foldZ)) it e)
+    sizing-few m em =
+        omega (arith, w .is, list-few, going-fits rlgr3 (map foldZ xs) (w .D) i kp krp few-l range (w .going) (omega (arith, length-map xs foldZ)) it e)
 
-    pub sizing-next : (m u kq kr : ℕ) → m ≡ length (itemBits kp krp it) → u ≡ itemUsed kp it → kq ≡ itemKp kp it → kr ≡ itemKrp krp it → Sizing rlgr3 (map foldZ xs) (n + m) (i + u) kq kr
+    pub sizing-next :
+        (m u kq kr : ℕ) → m ≡ length (itemBits kp krp it) → u ≡ itemUsed kp it → kq ≡ itemKp kp it → kr ≡ itemKrp krp it →
+        Sizing rlgr3 (map foldZ xs) (n + m) (i + u) kq kr
     sizing-next m u kq kr em eu ep er = record {
       D = w .D ++ itemBits kp krp it;
       going = going-next rlgr3 (map foldZ xs) (w .D) i kp krp few-l range (w .going) (omega (arith, length-map xs foldZ)) it e u kq kr eu ep er;
@@ -89,5 +101,6 @@ module _ (rlgr3 : Bool) (xs : List ℤ) (few : length xs ≤ 4096) (range : InRa
 
   pub sizing-end : (n i kp krp : ℕ) → length xs ≤ i → Sizing rlgr3 (map foldZ xs) n i kp krp → (n ≡ length (codeOf rlgr3 (map foldZ xs))) × (n ≤ 4096 * 131200)
   sizing-end n i kp krp h w =
-      let e : n ≡ length (codeOf rlgr3 (map foldZ xs)) = w .is ∙ ap length (going-end rlgr3 (map foldZ xs) (w .D) i kp krp (omega (arith, length-map xs foldZ)) (w .going)) in
+      let e : n ≡ length (codeOf rlgr3 (map foldZ xs)) =
+      w .is ∙ ap length (going-end rlgr3 (map foldZ xs) (w .D) i kp krp (omega (arith, length-map xs foldZ)) (w .going)) in
       (e, omega (arith, list-few))

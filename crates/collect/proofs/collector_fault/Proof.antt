@@ -5,9 +5,6 @@ use borrow.Author.Needs.{needs}
 use Rattle.collect.proofs.collector_fault.Statement.{statement}
 use Rattle.collect.proofs.collector_fault.Tie as tie
 
-is-made-requires : tie.Need-is-made-requires
-is-made-requires c κs = search needs
-
 returns : tie.Need-returns
 unfolding collectorFault
 returns c = search (rows, stops, goes-on) depth 14 fits 20000
@@ -29,5 +26,4 @@ unfolding collectorFault
 returns-5 c = search (rows, stops, goes-on) depth 14 fits 20000
 
 pub collector-fault-spec : {M : Type 1} → statement M
-collector-fault-spec =
-    tie.close (tie.spec is-made-requires returns returns-2 returns-3 returns-4 returns-5)
+collector-fault-spec = tie.close (tie.spec (λ c κs. search needs) returns returns-2 returns-3 returns-4 returns-5)

@@ -25,13 +25,9 @@ returns-5 : tie.Need-returns-5
 unfolding madeGathering
 returns-5 c = search rows depth 14 fits 20000
 
-may-end-requires : tie.Need-may-end-requires
-may-end-requires c κs = search needs
-
 returns-6 : tie.Need-returns-6
 unfolding madeGathering
 returns-6 c = search rows depth 14 fits 20000
 
 pub is-gathering-spec : {M : Type 1} → statement M
-is-gathering-spec =
-    tie.close (tie.spec returns returns-2 returns-3 returns-4 returns-5 may-end-requires returns-6)
+is-gathering-spec = tie.close (tie.spec returns returns-2 returns-3 returns-4 returns-5 (λ c κs. search needs) returns-6)

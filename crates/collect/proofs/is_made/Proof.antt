@@ -5,19 +5,13 @@ use borrow.Author.Needs.{needs}
 use Rattle.collect.proofs.is_made.Statement.{statement}
 use Rattle.collect.proofs.is_made.Tie as tie
 
-is-waiting-requires : tie.Need-is-waiting-requires
-is-waiting-requires c κs = search needs
-
 returns : tie.Need-returns
 unfolding collectorMade
 returns c = search rows
-
-is-gathering-requires : tie.Need-is-gathering-requires
-is-gathering-requires c κs = search needs
 
 returns-2 : tie.Need-returns-2
 unfolding collectorMade
 returns-2 c = search rows
 
 pub is-made-spec : {M : Type 1} → statement M
-is-made-spec = tie.close (tie.spec is-waiting-requires returns is-gathering-requires returns-2)
+is-made-spec = tie.close (tie.spec (λ c κs. search needs) returns (λ c κs. search needs) returns-2)

@@ -9,9 +9,6 @@ returns : tie.Need-returns
 unfolding mayEnd
 returns c = search rows
 
-sub-result : tie.Need-sub-result
-sub-result c = search needs
-
 returns-2 : tie.Need-returns-2
 unfolding mayEnd
 returns-2 c = search rows
@@ -19,9 +16,6 @@ returns-2 c = search rows
 returns-3 : tie.Need-returns-3
 unfolding mayEnd
 returns-3 c = search rows
-
-sub-result-2 : tie.Need-sub-result-2
-sub-result-2 c = search needs
 
 returns-4 : tie.Need-returns-4
 unfolding mayEnd
@@ -40,15 +34,4 @@ unfolding mayEnd
 returns-7 c = search rows
 
 pub may-end-spec : {M : Type 1} → statement M
-may-end-spec =
-    tie.close
-    (tie.spec
-    returns
-    sub-result
-    returns-2
-    returns-3
-    sub-result-2
-    returns-4
-    returns-5
-    returns-6
-    returns-7)
+may-end-spec = tie.close (tie.spec returns (λ c. search needs) returns-2 returns-3 (λ c. search needs) returns-4 returns-5 returns-6 returns-7)

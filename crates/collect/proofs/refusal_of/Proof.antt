@@ -9,12 +9,9 @@ returns : tie.Need-returns
 unfolding refusalOf
 returns c = search rows
 
-head-fault-requires : tie.Need-head-fault-requires
-head-fault-requires c κs = search needs
-
 returns-2 : tie.Need-returns-2
 unfolding refusalOf
 returns-2 c = search rows
 
 pub refusal-of-spec : {M : Type 1} → statement M
-refusal-of-spec = tie.close (tie.spec returns head-fault-requires returns-2)
+refusal-of-spec = tie.close (tie.spec returns (λ c κs. search needs) returns-2)

@@ -16,7 +16,8 @@ use Rattle.whole.specs.laws.Row.{case-yes, case-no}
 use Rattle.collect.specs.declared.Collector.{Collector}
 use Rattle.collect.specs.declared.Collected.{Collected}
 use Rattle.collect.specs.declared.Collected.the-variants.{More, Header, Frame}
-use Rattle.collect.specs.Collect.{HandOver, inFrame, atEnd, waiting, fresh, gathering, joined, headBytes, typeOf, lenOf, headFault, partAfter, state, step, took, settled, gathered, headDone, byte, goesOn, walk, collectOf}
+use Rattle.collect.specs.Collect.{HandOver, inFrame, atEnd, waiting, fresh, gathering, joined, headBytes, typeOf, lenOf, headFault, partAfter, state}
+use Rattle.collect.specs.Collect.{step, took, settled, gathered, headDone, byte, goesOn, walk, collectOf}
 use Rattle.collect.specs.laws.Made.{good-head, takes, open-fresh}
 use Rattle.collect.specs.laws.Byte.{bytes-length, bytes-joined, six-bytes}
 use Rattle.collect.specs.laws.Walk.{followed, followed-none, walk-append, walk-first, walk-on, walk-through, stops-at, goes-settled, block-part}
@@ -176,7 +177,8 @@ block-whole :
     → Known b
     → held + length (blockBytes b) ≤ length store
     → walk (state (waiting part held 0 0) store) n (blockBytes b)
-    ≡ took (n + length (blockBytes b)) (settled (partAfter part (b .kind)) (held + length (blockBytes b)) (held + length (blockBytes b)) (patch store held (blockBytes b)))
+    ≡ took (n + length (blockBytes b))
+    (settled (partAfter part (b .kind)) (held + length (blockBytes b)) (held + length (blockBytes b)) (patch store held (blockBytes b)))
 block-whole p h n store b k l =
     let size = 6 + length (b .body) in
     let d = headOf (b .kind) size in
@@ -240,7 +242,8 @@ pub alone-handed :
     → (b .kind ≡ 0xCCC4 → ⊥)
     → length (blockBytes b) ≤ length store
     → collectOf (state fresh store) (blockBytes b ++ more)
-    ≡ took (length (blockBytes b)) (step fresh (patch store 0 (blockBytes b)) (leb (b .kind) 0xCCC3 ⇒ Header (length (blockBytes b)) ∣ Frame (length (blockBytes b))))
+    ≡ took (length (blockBytes b))
+    (step fresh (patch store 0 (blockBytes b)) (leb (b .kind) 0xCCC3 ⇒ Header (length (blockBytes b)) ∣ Frame (length (blockBytes b))))
 alone-handed store more b k z l =
     let n = length (blockBytes b) in
     let out = patch store 0 (blockBytes b) in
@@ -315,7 +318,8 @@ end-walk :
     → 6 + length last < 4294967296
     → held + length (blockBytes (closes last)) ≤ length store
     → walk (state (waiting 3 held 0 0) store) held (blockBytes (closes last))
-    ≡ took (held + length (blockBytes (closes last))) (step fresh (patch store held (blockBytes (closes last))) (Frame (held + length (blockBytes (closes last)))))
+    ≡ took (held + length (blockBytes (closes last)))
+    (step fresh (patch store held (blockBytes (closes last))) (Frame (held + length (blockBytes (closes last)))))
 unfolding partAfter _⇒_∣_
 end-walk h store last s l =
     let b = closes last in

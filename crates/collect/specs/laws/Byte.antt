@@ -16,8 +16,10 @@ use Rattle.whole.specs.laws.Row.{passes, stops}
 use Rattle.collect.specs.declared.Collector.{Collector}
 use Rattle.collect.specs.declared.Collected.{Collected}
 use Rattle.collect.specs.declared.Collected.the-variants.{More, Header, Frame, Refused}
-use Rattle.collect.specs.Collect.{State, Step, fresh, waiting, gathering, refusing, joined, headBytes, typeOf, lenOf, headFault, partAfter, step, settled, headDone, headByte, byte, collectorMade, collectorFault}
-use Rattle.collect.specs.laws.Made.{by-case, head-good, same-refusal, Ends, ends-on, Between, some, head-ends, Open, opened, takes, waits, gathers, made-waiting, made-refusing, made-gathering, open-fresh}
+use Rattle.collect.specs.Collect.{State, Step, fresh, waiting, gathering, refusing, joined, headBytes, typeOf, lenOf, headFault, partAfter, step}
+use Rattle.collect.specs.Collect.{settled, headDone, headByte, byte, collectorMade, collectorFault}
+use Rattle.collect.specs.laws.Made.{by-case, head-good, same-refusal, Ends, ends-on, Between, some, head-ends, Open, opened, takes, waits, gathers}
+use Rattle.collect.specs.laws.Made.{made-waiting, made-refusing, made-gathering, open-fresh}
 
 -- ---- the head's bytes
 

@@ -3,7 +3,8 @@
 use mathlib.Core.Path.{refl}
 use Rattle.wire.specs.Le.{patch}
 use Rattle.whole.specs.Row.{_!_⨾_, _⇒_∣_, _⨟_}
-use Rattle.collect.specs.Collect.{joined, headBytes, headFault, partAfter, settled, headDone, headByte, byte, between, refusalOf, madeWaiting, mayEnd, madeGathering, collectorMade, collectorFault, walk, collectOf}
+use Rattle.collect.specs.Collect.{joined, headBytes, headFault, partAfter, settled, headDone, headByte, byte, between, refusalOf, madeWaiting, mayEnd}
+use Rattle.collect.specs.Collect.{madeGathering, collectorMade, collectorFault, walk, collectOf}
 use Rattle.collect.specs.Cases.{Cases}
 
 pub cases : Cases

@@ -15,7 +15,8 @@ use Rattle.wire.specs.laws.Le.{patch-next, patch-length}
 use Rattle.whole.specs.laws.Row.{case-yes, case-no}
 use Rattle.collect.specs.declared.Collector.{Collector}
 use Rattle.collect.specs.declared.Collected.the-variants.{More, Refused}
-use Rattle.collect.specs.Collect.{State, HandOver, waiting, refusing, joined, typeOf, lenOf, headFault, partAfter, state, step, took, settled, headDone, headByte, byte, goesOn, walk, collectOf, collectorFault}
+use Rattle.collect.specs.Collect.{State, HandOver, waiting, refusing, joined, typeOf, lenOf, headFault, partAfter, state, step, took, settled}
+use Rattle.collect.specs.Collect.{headDone, headByte, byte, goesOn, walk, collectOf, collectorFault}
 use Rattle.collect.specs.laws.Made.{ends-on, opened, waits, gathers, same-waiting}
 use Rattle.collect.specs.laws.Byte.{six-bytes, settled-right, done-right, byte-right}
 use Rattle.collect.specs.laws.Walk.{followed, walk-first, walk-append, block-part, right-goes}

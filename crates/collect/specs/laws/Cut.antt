@@ -12,7 +12,8 @@ use borrow.Author.Tests.{eq-eqb, ne-eqb}
 use Rattle.whole.specs.laws.Row.{case-yes, case-no}
 use Rattle.collect.specs.declared.Collected.{Collected}
 use Rattle.collect.specs.declared.Collected.the-variants.{More, Header, Frame, Refused}
-use Rattle.collect.specs.Collect.{State, Step, HandOver, Part, state, step, took, byte, collectorMade, collectorFault, goesOn, walk, collectOf, handedOn, partsOf, feed, handed}
+use Rattle.collect.specs.Collect.{State, Step, HandOver, Part, state, step, took, byte, collectorMade, collectorFault, goesOn, walk, collectOf}
+use Rattle.collect.specs.Collect.{handedOn, partsOf, feed, handed}
 use Rattle.collect.specs.laws.Made.{by-case}
 use Rattle.collect.specs.laws.Byte.{Says, Right, byte-right}
 use Rattle.collect.specs.laws.Walk.{walk-first, followed-none, right-goes}

@@ -8,7 +8,8 @@ use lib.ListN.{length, take, length-append}
 use lib.Seq.{take-at, length-take-le}
 use borrow.Author.Tests.{ltb-false, eqb-true, eqb-false}
 use Rattle.wire.specs.Le.{patch}
-use Rattle.collect.specs.Collect.{State, Step, Part, joined, headBytes, typeOf, lenOf, headFault, partAfter, settled, headDone, headByte, byte, collectorFault, partsOf}
+use Rattle.collect.specs.Collect.{State, Step, Part, joined, headBytes, typeOf, lenOf, headFault, partAfter, settled, headDone, headByte, byte}
+use Rattle.collect.specs.Collect.{collectorFault, partsOf}
 use Rattle.collect.specs.laws.Made.{by-case, head-good, opened, waits, gathers}
 use Rattle.collect.specs.laws.Byte.{bytes-length, bytes-joined}
 use Rattle.collect.specs.Request.{flat, unhanded}

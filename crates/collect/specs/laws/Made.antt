@@ -10,7 +10,8 @@ use borrow.Author.Tests.{ltb-true, ltb-false, leb-true, eqb-true, eqb-false, lt-
 use Rattle.whole.specs.Row.{_!_⨾_, _⇒_∣_}
 use Rattle.whole.specs.laws.Row.{passes, fails, held, case-yes, case-no, case-is, case-not, goes-on, both}
 use Rattle.collect.specs.declared.Collector.{Collector}
-use Rattle.collect.specs.Collect.{inFrame, atEnd, outside, waiting, fresh, gathering, refusing, typeOf, lenOf, headFault, partAfter, between, refusalOf, madeWaiting, mayEnd, madeGathering, collectorMade, collectorFault}
+use Rattle.collect.specs.Collect.{inFrame, atEnd, outside, waiting, fresh, gathering, refusing, typeOf, lenOf, headFault, partAfter, between}
+use Rattle.collect.specs.Collect.{refusalOf, madeWaiting, mayEnd, madeGathering, collectorMade, collectorFault}
 
 -- ---- cases
 

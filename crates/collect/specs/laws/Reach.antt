@@ -13,8 +13,10 @@ use Rattle.whole.specs.Row.{_⇒_∣_}
 use Rattle.whole.specs.laws.Row.{held}
 use Rattle.collect.specs.declared.Collector.{Collector}
 use Rattle.collect.specs.declared.Collected.the-variants.{More}
-use Rattle.collect.specs.Collect.{HandOver, inFrame, waiting, fresh, gathering, refusing, headBytes, headFault, partAfter, state, step, took, settled, collectorMade, walk}
-use Rattle.collect.specs.laws.Made.{head-good, none-good, same-refusal, Ends, begin, later, alone, Between, none, some, takes, open-fresh, Heads, heads, no-refusal, some-refusal, gathers, same-waiting, same-refusing, same-gathering}
+use Rattle.collect.specs.Collect.{HandOver, inFrame, waiting, fresh, gathering, refusing, headBytes, headFault, partAfter, state, step, took, settled}
+use Rattle.collect.specs.Collect.{collectorMade, walk}
+use Rattle.collect.specs.laws.Made.{head-good, none-good, same-refusal, Ends, begin, later, alone, Between, none, some, takes, open-fresh, Heads}
+use Rattle.collect.specs.laws.Made.{heads, no-refusal, some-refusal, gathers, same-waiting, same-refusing, same-gathering}
 use Rattle.collect.specs.laws.Byte.{bytes-length}
 use Rattle.collect.specs.laws.Block.{Fits, headOf, settled-waits, walk-none, head-walk, head-whole, block-begun}
 use Rattle.collect.specs.laws.Walk.{walk-through, settled-goes}

@@ -40,7 +40,8 @@ answer-is s t (frame c) k =
 
 after-is : (s t : State) (c : Call) → Step s c t → t ≡ after s (asked c)
 after-is s t (header c) k =
-    state-is (k .left ∙ ap₂ headerRecord (c .promise ∙ ap (λ (x : Session). headerReading x (c .message)) (k .given)) (k .given)) (k .word-kept) (k .picture-kept)
+    state-is (k .left ∙ ap₂ headerRecord (c .promise ∙ ap (λ (x : Session). headerReading x (c .message)) (k .given)) (k .given)) (k .word-kept)
+    (k .picture-kept)
 after-is s t (frame c) k =
     state-is (k .session-kept) (k .word-kept)
     (k .left ∙ c .promise .picture

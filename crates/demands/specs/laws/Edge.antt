@@ -33,7 +33,15 @@ pub frame-is : (c : CReadFrame) → (c .number ≡ frameReadingNumber (as-frame 
 frame-is c = (c .promise .number, c .promise .count)
 
 abbrev pub as-read : CReadComponent → ReadComponent
-as-read c = record { mode = c .mode; bytes = c .bytes; list = c .list; list′ = c .list′; answer = reading (c .mode) (length (c .list)) (c .bytes); promise = c .promise .list }
+as-read c =
+    record {
+      mode = c .mode;
+      bytes = c .bytes;
+      list = c .list;
+      list′ = c .list′;
+      answer = reading (c .mode) (length (c .list)) (c .bytes);
+      promise = c .promise .list;
+    }
 
 pub read-is : (c : CReadComponent) → (c .number ≡ readingNumber (as-read c .answer)) × (c .bits ≡ readingBits (as-read c .answer))
 read-is c = (c .promise .number, c .promise .long)
@@ -89,7 +97,8 @@ as-send c = record {
   scratch′ = c .scratch′;
   out′ = c .out′;
   answer = answerOf (sendNumber c) (pictureFrame (c .index) (c .width) (c .height) (c .mode) (c .quant) (c .pixels));
-  promise = record { wrote = as-wrote _ _ (c .out) (c .out′) (c .size) (c .number) (c .promise .wrote); first = c .promise .first; second = c .promise .second };
+  promise =
+      record { wrote = as-wrote _ _ (c .out) (c .out′) (c .size) (c .number) (c .promise .wrote); first = c .promise .first; second = c .promise .second };
 }
 
 pub send-is : (c : CWriteFrame) → (c .number ≡ writingNumber (as-send c .answer)) × (c .size ≡ writingLength (as-send c .answer))

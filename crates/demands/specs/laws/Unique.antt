@@ -26,7 +26,8 @@ pub frame-read-once :
     c .y ≡ d .y → c .cb ≡ d .cb → c .cr ≡ d .cr → c .scratch ≡ d .scratch →
     (c .answer ≡ d .answer) × (c .picture′ ≡ d .picture′) × (c .y′ ≡ d .y′) × (c .cb′ ≡ d .cb′) × (c .cr′ ≡ d .cr′) × (c .scratch′ ≡ d .scratch′)
 frame-read-once c d n s m p y b r t =
-    let e : FrameRead (c .word) (c .session) (c .message) (c .picture) (c .y) (c .cb) (c .cr) (c .scratch) (d .picture′) (d .y′) (d .cb′) (d .cr′) (d .scratch′) (d .answer) =
+    let e : FrameRead (c .word) (c .session) (c .message) (c .picture) (c .y) (c .cb) (c .cr) (c .scratch) (d .picture′) (d .y′) (d .cb′) (d .cr′)
+    (d .scratch′) (d .answer) =
     rw (n, s, m, p, y, b, r, t) (d .promise) in
     let o = one-frame _ _ _ _ _ _ _ _ _ _ _ _ _ _ _ _ _ _ _ _ (c .promise) e in
     (o .answer, o .picture, o .y-list, o .cb-list, o .cr-list, o .tmp-list)
@@ -59,7 +60,8 @@ pub frame-written-once :
     c .pixels ≡ d .pixels → c .list ≡ d .list → c .scratch ≡ d .scratch → c .out ≡ d .out →
     (c .answer ≡ d .answer) × (c .list′ ≡ d .list′) × (c .scratch′ ≡ d .scratch′) × (c .out′ ≡ d .out′)
 frame-written-once c d w h m q i p l s o =
-    let e : FrameWritten (c .width) (c .height) (c .mode) (c .quant) (c .index) (c .pixels) (c .list) (d .list′) (c .scratch) (d .scratch′) (c .out) (d .out′) (d .answer) =
+    let e : FrameWritten (c .width) (c .height) (c .mode) (c .quant) (c .index) (c .pixels) (c .list) (d .list′) (c .scratch) (d .scratch′) (c .out)
+    (d .out′) (d .answer) =
     rw (w, h, m, q, i, p, l, s, o) (d .promise) in
     frame-once _ _ _ _ _ _ _ _ _ _ _ _ _ _ _ _ _ (c .promise) e
 

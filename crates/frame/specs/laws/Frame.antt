@@ -10,7 +10,8 @@ use lib.Dec.{eqb, leb}
 use borrow.Author.Tests.{eqb-true, leb-true, eq-eqb, ne-eqb}
 use Rattle.whole.specs.Row.{_⨟_}
 use Rattle.whole.specs.laws.Row.{held, both, stops, goes-on, passes, fails, case-yes, case-no, ne-is}
-use Rattle.frame_layout.specs.Reader.{beginFault, regionFault, endFault, frameFault, tilesFault, sizeAt, setPlace, endPlace, quantCount, setAt, rectCount, tileCount, dataOf, tilesIn, frameTiles}
+use Rattle.frame_layout.specs.Reader.{beginFault, regionFault, endFault, frameFault, tilesFault, sizeAt, setPlace, endPlace, quantCount, setAt, rectCount}
+use Rattle.frame_layout.specs.Reader.{tileCount, dataOf, tilesIn, frameTiles}
 use Rattle.frame_blocks.specs.Blocks.{setFront, rectsOf, RegionGood}
 use Rattle.frame_blocks.specs.laws.Blocks.{begin-good, region-good}
 use Rattle.frame_blocks.specs.Judged.{judged, inSet, SetSound}
@@ -20,7 +21,8 @@ use Rattle.frame_draw.specs.Shown.{tilesDrawn}
 use Rattle.frame_draw.specs.Show.{Lists, tileWord}
 use Rattle.session.specs.Header.{ready}
 use Rattle.session.specs.declared.Session.{Session}
-use Rattle.frame.specs.Frame.{full, callFault, early, frontFault, framed, frameNumber, framePicture, frameList, Cleared, frameReading, passOf, FrameJudged, FrameRead}
+use Rattle.frame.specs.Frame.{full, callFault, early, frontFault, framed, frameNumber, framePicture, frameList, Cleared, frameReading, passOf}
+use Rattle.frame.specs.Frame.{FrameJudged, FrameRead}
 use Rattle.frame.specs.declared.call.FrameReading.the-variants.{Done, Refused}
 
 not-0 : (k : ℕ) → 0 ≡ suc k → ⊥
@@ -34,7 +36,12 @@ full-is y cb cr tmp e =
     let a = held (eqb (length y) 4096) false _ true true≢false (sym e) in
     let b = held (eqb (length cb) 4096) false _ true true≢false (a .1) in
     let c = held (eqb (length cr) 4096) false _ true true≢false (b .1) in
-    record { y-len = eqb-true (length y) 4096 (a .0); cb-len = eqb-true (length cb) 4096 (b .0); cr-len = eqb-true (length cr) 4096 (c .0); tmp-len = eqb-true (length tmp) 4096 (sym (c .1)) }
+    record {
+      y-len = eqb-true (length y) 4096 (a .0);
+      cb-len = eqb-true (length cb) 4096 (b .0);
+      cr-len = eqb-true (length cr) 4096 (c .0);
+      tmp-len = eqb-true (length tmp) 4096 (sym (c .1));
+    }
 
 -- what a call has that is neither 12 nor 2 before the message
 pub record CallGood (word : ℕ) (s : Session) (p : ℕ) (y cb cr tmp : List ℤ) : Type 0 where

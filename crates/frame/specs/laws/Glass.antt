@@ -86,7 +86,8 @@ module _ (word : ℕ) (s : Session) (m pic : List ℕ) (y cb cr tmp : List ℤ) 
   shown-pixel k px py in-w in-h =
       let a = accepted k in
       ap (λ (p : List ℕ). getD p (py * s .width + px) 0) (a .drawn)
-      ∙ tiles-pixel (rectsOf m 14) (rectCount m 14) (tileWord (s .glass) (s .mode) (setAt m (setPlace m))) (s .width) (s .height) (frameTiles m) pic px py in-w in-h (a .call .room)
+      ∙ tiles-pixel (rectsOf m 14) (rectCount m 14) (tileWord (s .glass) (s .mode) (setAt m (setPlace m))) (s .width) (s .height) (frameTiles m) pic px py
+      in-w in-h (a .call .room)
 
   -- every word past it
   pub shown-past : frameReadingNumber r ≡ 0 → (i : ℕ) → s .height * s .width ≤ i → getD pic′ i 0 ≡ getD pic i 0

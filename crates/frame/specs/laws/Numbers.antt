@@ -14,7 +14,8 @@ use Rattle.code.specs.laws.Numbers.{full-fault-among}
 use Rattle.bands.specs.Bands.{sumsFault, scaleFault}
 use Rattle.tile_back.specs.Component.{componentFault}
 use Rattle.frame_layout.specs.Reader.{blockJudge, fixedHead, leastHead, codecJudge, beginJudge, regionJudge, lastJudge, setJudge, bodyJudge, sizeAt}
-use Rattle.frame_layout.specs.Reader.{codecFault, beginFault, regionFault, halvesFault, quantsFault, codesFault, tileFault, tilesFault, setFault, endFault, frameFault}
+use Rattle.frame_layout.specs.Reader.{codecFault, beginFault, regionFault, halvesFault, quantsFault, codesFault, tileFault, tilesFault, setFault, endFault}
+use Rattle.frame_layout.specs.Reader.{frameFault}
 use Rattle.frame_blocks.specs.Judged.{judged}
 use Rattle.session.specs.declared.Session.{Session}
 use Rattle.frame.specs.declared.call.FrameReading.{FrameReading}
@@ -109,7 +110,8 @@ module _ (word : ℕ) (s : Session) (m pic : List ℕ) (y cb cr tmp : List ℤ) 
   -- which numbers the call answers
   pub frame-among : Among (12 ∷ 2 ∷ messageNumbers) (frameReadingNumber r)
   unfolding frameNumber each among
-  frame-among = rw number (among-then _ _ (among-all _ (call-among word s _ _ _ _ _) refl) (among-all _ (message-among (s .width) (s .height) (s .mode) m) refl))
+  frame-among =
+      rw number (among-then _ _ (among-all _ (call-among word s _ _ _ _ _) refl) (among-all _ (message-among (s .width) (s .height) (s .mode) m) refl))
 
   -- the four lists are those that came in
   pub record Untouched : Type 0 where

@@ -10,7 +10,8 @@ use lib.Dec.{leb, eqb}
 use borrow.Author.Tests.{leb-true, eqb-true}
 use Rattle.whole.specs.Row.{_⨟_}
 use Rattle.whole.specs.laws.Row.{held, both, stops, goes-on}
-use Rattle.frame_layout.specs.Reader.{blockJudge, sizeAt, fixedHead, leastHead, codecFault, beginFault, regionJudge, regionFault, rectCount, setJudge, setFault, halvesFault, quantsFault, quantCount, setAt, tileCount, dataOf, tilesFault}
+use Rattle.frame_layout.specs.Reader.{blockJudge, sizeAt, fixedHead, leastHead, codecFault, beginFault, regionJudge, regionFault, rectCount, setJudge}
+use Rattle.frame_layout.specs.Reader.{setFault, halvesFault, quantsFault, quantCount, setAt, tileCount, dataOf, tilesFault}
 use Rattle.frame_blocks.specs.Blocks.{setFields, setFront, RegionGood, SetGood}
 
 not-0 : (k : ℕ) → 0 ≡ suc k → ⊥
@@ -87,7 +88,8 @@ quants-stop m k at i x l f e =
     let s : k - i ≡ suc (k - (i + 1)) = omega arith in
     rw s (stops _ _ _ (λ z. f (e ∙ z)) e)
 
-pub quants-go-on : (m : List ℕ) (k at i : ℕ) → i < k → halvesFault (getD m (at + i) 0) ≡ 0 → quantsFault m (k - i) (at + i) ≡ quantsFault m (k - (i + 1)) (at + (i + 1))
+pub quants-go-on :
+    (m : List ℕ) (k at i : ℕ) → i < k → halvesFault (getD m (at + i) 0) ≡ 0 → quantsFault m (k - i) (at + i) ≡ quantsFault m (k - (i + 1)) (at + (i + 1))
 unfolding quantsFault
 quants-go-on m k at i l f =
     let s : k - i ≡ suc (k - (i + 1)) = omega arith in

@@ -30,7 +30,9 @@ low-half : (b : ℕ) → b % 16 ≤ 15
 low-half b = omega arith
 
 -- every value of bytes without a fault is from 6 to 15
-values-good : (xs : List ℕ) → ((i : ℕ) → i < length xs → 0 ≡ halvesFault (getD xs i 0)) → (i : ℕ) → i < length xs + length xs → (6 ≤ getD (quantOf xs) i 0) × (getD (quantOf xs) i 0 ≤ 15)
+values-good :
+    (xs : List ℕ) → ((i : ℕ) → i < length xs → 0 ≡ halvesFault (getD xs i 0)) → (i : ℕ) → i < length xs + length xs →
+    (6 ≤ getD (quantOf xs) i 0) × (getD (quantOf xs) i 0 ≤ 15)
 unfolding quantOf
 values-good [] g i l = absurd (omega arith)
 values-good (b ∷ bs) g zero l = (halves-good b (g 0 (omega arith)) .0, low-half b)
@@ -51,7 +53,8 @@ module _ (m : List ℕ) (at : ℕ) (s : SetSound m at) (j : ℕ) (l : j < quantC
       let len : length five ≡ 5 = simp (length-take, length-drop) (omega (arith, set-fits)) in
       let good = values-good five
       (λ i k.
-      let e : getD five i 0 ≡ getD m (at + 22 + (5 * j + i)) 0 = getD-take 5 (drop a m) i 0 (omega arith) ∙ (getD-drop a m i 0 ∙ ap (λ (z : ℕ). getD m z 0) (omega arith)) in
+      let e : getD five i 0 ≡ getD m (at + 22 + (5 * j + i)) 0 =
+      getD-take 5 (drop a m) i 0 (omega arith) ∙ (getD-drop a m i 0 ∙ ap (λ (z : ℕ). getD m z 0) (omega arith)) in
       quants-each m (5 * quantCount m at) (at + 22) (5 * j + i) (s .quants) (omega arith) ∙ ap halvesFault (sym e)) in
       record { low = λ i k. good i (omega arith) .0; high = λ i k. good i (omega arith) .1 }
 
@@ -59,7 +62,9 @@ pub set-sound : (et : ℕ) (m : List ℕ) (at : ℕ) → at ≤ length m → 0 �
 set-sound et m at l e = let g = set-good m at l et e in record { good = g .0; quants = g .1 }
 
 -- a tileset's first fault: its front's, then its tiles'
-pub set-fault : (w h et : ℕ) (m : List ℕ) (at : ℕ) → setFault judged w h et m at ≡ (setFront et m at ⨟ tilesFault (inSet et m at) w h (quantCount m at) (dataOf m at) (tileCount m at) 0)
+pub set-fault :
+    (w h et : ℕ) (m : List ℕ) (at : ℕ) →
+    setFault judged w h et m at ≡ (setFront et m at ⨟ tilesFault (inSet et m at) w h (quantCount m at) (dataOf m at) (tileCount m at) 0)
 unfolding inSet
 set-fault w h et m at = set-goes-on judged w h et m at
 

@@ -72,7 +72,9 @@ index-below q d at (suc (suc zero)) g l = g .cr-index
 index-below q d at (suc (suc (suc k))) g l = absurd (omega arith)
 
 -- a sound tile's component by number
-pub sound-part : (judge : ℕ → List ℕ → ℕ) (q : ℕ) (d : List ℕ) (at k : ℕ) → TileSound judge q d at → k < 3 → 0 ≡ judge (indexOf (tileAt d at) k) (codePart (tileAt d at) k)
+pub sound-part :
+    (judge : ℕ → List ℕ → ℕ) (q : ℕ) (d : List ℕ) (at k : ℕ) → TileSound judge q d at → k < 3 →
+    0 ≡ judge (indexOf (tileAt d at) k) (codePart (tileAt d at) k)
 unfolding indexOf codePart
 sound-part judge q d at zero s l = s .y
 sound-part judge q d at (suc zero) s l = s .cb
@@ -112,7 +114,9 @@ module _ (judge : ℕ → List ℕ → ℕ) (w h q : ℕ) (d : List ℕ) where
   unfolding tilesFault
   walk-stops n i at x l f e = rw (left n i l) (stops _ _ _ (λ z. f (e ∙ z)) e)
 
-  pub walk-goes-on : (n i at : ℕ) → i < n → tileFault judge w h q d at ≡ 0 → tilesFault judge w h q d (n - i) at ≡ tilesFault judge w h q d (n - (i + 1)) (at + sizeAt d at)
+  pub walk-goes-on :
+      (n i at : ℕ) → i < n → tileFault judge w h q d at ≡ 0 →
+      tilesFault judge w h q d (n - i) at ≡ tilesFault judge w h q d (n - (i + 1)) (at + sizeAt d at)
   unfolding tilesFault
   walk-goes-on n i at l f = rw (left n i l) (sym (goes-on _ _ _ f refl))
 
@@ -121,7 +125,9 @@ module _ (judge : ℕ → List ℕ → ℕ) (w h q : ℕ) (d : List ℕ) where
   walk-ends n i at x l e = let z : n - i ≡ 0 = omega arith in rw z e
 
   -- a walk without a fault: the tile at its head is sound, and nothing is wrong in the rest
-  pub walk-sound : (n i at : ℕ) → i < n → at ≤ length d → 0 ≡ tilesFault judge w h q d (n - i) at → TileSound judge q d at × (0 ≡ tilesFault judge w h q d (n - (i + 1)) (at + sizeAt d at))
+  pub walk-sound :
+      (n i at : ℕ) → i < n → at ≤ length d → 0 ≡ tilesFault judge w h q d (n - i) at →
+      TileSound judge q d at × (0 ≡ tilesFault judge w h q d (n - (i + 1)) (at + sizeAt d at))
   unfolding tilesFault
   walk-sound n i at l m e =
       let b = both _ _ (subst (λ (k : ℕ). 0 ≡ tilesFault judge w h q d k at) (left n i l) e) in

@@ -79,14 +79,18 @@ row-on rects n w tx py x l e = sym (passes _ _ _ _ (lt-ltb _ _ l) e)
 
 module _ (rects : List ℕ) (n : ℕ) (val : ℕ → ℕ) (w h tx ty : ℕ) (px py : ℕ) (in-w : px < w) where
   -- another row leaves the pixel
-  row-other : (py′ y : ℕ) (pic : List ℕ) → (py′ ≡ py → ⊥) → getD (rowDrawn rects n (λ (x : ℕ). val (64 * y + x)) w tx py′ pic) (py * w + px) 0 ≡ getD pic (py * w + px) 0
+  row-other :
+      (py′ y : ℕ) (pic : List ℕ) → (py′ ≡ py → ⊥) →
+      getD (rowDrawn rects n (λ (x : ℕ). val (64 * y + x)) w tx py′ pic) (py * w + px) 0 ≡ getD pic (py * w + px) 0
   unfolding rowDrawn rowPlace
   row-other py′ y pic ne =
       stores-miss _ _ _ (py * w + px) 64 0 pic
       (λ x a b o e. ne (place-inj w py′ py (64 * tx + x) px (row-on-is rects n w tx py′ x o .0) in-w e .0))
 
   -- its own row: the word, where the pixel is shown
-  row-shown : (y : ℕ) (pic : List ℕ) → py * w + px < length pic → px / 64 ≡ tx → true ≡ inRegion rects n px py → getD (rowDrawn rects n (λ (x : ℕ). val (64 * y + x)) w tx py pic) (py * w + px) 0 ≡ val (64 * y + px % 64)
+  row-shown :
+      (y : ℕ) (pic : List ℕ) → py * w + px < length pic → px / 64 ≡ tx → true ≡ inRegion rects n px py →
+      getD (rowDrawn rects n (λ (x : ℕ). val (64 * y + x)) w tx py pic) (py * w + px) 0 ≡ val (64 * y + px % 64)
   unfolding rowDrawn rowPlace
   row-shown y pic l t hh =
       let s : 64 * tx + px % 64 ≡ px = omega arith in
@@ -95,7 +99,9 @@ module _ (rects : List ℕ) (n : ℕ) (val : ℕ → ℕ) (w h tx ty : ℕ) (px 
       (ap (λ (z : ℕ). py * w + z) s) l
       (λ z o e. let g = place-inj w py py (64 * tx + z) px (row-on-is rects n w tx py z o .0) in-w e .1 in omega arith)
 
-  row-hidden : (y : ℕ) (pic : List ℕ) → (px / 64 ≡ tx → false ≡ inRegion rects n px py) → getD (rowDrawn rects n (λ (x : ℕ). val (64 * y + x)) w tx py pic) (py * w + px) 0 ≡ getD pic (py * w + px) 0
+  row-hidden :
+      (y : ℕ) (pic : List ℕ) → (px / 64 ≡ tx → false ≡ inRegion rects n px py) →
+      getD (rowDrawn rects n (λ (x : ℕ). val (64 * y + x)) w tx py pic) (py * w + px) 0 ≡ getD pic (py * w + px) 0
   unfolding rowDrawn rowPlace
   row-hidden y pic dark =
       stores-miss _ _ _ (py * w + px) 64 0 pic
@@ -123,7 +129,9 @@ module _ (rects : List ℕ) (n : ℕ) (val : ℕ → ℕ) (w h tx ty : ℕ) (px 
       (λ (q : ltb (64 * ty + y) h ≡ false). rw q refl)
       (split (ltb (64 * ty + y) h))
 
-  rows-other : (j y : ℕ) (pic : List ℕ) → ((z : ℕ) → y ≤ z → z < y + j → 64 * ty + z ≡ py → ⊥) → getD (rowsDrawn rects n val w h tx ty j y pic) (py * w + px) 0 ≡ getD pic (py * w + px) 0
+  rows-other :
+      (j y : ℕ) (pic : List ℕ) → ((z : ℕ) → y ≤ z → z < y + j → 64 * ty + z ≡ py → ⊥) →
+      getD (rowsDrawn rects n val w h tx ty j y pic) (py * w + px) 0 ≡ getD pic (py * w + px) 0
   unfolding rowsDrawn one-row
   rows-other zero y pic f = refl
   rows-other (suc j) y pic f =

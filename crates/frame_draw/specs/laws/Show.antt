@@ -22,7 +22,9 @@ use Rattle.frame_draw.specs.Spans.{asked}
 use Rattle.frame_draw.specs.laws.Asked.{asked-same}
 use Rattle.frame_draw.specs.declared.row.Spot.{Spot}
 
-pub lists-kept : (y cb cr tmp y′ cb′ cr′ tmp′ : List ℤ) → Lists y cb cr tmp → length y′ ≡ length y → length cb′ ≡ length cb → length cr′ ≡ length cr → length tmp′ ≡ length tmp → Lists y′ cb′ cr′ tmp′
+pub lists-kept :
+    (y cb cr tmp y′ cb′ cr′ tmp′ : List ℤ) → Lists y cb cr tmp → length y′ ≡ length y → length cb′ ≡ length cb → length cr′ ≡ length cr →
+    length tmp′ ≡ length tmp → Lists y′ cb′ cr′ tmp′
 lists-kept y cb cr tmp y′ cb′ cr′ tmp′ l a b c t = record { y-len = a ∙ l .y-len; cb-len = b ∙ l .cb-len; cr-len = c ∙ l .cr-len; tmp-len = t ∙ l .tmp-len }
 
 -- the samples of a sound component are a plane
@@ -31,7 +33,8 @@ pub part-plane :
     xs ≡ planeOf mode (setAt m sp) (tileAt d at) k → Plane xs
 unfolding planeOf inSet judged
 part-plane mode m sp q d at k xs s l e =
-    subst Plane (sym e) (samples-plane mode (quantOf (setAt m sp (indexOf (tileAt d at) k))) (codePart (tileAt d at) k) (sound-part (inSet mode m sp) q d at k s l))
+    subst Plane (sym e)
+    (samples-plane mode (quantOf (setAt m sp (indexOf (tileAt d at) k))) (codePart (tileAt d at) k) (sound-part (inSet mode m sp) q d at k s l))
 
 -- a tile made ready: from its samples, the region as it was taken, and where it lies
 pub ready-made :
@@ -75,7 +78,8 @@ ready-drawn glass mode m sp w h t y cb cr tmp s rects pic last g r e =
 module _ (rects : List ℕ) (nr : ℕ) (words : Tile → ℕ → ℕ) (w h : ℕ) (d : List ℕ) where
   -- a loop over the tiles, against the list of what is left
   pub shown-next :
-      (n i at : ℕ) (pic last : List ℕ) (size : ℕ) → i < n → last ≡ tileDrawn rects nr (words (tileAt d at)) w h (tileAt d at .x) (tileAt d at .y) pic → size ≡ sizeAt d at →
+      (n i at : ℕ) (pic last : List ℕ) (size : ℕ) → i < n → last ≡ tileDrawn rects nr (words (tileAt d at)) w h (tileAt d at .x) (tileAt d at .y) pic →
+      size ≡ sizeAt d at →
       tilesDrawn rects nr words w h (tilesIn d (n - i) at) pic ≡ tilesDrawn rects nr words w h (tilesIn d (n - (i + 1)) (at + size)) last
   unfolding tilesDrawn tilesIn
   shown-next n i at pic last size l e s = let a : n - i ≡ suc (n - (i + 1)) = omega arith in rw (a, e, s)

@@ -127,7 +127,8 @@ tile-here d at t rest f e =
     let s = t .ys ++ (t .cbs ++ (t .crs ++ rest)) in
     let o : drop at d ≡ tileHead t ++ s =
     e ∙ (append-assoc (tileHead t) (t .ys ++ (t .cbs ++ t .crs)) rest
-    ∙ ap (λ (z : List ℕ). tileHead t ++ z) (append-assoc (t .ys) (t .cbs ++ t .crs) rest ∙ ap (λ (z : List ℕ). t .ys ++ z) (append-assoc (t .cbs) (t .crs) rest))) in
+    ∙ ap (λ (z : List ℕ). tileHead t ++ z) (append-assoc (t .ys) (t .cbs ++ t .crs) rest ∙ ap (λ (z : List ℕ). t .ys ++ z)
+    (append-assoc (t .cbs) (t .crs) rest))) in
     let ly = le16-in d (tileHead t ++ s) at 13 o ∙ head-ly t s (f .ly) in
     let lcb = le16-in d (tileHead t ++ s) at 15 o ∙ head-lcb t s (f .lcb) in
     let lcr = le16-in d (tileHead t ++ s) at 17 o ∙ head-lcr t s (f .lcr) in

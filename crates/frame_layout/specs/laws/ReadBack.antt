@@ -13,7 +13,9 @@ use Rattle.whole.specs.laws.Row.{passes}
 use Rattle.quants.specs.Quants.{quantBytes}
 use Rattle.quants.specs.laws.Quants.{pairs-long}
 use Rattle.frame_layout.specs.Bytes.{Tile, tileOf, tilesOf, beginOf, regionOf, propsOf, setCount, setHead, endOf, frontOf, frameOf}
-use Rattle.frame_layout.specs.Reader.{sizeAt, codesFault, codecJudge, codecFault, beginJudge, beginFault, rectCount, regionJudge, lastJudge, regionFault, propsGood, setJudge, halvesFault, quantsFault, quantCount, tileCount, dataSize, setAt, dataOf, tilesIn, setFault, endFault, setPlace, endPlace, frameFault, frameTiles}
+use Rattle.frame_layout.specs.Reader.{sizeAt, codesFault, codecJudge, codecFault, beginJudge, beginFault, rectCount, regionJudge, lastJudge}
+use Rattle.frame_layout.specs.Reader.{regionFault, propsGood, setJudge, halvesFault, quantsFault, quantCount, tileCount, dataSize, setAt, dataOf}
+use Rattle.frame_layout.specs.Reader.{tilesIn, setFault, endFault, setPlace, endPlace, frameFault, frameTiles}
 use Rattle.frame_layout.specs.laws.Here.{tile-length, tile-least, two-bytes, four-bytes, past, byte-in, le16-in, le32-in}
 use Rattle.frame_layout.specs.laws.Tiles.{none, least-none, fixed-none, Good, listed, tiles-walked}
 
@@ -94,7 +96,8 @@ set-none et size s n bytes l c e =
 halves-none : (a b : ℕ) → (6 ≤ a) × (a ≤ 15) → (6 ≤ b) × (b ≤ 15) → 0 ≡ halvesFault (a + 16 * b)
 unfolding halvesFault
 halves-none a b p q =
-    passes _ _ _ _ (le-leb 6 ((a + 16 * b) % 16) (omega arith)) (passes _ _ _ _ (le-leb 6 ((a + 16 * b) / 16) (omega arith)) (passes _ _ _ _ (le-leb ((a + 16 * b) / 16) 15 (omega arith)) refl))
+    passes _ _ _ _ (le-leb 6 ((a + 16 * b) % 16) (omega arith))
+    (passes _ _ _ _ (le-leb 6 ((a + 16 * b) / 16) (omega arith)) (passes _ _ _ _ (le-leb ((a + 16 * b) / 16) 15 (omega arith)) refl))
 
 -- n bytes of good values
 quants-none : (m : List ℕ) (n at : ℕ) (q rest : List ℕ) → length q ≡ 2 * n → Each q → drop at m ≡ quantBytes q ++ rest → 0 ≡ quantsFault m n at
@@ -193,7 +196,8 @@ set-fault-none comp w h et q n tile m rest s f r =
     let x = f .fixed in
     let z = s .sets in
     let place : 37 + (22 + 5 * setCount q) ≡ 59 + 5 * setCount q = omega arith in
-    let d : take (length (tilesOf tile n 0)) (drop (59 + 5 * setCount q) m) ≡ tilesOf tile n 0 = rw (f .behind, r) (take-append-seam (tilesOf tile n 0) endOf) in
+    let d : take (length (tilesOf tile n 0)) (drop (59 + 5 * setCount q) m) ≡ tilesOf tile n 0 =
+    rw (f .behind, r) (take-append-seam (tilesOf tile n 0) endOf) in
     let t = tiles-walked (λ (j : ℕ) (code : List ℕ). comp et (setAt m 37 j) code) w h (setCount q) tile n
     (λ k l. recode comp w h et (setCount q) m q (tile k) (λ j i. set-found m q rest j (z .tens) i (f .quants)) (s .tiles k l))
     (tilesOf tile n 0) n 0 0 (omega arith) (omega arith) refl in

@@ -21,12 +21,15 @@ pub head-none : (kind is : ℕ) (b : Bool) (size room : ℕ) → is ≡ kind →
 unfolding blockJudge
 head-none kind is b size room e h l = search rows
 
-pub least-none : (kind least : ℕ) (m : List ℕ) (at : ℕ) → 6 ≤ least → le16 m at ≡ kind → least ≤ sizeAt m at → sizeAt m at ≤ length m - at → 0 ≡ leastHead kind least m at
+pub least-none :
+    (kind least : ℕ) (m : List ℕ) (at : ℕ) → 6 ≤ least → le16 m at ≡ kind → least ≤ sizeAt m at → sizeAt m at ≤ length m - at →
+    0 ≡ leastHead kind least m at
 unfolding leastHead
 least-none kind least m at s e l r =
     passes _ _ _ _ (le-leb 6 (length m - at) (omega arith)) (head-none _ _ _ _ _ e (le-leb least (sizeAt m at) l) r)
 
-pub fixed-none : (kind size : ℕ) (m : List ℕ) (at : ℕ) → 6 ≤ size → le16 m at ≡ kind → sizeAt m at ≡ size → sizeAt m at ≤ length m - at → 0 ≡ fixedHead kind size m at
+pub fixed-none :
+    (kind size : ℕ) (m : List ℕ) (at : ℕ) → 6 ≤ size → le16 m at ≡ kind → sizeAt m at ≡ size → sizeAt m at ≤ length m - at → 0 ≡ fixedHead kind size m at
 unfolding fixedHead
 fixed-none kind size m at s e l r =
     passes _ _ _ _ (le-leb 6 (length m - at) (omega arith)) (head-none _ _ _ _ _ e (eq-eqb (sizeAt m at) size l) r)
@@ -46,11 +49,14 @@ pub record Good (judge : ℕ → List ℕ → ℕ) (w h q : ℕ) (t : Tile) : Ty
   pub py : 64 * t .y < h
   pub codes : 0 ≡ codesFault judge t
 
-pub tile-none : (judge : ℕ → List ℕ → ℕ) (w h q : ℕ) (d : List ℕ) (at : ℕ) (t : Tile) (rest : List ℕ) → Good judge w h q t → TileHere d at t rest → 0 ≡ tileFault judge w h q d at
+pub tile-none :
+    (judge : ℕ → List ℕ → ℕ) (w h q : ℕ) (d : List ℕ) (at : ℕ) (t : Tile) (rest : List ℕ) → Good judge w h q t → TileHere d at t rest →
+    0 ≡ tileFault judge w h q d at
 unfolding tileFault tileLen tileAt
 tile-none judge w h q d at t rest g e =
     none _ _ (least-none 0xCAC3 19 d at (omega arith) (e .kind) (omega (arith, e .size)) (omega (arith, e .size, e .room)))
-    (none _ _ (body-none _ _ _ _ _ _ _ _ _ _ _ _ (rw (e .size, e .ly, e .lcb, e .lcr)) (at-tile (λ z. z .qy < q) (g .iy)) (at-tile (λ z. z .qcb < q) (g .icb)) (at-tile (λ z. z .qcr < q) (g .icr))
+    (none _ _ (body-none _ _ _ _ _ _ _ _ _ _ _ _ (rw (e .size, e .ly, e .lcb, e .lcr)) (at-tile (λ z. z .qy < q) (g .iy))
+    (at-tile (λ z. z .qcb < q) (g .icb)) (at-tile (λ z. z .qcr < q) (g .icr))
     (at-tile (λ z. 64 * z .x < w) (g .px)) (at-tile (λ z. 64 * z .y < h) (g .py)))
     (at-tile (λ z. 0 ≡ codesFault judge z) (g .codes)))
   where
@@ -76,5 +82,7 @@ tiles-walked judge w h q tile N good d zero i at s l e =
 tiles-walked judge w h q tile N good d (suc n) i at s l e =
     let g = good i (omega arith) in
     let t = tile-here d at (tile i) (tilesOf tile n (i + 1)) (g .fits) e in
-    let more = tiles-walked judge w h q tile N good d n (i + 1) (at + sizeAt d at) (omega arith) (omega (arith, t .size, t .room, g .fits)) (rw (t .size) (t .next)) in
+    let more =
+    tiles-walked judge w h q tile N good d n (i + 1) (at + sizeAt d at) (omega arith) (omega (arith, t .size, t .room, g .fits))
+    (rw (t .size) (t .next)) in
     record { fault = none _ _ (tile-none judge w h q d at (tile i) _ g t) (more .fault); tiles = ap₂ _∷_ (t .is) (more .tiles) }

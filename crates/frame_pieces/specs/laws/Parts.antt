@@ -29,7 +29,8 @@ pub block-closed : (x y xs : List ℕ) (at kind len : ℕ) (rest : List ℕ) →
     y ≡ patch x (at + 2) (bytes32 len) → at ≤ length xs → y ≡ patch xs at (bytes16 kind ++ (bytes32 len ++ rest))
 unfolding bytes32
 block-closed x y xs at kind len rest e f h =
-    patch-refill x y xs (bytes16 kind ++ (bytes32 0 ++ rest)) (bytes32 len) at 2 e f (omega (arith, six kind rest)) h ∙ ap (patch xs at) (fill-len kind len rest)
+    patch-refill x y xs (bytes16 kind ++ (bytes32 0 ++ rest)) (bytes32 len) at 2 e f (omega (arith, six kind rest)) h
+    ∙ ap (patch xs at) (fill-len kind len rest)
 
 -- ---- a tile: its head is put with lengths 0, the codes behind it, then the lengths are filled in
 
@@ -113,7 +114,8 @@ tiles-step tile n i l = rw (left n i l)
 
 pub tiles-step-length : (tile : ℕ → Tile) (n i : ℕ) → i < n → length (tilesOf tile (n - i) i) ≡ tileLen (tile i) + length (tilesOf tile (n - (i + 1)) (i + 1))
 tiles-step-length tile n i l =
-    ap length (tiles-step tile n i l) ∙ (length-append (tileOf (tile i)) _ ∙ ap (λ (k : ℕ). k + length (tilesOf tile (n - (i + 1)) (i + 1))) (tile-length (tile i)))
+    ap length (tiles-step tile n i l)
+    ∙ (length-append (tileOf (tile i)) _ ∙ ap (λ (k : ℕ). k + length (tilesOf tile (n - (i + 1)) (i + 1))) (tile-length (tile i)))
 
 pub record Front (tile : ℕ → Tile) (n i from at : ℕ) (out₀ out : List ℕ) : Type 0 where
   pub done : List ℕ
@@ -200,7 +202,9 @@ module _ (idx w h et : ℕ) (q : List ℕ) (n : ℕ) (tens : length q ≡ 10 * s
       let w2 = patch-next o1 o2 o H D 0 from p1 p2 (omega arith) (omega arith) in
       let w3 = patch-next o2 (patch o2 e endOf) o (H ++ D) endOf 0 e w2 refl (omega (arith, length-append H D)) (omega arith) in
       let v3 = w3 ∙ ap (patch o 0) (append-assoc H D endOf) in
-      let v4 = patch-refill _ _ o (H ++ S) (bytes32 (e - 37)) 0 39 v3 refl (omega (arith, length-append H S)) (omega arith) ∙ ap (patch o 0) (fill-39 (e - 37) S) in
+      let v4 =
+      patch-refill _ _ o (H ++ S) (bytes32 (e - 37)) 0 39 v3 refl (omega (arith, length-append H S)) (omega arith)
+      ∙ ap (patch o 0) (fill-39 (e - 37) S) in
       let v5 = patch-refill _ o3 o (frontWith idx w h et q n (e - 37) 0 ++ S) (bytes32 (e - from)) 0 55 v4 p3
       (omega (arith, length-append (frontWith idx w h et q n (e - 37) 0) S)) (omega arith)
       ∙ ap (patch o 0) (fill-55 (e - 37) (e - from) S) in

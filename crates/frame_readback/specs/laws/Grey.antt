@@ -88,12 +88,15 @@ unfolding roundedBy differences
 rounded-0 xs n =
     let T = table 4096 (roundAt sixes (at xs)) in
     let t = tab-near 4096 (roundAt sixes (at xs)) (λ k. none _ (round-0 xs k n)) in
-    seam-near T (table 64 (diffAt (ll3 T))) (length-tab 4096 _) (length-tab 64 _) t (λ i h. subst (Near 0) (sym (at-tab 64 (diffAt (ll3 T)) i h)) (diff-0 (ll3 T) (λ k. t .all (4032 + k)) i))
+    seam-near T (table 64 (diffAt (ll3 T))) (length-tab 4096 _) (length-tab 64 _) t
+    (λ i h. subst (Near 0) (sym (at-tab 64 (diffAt (ll3 T)) i h)) (diff-0 (ll3 T) (λ k. t .all (4032 + k)) i))
 
 list-0 : (c k : ℕ) → c < 3 → AllNear 0 (listOf grey 1 1 sixes k c)
 unfolding listOf roundedOf
 list-0 c k h =
-    rounded-0 _ (forth-near (table 4096 (sampleAt grey 1 1 (k % colsOf 1) (k / colsOf 1) c)) (tab-near 4096 _ (λ i. none _ (sample-0 c (k % colsOf 1) (k / colsOf 1) i h))))
+    rounded-0 _
+    (forth-near (table 4096 (sampleAt grey 1 1 (k % colsOf 1) (k / colsOf 1) c))
+    (tab-near 4096 _ (λ i. none _ (sample-0 c (k % colsOf 1) (k / colsOf 1) i h))))
 
 zero-at : (n i : ℕ) → getD (replicate n (pos 0)) i (pos 0) ≡ pos 0
 zero-at zero i = refl
@@ -143,7 +146,8 @@ module _ (mode : ℕ) (s : CodeSent mode (0x00 ∷ 0x00 ∷ 0x00 ∷ []) (first 
   unfolding refusals tileRefusal
   none-0 zero i = refl
   none-0 (suc n) i =
-      goes-on _ _ _ (sym (goes-on _ _ _ (sym (part-0 0 i (omega arith))) (goes-on _ _ _ (sym (part-0 1 i (omega arith))) (part-0 2 i (omega arith))))) (none-0 n (i + 1))
+      goes-on _ _ _ (sym (goes-on _ _ _ (sym (part-0 0 i (omega arith))) (goes-on _ _ _ (sym (part-0 1 i (omega arith))) (part-0 2 i (omega arith)))))
+      (none-0 n (i + 1))
 
 -- what the read-back asks, met in both modes
 pub sendable-1 : Sendable grey 1 1 1 (oneFor sixes)

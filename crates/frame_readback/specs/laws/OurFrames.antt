@@ -52,7 +52,8 @@ use Rattle.frame_write.specs.FrameWrite.{FrameWritten}
 use Rattle.frame_write.specs.Sets.{tileOver, frameOver, refusalsOver, argFaultOver, sendFaultOver, FrameWrittenOver}
 use Rattle.frame_write.specs.laws.OneSet.{as-over}
 use Rattle.frame_write.specs.laws.FrameWrite.{args-good}
-use Rattle.frame_readback.specs.laws.OurTiles.{PartTaken, Sendable, SendablePicks, all-sendable, luma-back, chroma-back, tens, tile-taken, sent, our-frame}
+use Rattle.frame_readback.specs.laws.OurTiles.{PartTaken, Sendable, SendablePicks, all-sendable, luma-back, chroma-back, tens, tile-taken, sent}
+use Rattle.frame_readback.specs.laws.OurTiles.{our-frame}
 use Rattle.frame_readback.specs.Own.{samplesBack, wordBack, wordOver, tileNo, Shown, ShownOver}
 use Rattle.frame_readback.specs.Picked.{ShownPicked}
 use Rattle.frame_readback.specs.laws.Own.{Seen, Unseen, last-picked, tile-place, whole-region}
@@ -106,14 +107,17 @@ module _ (p : List ℕ) (w h mode : ℕ) (q : Quants) (px py : ℕ) (in-w : px <
   unfolding inTile tileOver tileWith tileNo
   here =
       let e = tile-place (colsOf w) (px / 64) (py / 64) col-in in
-      sym (passes _ _ _ _ (eq-eqb (px / 64) ((py / 64 * colsOf w + px / 64) % colsOf w) (sym (e .0))) (sym (eq-eqb (py / 64) ((py / 64 * colsOf w + px / 64) / colsOf w) (sym (e .1)))))
+      sym
+      (passes _ _ _ _ (eq-eqb (px / 64) ((py / 64 * colsOf w + px / 64) % colsOf w) (sym (e .0)))
+      (sym (eq-eqb (py / 64) ((py / 64 * colsOf w + px / 64) / colsOf w) (sym (e .1)))))
 
   other : (j : ℕ) → (j ≡ tileNo w px py → ⊥) → inTile (tileOver p w h mode q j) px py ≡ false
   unfolding inTile tileOver tileWith tileNo
   other j ne =
       ⊎-elim
       (λ (a : eqb (px / 64) (j % colsOf w) ≡ true).
-      sym (passes _ _ _ _ a (sym (ne-eqb (py / 64) (j / colsOf w) (λ b. ne (sym (div-add-mod' j (colsOf w)) ∙ ap₂ (λ (y x : ℕ). y * colsOf w + x) (sym b) (sym (eqb-true _ _ a))))))))
+      sym (passes _ _ _ _ a (sym (ne-eqb (py / 64) (j / colsOf w) (λ b. ne (sym (div-add-mod' j (colsOf w)) ∙ ap₂ (λ (y x : ℕ). y * colsOf w + x) (sym b)
+      (sym (eqb-true _ _ a))))))))
       (λ (a : eqb (px / 64) (j % colsOf w) ≡ false). sym (fails _ _ _ _ a refl))
       (split (eqb (px / 64) (j % colsOf w)))
 
@@ -191,23 +195,29 @@ module _ (p : List ℕ) (w h mode : ℕ) (q : Quants) (index n : ℕ) (pick : �
   unfolding wordIn
   shown-word glass px py old i a b l e =
       shown-as glass px py old _ a b (its-tile p w h mode q px py a b n pick i l e)
-      ∙ subst (λ (k : ℕ). tileWord glass mode (setAt m (setPlace m)) (tileOver p w h mode q k) (64 * (py % 64) + px % 64) ≡ wordOver glass p w h q k (64 * (py % 64) + px % 64)) e
+      ∙ subst
+      (λ (k : ℕ). tileWord glass mode (setAt m (setPlace m)) (tileOver p w h mode q k) (64 * (py % 64) + px % 64) ≡ wordOver glass p w h q k
+      (64 * (py % 64) + px % 64)) e
       (word-back glass i (64 * (py % 64) + px % 64) l)
 
   shown-other : (glass px py old : ℕ) → px < w → py < h → ((i : ℕ) → i < n → pick i ≡ tileNo w px py → ⊥) →
-      (inRegion (rectsOf m 14) (rectCount m 14) px py ⇒ wordIn (tileWord glass mode (setAt m (setPlace m))) px py (lastTile (frameTiles m) px py) old ∣ old) ≡ old
+      (inRegion (rectsOf m 14) (rectCount m 14) px py ⇒ wordIn (tileWord glass mode (setAt m (setPlace m))) px py (lastTile (frameTiles m) px py) old ∣ old)
+      ≡ old
   unfolding wordIn
   shown-other glass px py old a b f = shown-as glass px py old none a b (no-tile p w h mode q px py a b n pick f)
 
   -- the frame call on it, with the record that our headers give, lists of 4,096 and a picture long enough
-  module _ (glass : ℕ) (either : glass ≤ 1) (good : sizeGood w h ≡ true) (pic : List ℕ) (y cb cr tmp : List ℤ) (pic′ : List ℕ) (y′ cb′ cr′ tmp′ : List ℤ) (r : FrameReading)
+  module _ (glass : ℕ) (either : glass ≤ 1) (good : sizeGood w h ≡ true) (pic : List ℕ) (y cb cr tmp : List ℤ) (pic′ : List ℕ) (y′ cb′ cr′ tmp′ : List ℤ)
+      (r : FrameReading)
       (ly : length y ≡ 4096) (lb : length cb ≡ 4096) (lr : length cr ≡ 4096) (lt : length tmp ≡ 4096) (room : h * w ≤ length pic)
       (done : FrameRead glass (recordOf glass 4 w h mode) m pic y cb cr tmp pic′ y′ cb′ cr′ tmp′ r) where
     call-fine : 0 ≡ early glass (recordOf glass 4 w h mode) pic y cb cr tmp
     unfolding callFault full
     call-fine =
         passes _ _ _ _ (ready-at glass w h mode either good (s .allowed)) (passes _ _ _ _
-        (sym (passes _ _ _ _ (eq-eqb (length y) 4096 ly) (passes _ _ _ _ (eq-eqb (length cb) 4096 lb) (passes _ _ _ _ (eq-eqb (length cr) 4096 lr) (sym (eq-eqb (length tmp) 4096 lt))))))
+        (sym
+        (passes _ _ _ _ (eq-eqb (length y) 4096 ly)
+        (passes _ _ _ _ (eq-eqb (length cb) 4096 lb) (passes _ _ _ _ (eq-eqb (length cr) 4096 lr) (sym (eq-eqb (length tmp) 4096 lt))))))
         (passes _ _ _ _ (eq-eqb glass glass refl) (passes _ _ _ _ (le-leb (h * w) (length pic) room) refl)))
 
     number-0 : frameReadingNumber r ≡ 0
@@ -218,8 +228,13 @@ module _ (p : List ℕ) (w h mode : ℕ) (q : Quants) (index n : ℕ) (pick : �
     shown = record {
       number = number-0;
       tiles = accepted glass (recordOf glass 4 w h mode) m pic y cb cr tmp pic′ y′ cb′ cr′ tmp′ r done number-0 .counted ∙ taken .count;
-      word = λ px py a b i l e. shown-pixel glass (recordOf glass 4 w h mode) m pic y cb cr tmp pic′ y′ cb′ cr′ tmp′ r done number-0 px py a b ∙ shown-word glass px py _ i a b l e;
-      others = λ px py a b f. shown-pixel glass (recordOf glass 4 w h mode) m pic y cb cr tmp pic′ y′ cb′ cr′ tmp′ r done number-0 px py a b ∙ shown-other glass px py _ a b f;
+      word =
+          λ px py a b i l e.
+          shown-pixel glass (recordOf glass 4 w h mode) m pic y cb cr tmp pic′ y′ cb′ cr′ tmp′ r done number-0 px py a b
+          ∙ shown-word glass px py _ i a b l e;
+      others =
+          λ px py a b f.
+          shown-pixel glass (recordOf glass 4 w h mode) m pic y cb cr tmp pic′ y′ cb′ cr′ tmp′ r done number-0 px py a b ∙ shown-other glass px py _ a b f;
       past = shown-past glass (recordOf glass 4 w h mode) m pic y cb cr tmp pic′ y′ cb′ cr′ tmp′ r done number-0;
       long = shown-length glass (recordOf glass 4 w h mode) m pic y cb cr tmp pic′ y′ cb′ cr′ tmp′ r done number-0;
     }
@@ -236,7 +251,8 @@ all-shown glass p w h mode q pic pic′ r s = record {
 }
 
 -- THE STATEMENT OVER THE CALLS. Whenever our two writers are done, for the same size and mode: four header calls on our headers, from any
--- record at all, answer 0 and end in (4, w, h, mode); and the frame call on our frame, with that record on either glass, a picture of its words, work lists of 4,096 and a picture long
+-- record at all, answer 0 and end in (4, w, h, mode); and the frame call on our frame, with that record on either glass, a picture of its words, work lists
+-- of 4,096 and a picture long
 -- enough, answers 0, reports the number of tiles and shows at every place of the channel the word that decoding gives for the rounded
 -- coefficients of the given pixels; nothing else changes.
 -- Over both sets, each component by its own:
@@ -254,12 +270,15 @@ our-own-frames-over glass s₀ w h mode ho ho′ hr either hw e q index p list l
     pic y cb cr tmp pic′ y′ cb′ cr′ tmp′ answer ly lb lr lt room done =
     let u = written-is w h mode q index p list list′ scratch scratch′ out out′ r luma chroma fw f in
     let d = subst (λ (x : List ℕ). FrameRead glass (recordOf glass 4 w h mode) x pic y cb cr tmp pic′ y′ cb′ cr′ tmp′ answer) (u .bytes) done in
-    let x = shown p w h mode q index (tilesNo w h) (λ k. k) (all-sendable p w h mode q (u .sendable)) glass either (u .size) pic y cb cr tmp pic′ y′ cb′ cr′ tmp′ answer
+    let x = shown p w h mode q index (tilesNo w h) (λ k. k) (all-sendable p w h mode q (u .sendable)) glass either (u .size) pic y cb cr tmp pic′ y′ cb′ cr′
+    tmp′ answer
     ly lb lr lt room d in
     (our-headers s₀ w h mode ho ho′ hr hw e, all-shown glass p w h mode q pic pic′ answer x)
 
 -- with one set for both it is what 01 says
-one-shown : (glass : ℕ) (p : List ℕ) (w h : ℕ) (q pic pic′ : List ℕ) (r : FrameReading) → ShownOver glass p w h (oneFor q) pic pic′ r → Shown glass p w h q pic pic′ r
+one-shown :
+    (glass : ℕ) (p : List ℕ) (w h : ℕ) (q pic pic′ : List ℕ) (r : FrameReading) → ShownOver glass p w h (oneFor q) pic pic′ r →
+    Shown glass p w h q pic pic′ r
 unfolding wordOver wordBack quantFor _⇒_∣_
 one-shown glass p w h q pic pic′ r s = record { number = s .number; tiles = s .tiles; word = s .word; past = s .past; long = s .long }
 

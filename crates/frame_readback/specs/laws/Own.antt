@@ -81,9 +81,16 @@ rect-at m k l =
     ap₂ (λ (a b : ℕ). a + 256 * b) (getD-take 8 (drop 25 m) k 0 (omega arith) ∙ getD-drop 25 m k 0)
     (getD-take 8 (drop 25 m) (k + 1) 0 (omega arith) ∙ getD-drop 25 m (k + 1) 0 ∙ ap (λ (i : ℕ). getD m i 0) (omega arith))
 
-pub whole-region : (m : List ℕ) (w h px py : ℕ) → le16 m 25 ≡ 0 → le16 m 27 ≡ 0 → le16 m 29 ≡ w → le16 m 31 ≡ h → px < w → py < h → inRegion (take 8 (drop 25 m)) 1 px py ≡ true
+pub whole-region :
+    (m : List ℕ) (w h px py : ℕ) → le16 m 25 ≡ 0 → le16 m 27 ≡ 0 → le16 m 29 ≡ w → le16 m 31 ≡ h → px < w → py < h →
+    inRegion (take 8 (drop 25 m)) 1 px py ≡ true
 unfolding some holds inside
 whole-region m w h px py a b c d l k =
     region-is (take 8 (drop 25 m)) px py 1 (omega arith)
     ∙ rw (rect-at m 0 (omega arith), rect-at m 2 (omega arith), rect-at m 4 (omega arith), rect-at m 6 (omega arith), a, b, c, d)
-    (sym (case-yes _ _ _ _ (sym (passes _ _ _ _ (le-leb 0 px (omega arith)) (passes _ _ _ _ (lt-ltb px (0 + w) (omega arith)) (passes _ _ _ _ (le-leb 0 py (omega arith)) (sym (lt-ltb py (0 + h) (omega arith))))))) refl))
+    (sym
+    (case-yes _ _ _ _
+    (sym
+    (passes _ _ _ _ (le-leb 0 px (omega arith))
+    (passes _ _ _ _ (lt-ltb px (0 + w) (omega arith)) (passes _ _ _ _ (le-leb 0 py (omega arith)) (sym (lt-ltb py (0 + h) (omega arith)))))))
+    refl))

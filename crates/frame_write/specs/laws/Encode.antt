@@ -98,7 +98,8 @@ module _ (mode : ℕ) (q : List ℕ) (zs : List ℤ) where
   unfolding partRefusal
   part-range e = judged-range q zs (both _ _ e .0)
 
-  pub part-judged : (f : ℕ) → f ≡ coefficientsFault q zs → (f ≡ 0 → ⊥) → Sizes (partRefusal mode q zs) (length (bytesOf mode zs)) (record { number = f; size = 0 })
+  pub part-judged :
+      (f : ℕ) → f ≡ coefficientsFault q zs → (f ≡ 0 → ⊥) → Sizes (partRefusal mode q zs) (length (bytesOf mode zs)) (record { number = f; size = 0 })
   unfolding partRefusal
   part-judged f e h = sizes-none _ _ _ (stops _ _ _ (λ z. h (e ∙ z)) e) h refl
 
@@ -129,7 +130,9 @@ module _ (a b c x y z n : ℕ) (r : Sized) (mr : Sizes a x r) where
         sizes-none _ _ _ (goes-on _ _ _ (sym (mr .number) ∙ er) (goes-on _ _ _ (sym (ms .number) ∙ es) (mt .number))) h (size-none _ _ _ mt h)
 
 module _ (p : List ℕ) (w h mode : ℕ) (q : Quants) where
-  pub tile-long : (k : ℕ) → tileLen (tileOver p w h mode q k) ≡ 19 + length (partOver p w h mode q k 0) + length (partOver p w h mode q k 1) + length (partOver p w h mode q k 2)
+  pub tile-long :
+      (k : ℕ) →
+      tileLen (tileOver p w h mode q k) ≡ 19 + length (partOver p w h mode q k 0) + length (partOver p w h mode q k 1) + length (partOver p w h mode q k 2)
   unfolding tileOver
   tile-long k = tile-parts (chromaIndex q) (k % colsOf w) (k / colsOf w) (partOver p w h mode q k 0) (partOver p w h mode q k 1) (partOver p w h mode q k 2)
 
@@ -137,7 +140,9 @@ module _ (p : List ℕ) (w h mode : ℕ) (q : Quants) where
       (mr : Sizes (stopOver p w h mode q k 0) (length (partOver p w h mode q k 0)) r) (er : r .number ≡ 0)
       (ms : Sizes (stopOver p w h mode q k 1) (length (partOver p w h mode q k 1)) s) (es : s .number ≡ 0)
       (mt : Sizes (stopOver p w h mode q k 2) (length (partOver p w h mode q k 2)) t) (et : t .number ≡ 0) where
-    pub tile-sized : (n : ℕ) → n ≡ 19 + r .size + s .size + t .size → Sizes (tileRefusalOver p w h mode q k) (tileLen (tileOver p w h mode q k)) (record { number = 0; size = n })
+    pub tile-sized :
+        (n : ℕ) → n ≡ 19 + r .size + s .size + t .size →
+        Sizes (tileRefusalOver p w h mode q k) (tileLen (tileOver p w h mode q k)) (record { number = 0; size = n })
     unfolding tileRefusalOver
     tile-sized n e =
         sizes-done _ _ _ (goes-on _ _ _ (sym (mr .number) ∙ er) (goes-on _ _ _ (sym (ms .number) ∙ es) (sym et ∙ mt .number))) refl
@@ -154,7 +159,8 @@ module _ (p : List ℕ) (w h mode : ℕ) (q : Quants) where
       omega (arith, tile-long k)
 
 -- a part that is sized and not refused
-pub part-sized : (mode : ℕ) (q : List ℕ) (zs : List ℤ) (s : Sized) → Sizes (partRefusal mode q zs) (length (bytesOf mode zs)) s → s .number ≡ 0 → s .size ≤ 65535
+pub part-sized :
+    (mode : ℕ) (q : List ℕ) (zs : List ℤ) (s : Sized) → Sizes (partRefusal mode q zs) (length (bytesOf mode zs)) s → s .number ≡ 0 → s .size ≤ 65535
 part-sized mode q zs s m e = let a = size-done _ _ _ m e in let b = part-small mode q zs (sym e ∙ m .number) in omega arith
 
 -- ---- the sizing loop: what is left to refuse, and the bytes so far

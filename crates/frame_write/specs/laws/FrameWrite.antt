@@ -45,7 +45,8 @@ both-sets : (q : Quants) → goodSets q ≡ true → (isGood (q .luma .v) ≡ tr
 unfolding goodSets
 both-sets q e = both-tests (isGood (q .luma .v)) (isGood (q .chroma .v)) e
 
-pub args-good : (w h mode : ℕ) (q : Quants) (p : List ℕ) (list scratch : ℕ) → 0 ≡ argFaultOver w h mode q (length p) list scratch → ArgsGood w h mode q p list scratch
+pub args-good :
+    (w h mode : ℕ) (q : Quants) (p : List ℕ) (list scratch : ℕ) → 0 ≡ argFaultOver w h mode q (length p) list scratch → ArgsGood w h mode q p list scratch
 unfolding argFaultOver pixelsGood
 args-good w h mode q p list scratch e =
     let a = held (sizeGood w h) 5 _ 0 (λ z. omega arith) e in
@@ -113,7 +114,8 @@ unfolding workLeft
 cleared zero xs ys e c = c
 cleared (suc f) xs ys e c = absurd (omega arith)
 
-module _ (w h mode : ℕ) (q : Quants) (index : ℕ) (p : List ℕ) (list scratch : List ℤ) (out : List ℕ) (x : ℕ) (is : x ≡ argFaultOver w h mode q (length p) (length list) (length scratch)) where
+module _ (w h mode : ℕ) (q : Quants) (index : ℕ) (p : List ℕ) (list scratch : List ℤ) (out : List ℕ) (x : ℕ)
+    (is : x ≡ argFaultOver w h mode q (length p) (length list) (length scratch)) where
   pub all-refused : (x ≡ 0 → ⊥) → FrameWrittenOver w h mode q index p list list scratch scratch out out (Refused x)
   all-refused f = record {
     wrote = refused _ x _ out (stops _ _ _ (λ z. f (is ∙ z)) is) f;
@@ -121,7 +123,9 @@ module _ (w h mode : ℕ) (q : Quants) (index : ℕ) (p : List ℕ) (list scratc
     second = untouched _ x scratch is f;
   }
 
-  pub all-sent : x ≡ 0 → (list′ scratch′ : List ℤ) (out′ : List ℕ) (r : Writing) → Wrote (sendFaultOver index w h mode q p (length out)) (frameOver index w h mode q p) out out′ r →
+  pub all-sent :
+      x ≡ 0 → (list′ scratch′ : List ℤ) (out′ : List ℕ) (r : Writing) →
+      Wrote (sendFaultOver index w h mode q p (length out)) (frameOver index w h mode q p) out out′ r →
       list′ ≡ replicate 4096 (pos 0) → scratch′ ≡ replicate 4096 (pos 0) → FrameWrittenOver w h mode q index p list list′ scratch scratch′ out out′ r
   all-sent z list′ scratch′ out′ r s c d = record {
     wrote = onward _ _ _ out out′ r (sym z ∙ is) s;

@@ -35,5 +35,6 @@ module _ (p : List ℕ) (w h mode : ℕ) (q : Quants) where
       (o5 ≡ patch o at (tileOf (tileOver p w h mode q k))) × (e ≡ at + tileLen (tileOver p w h mode q k))
   unfolding tileOver
   tile-stands o o1 o2 o3 o4 o5 k cols at b c e ic ec ei l p1 p2 eb p3 ecb p4 ee p5 =
-      tile-put o o1 o2 o3 o4 o5 (partOver p w h mode q k 0) (partOver p w h mode q k 1) (partOver p w h mode q k 2) (chromaIndex q) (k % colsOf w) (k / colsOf w)
+      tile-put o o1 o2 o3 o4 o5 (partOver p w h mode q k 0) (partOver p w h mode q k 1) (partOver p w h mode q k 2) (chromaIndex q) (k % colsOf w)
+      (k / colsOf w)
       at b c e l (p1 ∙ ap₂ (λ (i n : ℕ). patch o at (headOf i (k % n) (k / n) 0 0 0 0)) ei ec) p2 eb p3 ecb p4 ee p5

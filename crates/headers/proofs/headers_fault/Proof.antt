@@ -5,12 +5,6 @@ use borrow.Author.Needs.{needs}
 use Rattle.headers.proofs.headers_fault.Statement.{statement}
 use Rattle.headers.proofs.headers_fault.Tie as tie
 
-is-size-requires : tie.Need-is-size-requires
-is-size-requires c κs = search needs
-
-is-mode-requires : tie.Need-is-mode-requires
-is-mode-requires c κs = search needs
-
 returns : tie.Need-returns
 unfolding headersFault
 returns c = search rows
@@ -28,5 +22,4 @@ unfolding headersFault
 returns-4 c = search rows
 
 pub headers-fault-spec : {M : Type 1} → statement M
-headers-fault-spec =
-    tie.close (tie.spec is-size-requires is-mode-requires returns returns-2 returns-3 returns-4)
+headers-fault-spec = tie.close (tie.spec (λ c κs. search needs) (λ c κs. search needs) returns returns-2 returns-3 returns-4)

@@ -1,3 +1,4 @@
+-- Its fields, each right behind the one before, are one patch (`patch-next`).
 use mathlib.Core.Path.{refl}
 use native.Mathlib.Omega.{arith}
 use Rattle.wire.specs.Le.{bytes16, bytes32}
@@ -6,28 +7,14 @@ use Rattle.headers.specs.Headers.{channelsOf}
 use borrow.Author.Needs.{needs}
 use Rattle.headers.proofs.put_channels.Statement.{statement}
 use Rattle.headers.proofs.put_channels.Tie as tie
-use Rattle.headers.proofs.put_channels.Reads as reads
-use Rattle.headers.proofs.put_channels.Lts as lts
-use Rattle.headers.proofs.put_head.Reads as put-head-reads
-use Rattle.wire.proofs.put_two16.Reads as put-two16-reads
-use Rattle.wire.proofs.put_two8.Reads as put-two8-reads
-
-put-head-requires : tie.Need-put-head-requires
-put-head-requires c κs = search needs
-
-put-two8-requires : tie.Need-put-two8-requires
-put-two8-requires c κs = search needs
-
-put-two16-requires : tie.Need-put-two16-requires
-put-two16-requires c κs = search needs
-
-same-length : tie.Need-same-length
-same-length c = search needs
 
 returns : tie.Need-returns
 unfolding bytes16 bytes32 channelsOf
-returns c = let w2 = patch-next _ _ _ _ _ _ _ (c .before .before .before .before .before .before .before .before .before .before .put-head .ensures) (c .before .before .before .before .before .before .put-two8 .ensures) refl (omega arith) in patch-next _ _ _ _ _ _ _ w2 (c .before .before .put-two16 .ensures) refl (omega arith)
+returns c =
+    let w2 =
+    patch-next _ _ _ _ _ _ _ (c .before .before .before .before .before .before .before .before .before .before .put-head .ensures)
+    (c .before .before .before .before .before .before .put-two8 .ensures) refl (omega arith) in
+    patch-next _ _ _ _ _ _ _ w2 (c .before .before .put-two16 .ensures) refl (omega arith)
 
 pub put-channels-spec : {M : Type 1} → statement M
-put-channels-spec =
-    tie.close (tie.spec put-head-requires put-two8-requires put-two16-requires same-length returns)
+put-channels-spec = tie.close (tie.spec (λ c κs. search needs) (λ c κs. search needs) (λ c κs. search needs) (λ c. search needs) returns)

@@ -7,18 +7,6 @@ use borrow.Author.Needs.{needs}
 use Rattle.headers.proofs.put_head.Statement.{statement}
 use Rattle.headers.proofs.put_head.Tie as tie
 
-open-block-requires : tie.Need-open-block-requires
-open-block-requires c κs = search needs
-
-add-put32-at : tie.Need-add-put32-at
-add-put32-at c = search needs
-
-put32-at-requires : tie.Need-put32-at-requires
-put32-at-requires c κs = search needs
-
-same-length : tie.Need-same-length
-same-length c = search needs
-
 returns : tie.Need-returns
 unfolding bytes16 bytes32 patch
 returns c =
@@ -29,4 +17,4 @@ returns c =
     (omega arith) (omega arith)
 
 pub put-head-spec : {M : Type 1} → statement M
-put-head-spec = tie.close (tie.spec open-block-requires add-put32-at put32-at-requires same-length returns)
+put-head-spec = tie.close (tie.spec (λ c κs. search needs) (λ c. search needs) (λ c κs. search needs) (λ c. search needs) returns)

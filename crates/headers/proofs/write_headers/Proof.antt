@@ -9,9 +9,6 @@ use borrow.Author.Needs.{needs}
 use Rattle.headers.proofs.write_headers.Statement.{statement}
 use Rattle.headers.proofs.write_headers.Tie as tie
 
-headers-fault-requires : tie.Need-headers-fault-requires
-headers-fault-requires c κs = search needs
-
 returns : tie.Need-returns
 returns c = refused _ _ _ _ (c .before .headers-fault .ensures) (c .if1 .taken)
 
@@ -19,9 +16,6 @@ put-headers-requires : tie.Need-put-headers-requires
 put-headers-requires c κs =
     let k = writable _ _ _ _ (sym (c .before .if1 .left) ∙ c .before .before .headers-fault .ensures) in
     (omega (arith, k .fits), omega arith)
-
-same-length : tie.Need-same-length
-same-length c = search needs
 
 returns-2 : tie.Need-returns-2
 unfolding bytes16 bytes32 headersOf syncOf versionsOf channelsOf contextOf
@@ -31,5 +25,4 @@ returns-2 c =
     done _ _ _ _ _ (sym (p .if1 .left) ∙ q .headers-fault .ensures) refl (c .before .before .put-headers .ensures)
 
 pub write-headers-spec : {M : Type 1} → statement M
-write-headers-spec =
-    tie.close (tie.spec headers-fault-requires returns put-headers-requires same-length returns-2)
+write-headers-spec = tie.close (tie.spec (λ c κs. search needs) returns put-headers-requires (λ c. search needs) returns-2)

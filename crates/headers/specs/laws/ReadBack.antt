@@ -16,7 +16,8 @@ use Rattle.wire.specs.declared.Writing.{Writing}
 use Rattle.whole.specs.Row.{_!_⨾_, _⇒_∣_, _⨟_}
 use Rattle.session.specs.declared.Session.{Session}
 use Rattle.session.specs.declared.HeaderReading.the-variants.{Taken}
-use Rattle.session.specs.Header.{recordOf, sizeGood, due, sizeOf, syncJudge, versionsJudge, channelsJudge, propertiesGood, contextJudge, etOf, syncFault, versionsFault, channelsFault, contextFault, fieldFault, headJudge, headerFault, keptGlass, recordAfter, headerReading}
+use Rattle.session.specs.Header.{recordOf, sizeGood, due, sizeOf, syncJudge, versionsJudge, channelsJudge, propertiesGood, contextJudge, etOf, syncFault}
+use Rattle.session.specs.Header.{versionsFault, channelsFault, contextFault, fieldFault, headJudge, headerFault, keptGlass, recordAfter, headerReading}
 use Rattle.session.specs.laws.Header.{allowed, glass-kept, made-1, made-2, made-3}
 use Rattle.headers.specs.Headers.{syncOf, versionsOf, channelsOf, propertiesOf, contextOf, headersOf, HeadersWritten}
 use Rattle.headers.specs.laws.Headers.{writable}
@@ -47,7 +48,9 @@ versions-taken : (g : ℕ) → g ≤ 1 → headerReading (recordOf g 1 0 0 0) ve
 unfolding versionsOf bytes16 bytes32 le16 le32 _!_⨾_ _⇒_∣_ _⨟_ due sizeOf versionsJudge versionsFault fieldFault headJudge headerFault recordAfter headerReading
 versions-taken g l = rw (made-1 g l)
 
-channels-by : (g : ℕ) → g ≤ 1 → (m : List ℕ) (w h : ℕ) → length m ≡ 12 → le16 m 0 ≡ 0xCCC2 → le32 m 2 ≡ 12 → getD m 6 0 ≡ 1 → getD m 7 0 ≡ 0 → le16 m 8 ≡ w → le16 m 10 ≡ h →
+channels-by :
+    (g : ℕ) → g ≤ 1 → (m : List ℕ) (w h : ℕ) → length m ≡ 12 → le16 m 0 ≡ 0xCCC2 → le32 m 2 ≡ 12 → getD m 6 0 ≡ 1 → getD m 7 0 ≡ 0 → le16 m 8 ≡ w →
+    le16 m 10 ≡ h →
     sizeGood w h ≡ true → headerReading (recordOf g 2 0 0 0) m ≡ Taken (recordOf g 3 w h 0)
 unfolding _!_⨾_ _⇒_∣_ _⨟_ due sizeOf channelsJudge channelsFault fieldFault headJudge headerFault recordAfter headerReading
 channels-by g k m w h l t n a b x y z = rw (l, t, n, a, b, x, y, z, made-2 g k)
@@ -61,11 +64,13 @@ unfolding channelsOf bytes16 bytes32 le16 le32
 channels-taken g w h l p q z = channels-by g l (channelsOf w h) w h refl refl refl refl refl (two-bytes w p) (two-bytes h q) z
 
 context-1 : (g w h : ℕ) → g ≤ 1 → sizeGood w h ≡ true → headerReading (recordOf g 3 w h 0) (contextOf 1) ≡ Taken (recordOf g 4 w h 1)
-unfolding contextOf propertiesOf bytes16 bytes32 le16 le32 _!_⨾_ _⇒_∣_ _⨟_ isMode due sizeOf propertiesGood contextJudge etOf contextFault fieldFault headJudge headerFault recordAfter headerReading
+unfolding contextOf propertiesOf bytes16 bytes32 le16 le32 _!_⨾_ _⇒_∣_ _⨟_ isMode due sizeOf propertiesGood contextJudge etOf contextFault fieldFault
+    headJudge headerFault recordAfter headerReading
 context-1 g w h l z = rw (made-3 g w h l z)
 
 context-4 : (g w h : ℕ) → g ≤ 1 → sizeGood w h ≡ true → headerReading (recordOf g 3 w h 0) (contextOf 4) ≡ Taken (recordOf g 4 w h 4)
-unfolding contextOf propertiesOf bytes16 bytes32 le16 le32 _!_⨾_ _⇒_∣_ _⨟_ isMode due sizeOf propertiesGood contextJudge etOf contextFault fieldFault headJudge headerFault recordAfter headerReading
+unfolding contextOf propertiesOf bytes16 bytes32 le16 le32 _!_⨾_ _⇒_∣_ _⨟_ isMode due sizeOf propertiesGood contextJudge etOf contextFault fieldFault
+    headJudge headerFault recordAfter headerReading
 context-4 g w h l z = rw (made-3 g w h l z)
 
 -- the four calls on 47 bytes, one after the other: each is taken, and leaves the record that the next one starts from

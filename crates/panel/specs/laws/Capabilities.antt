@@ -109,7 +109,8 @@ ack-told m fields number b p =
       ap (λ (n : ℕ). readingOf TakenAck RefusedAck n (ackFields (readAck m))) (p .said) ∙ ack-is (readAck m) (requestTwelve .of-ack .numbers call),
     )
 
-pub ack-once : (m fields fields′ : List ℕ) (number number′ : ℕ) → ReadAckCall m fields number → ReadAckCall m fields′ number′ → (fields ≡ fields′) × (number ≡ number′)
+pub ack-once :
+    (m fields fields′ : List ℕ) (number number′ : ℕ) → ReadAckCall m fields number → ReadAckCall m fields′ number′ → (fields ≡ fields′) × (number ≡ number′)
 ack-once m fields fields′ number number′ p q = (p .fields-are ∙ sym (q .fields-are), p .said ∙ sym (q .said))
 
 -- ---- the writers
@@ -124,7 +125,8 @@ module _ (fault : ℕ) (bytes out : List ℕ) where
     pub size-same : size ≡ size′
     pub number-same : n ≡ n′
 
-  pub writer-once : (a b : List ℕ) (size size′ n n′ : ℕ) → WriterCall fault bytes out a size n → WriterCall fault bytes out b size′ n′ → SameWriting a b size size′ n n′
+  pub writer-once :
+      (a b : List ℕ) (size size′ n n′ : ℕ) → WriterCall fault bytes out a size n → WriterCall fault bytes out b size′ n′ → SameWriting a b size size′ n n′
   writer-once a b size size′ n n′ p q = record {
     out-same = p .left ∙ sym (q .left);
     size-same = p .long ∙ sym (q .long);

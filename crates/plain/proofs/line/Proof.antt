@@ -24,9 +24,6 @@ returns c =
     back-ok w32 (even-at .result) (even-at .ok) ∙ even-at .ensures ∙ line-even (avgOf (a .along)) (a .n) (λ
     (i : ℕ). S (a .l + a .d * i)) (λ (i : ℕ). S (a .h + a .d * i)) (a .k) (c .if1 .taken)
 
-next-requires : tie.Need-next-requires
-next-requires c κs = omega arith
-
 even-at-requires-2 : tie.Need-even-at-requires-2
 even-at-requires-2 c κs =
     let pre = c .before .before .before .pre in
@@ -102,4 +99,5 @@ returns-2 c =
 pub line-spec : {M : Type 1} → statement M
 line-spec =
     tie.close
-    (tie.spec even-at-requires returns next-requires even-at-requires-2 mul-odd add-odd mul-odd-2 shared-slice-copy-out-odd odd-requires returns-2)
+    (tie.spec even-at-requires returns (λ c κs. omega arith) even-at-requires-2 mul-odd add-odd mul-odd-2 shared-slice-copy-out-odd odd-requires
+    returns-2)

@@ -5,12 +5,6 @@ use borrow.Author.Needs.{needs}
 use Rattle.plain_code.proofs.kp_two.Statement.{statement}
 use Rattle.plain_code.proofs.kp_two.Tie as tie
 
-more-requires : tie.Need-more-requires
-more-requires c κs = search needs
-
-less-requires : tie.Need-less-requires
-less-requires c κs = search needs
-
 returns : tie.Need-returns
 returns c =
     let if1 = c .before .before .if1 in
@@ -28,5 +22,4 @@ returns-4 c =
     c .less .ensures ∙ sym (kp-11 _ _ _ (if1 .left) (c .before .if3 .left))
 
 pub kp-two-spec : {M : Type 1} → statement M
-kp-two-spec =
-    tie.close (tie.spec more-requires less-requires returns returns-2 returns-3 returns-4)
+kp-two-spec = tie.close (tie.spec (λ c κs. search needs) (λ c κs. search needs) returns returns-2 returns-3 returns-4)

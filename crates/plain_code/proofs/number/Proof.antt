@@ -33,9 +33,6 @@ mul-n c =
     let p : 2 ^ c .before .loop .i ≤ 2 ^ 32 = pow-mono {j = 32} (omega arith) in
     omega arith
 
-add-bit : tie.Need-add-bit Inv-loop μ-loop
-add-bit c = omega arith
-
 add-n : tie.Need-add-n Inv-loop μ-loop
 add-n c =
     let loop = c .before .before .loop in
@@ -65,4 +62,5 @@ returns c =
 pub number-spec : {M : Type 1} → statement M
 number-spec =
     tie.close
-    (tie.spec Inv-loop μ-loop loop-holds mul-n add-bit (λ c κs. search needs) add-n (λ c. omega arith) (λ c. omega arith) loop-again returns)
+    (tie.spec Inv-loop μ-loop loop-holds mul-n (λ c. omega arith) (λ c κs. search needs) add-n (λ c. omega arith) (λ c. omega arith) loop-again
+    returns)

@@ -5,15 +5,6 @@ use borrow.Author.Needs.{needs}
 use Rattle.plain_code.proofs.refusal_number.Statement.{statement}
 use Rattle.plain_code.proofs.refusal_number.Tie as tie
 
-enum-told : tie.Need-enum-told
-enum-told c = search needs
-
-enum-told-2 : tie.Need-enum-told-2
-enum-told-2 c = search needs
-
-enum-told-3 : tie.Need-enum-told-3
-enum-told-3 c = search needs
-
 returns : tie.Need-returns
 unfolding refusalNumber
 returns c = sym (ap refusalNumber (c .enum-told .given .1))
@@ -27,5 +18,4 @@ unfolding refusalNumber
 returns-3 c = sym (ap refusalNumber (c .enum-told3 .given .1))
 
 pub refusal-number-spec : {M : Type 1} → statement M
-refusal-number-spec =
-    tie.close (tie.spec enum-told enum-told-2 enum-told-3 returns returns-2 returns-3)
+refusal-number-spec = tie.close (tie.spec (λ c. search needs) (λ c. search needs) (λ c. search needs) returns returns-2 returns-3)

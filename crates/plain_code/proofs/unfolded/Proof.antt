@@ -7,12 +7,6 @@ use borrow.Author.Needs.{needs}
 use Rattle.plain_code.proofs.unfolded.Statement.{statement}
 use Rattle.plain_code.proofs.unfolded.Tie as tie
 
-cast-result : tie.Need-cast-result
-cast-result c = search needs
-
-cast-result-2 : tie.Need-cast-result-2
-cast-result-2 c = search needs
-
 sub-result : tie.Need-sub-result
 sub-result c = less-fits (c .before .args .v / 2) (omega arith)
 
@@ -23,4 +17,4 @@ returns-2 : tie.Need-returns-2
 returns-2 c = less-is (c .before .args .v / 2) (omega arith) ∙ sym (unfold-odd (c .before .args .v) (c .if1 .left))
 
 pub unfolded-spec : {M : Type 1} → statement M
-unfolded-spec = tie.close (tie.spec cast-result cast-result-2 sub-result returns returns-2)
+unfolded-spec = tie.close (tie.spec (λ c. search needs) (λ c. search needs) sub-result returns returns-2)

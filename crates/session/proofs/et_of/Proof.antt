@@ -1,10 +1,9 @@
+-- The definition itself; a rest modulo 16 is below 16.
 use native.Mathlib.Omega.{arith}
 use mathlib.Core.Path.{refl}
 use Rattle.session.specs.Header.{etOf}
 use Rattle.session.proofs.et_of.Statement.{statement}
 use Rattle.session.proofs.et_of.Tie as tie
-use Rattle.session.proofs.et_of.Reads as reads
-use Rattle.session.proofs.et_of.Lts as lts
 
 returns : tie.Need-returns
 unfolding etOf

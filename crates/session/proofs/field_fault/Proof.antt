@@ -1,15 +1,10 @@
+-- Each return is one row of `fieldFault`; the type's size says that the fields are there (`size0` to `size3`).
 use Rattle.whole.specs.laws.Row.{rows}
 use native.Mathlib.Omega.{arith}
 use Rattle.session.specs.Header.{fieldFault}
 use Rattle.session.specs.laws.Header.{size0, size1, size2, size3}
 use Rattle.session.proofs.field_fault.Statement.{statement}
 use Rattle.session.proofs.field_fault.Tie as tie
-use Rattle.session.proofs.field_fault.Reads as reads
-use Rattle.session.proofs.field_fault.Lts as lts
-use Rattle.session.proofs.channels_fault.Reads as channels-fault-reads
-use Rattle.session.proofs.context_fault.Reads as context-fault-reads
-use Rattle.session.proofs.sync_fault.Reads as sync-fault-reads
-use Rattle.session.proofs.versions_fault.Reads as versions-fault-reads
 
 sync-fault-requires : tie.Need-sync-fault-requires
 sync-fault-requires c κs = omega (arith, size0 _ (c .if1 .taken))
@@ -33,7 +28,9 @@ unfolding fieldFault
 returns-3 c = search rows
 
 context-fault-requires : tie.Need-context-fault-requires
-context-fault-requires c κs = omega (arith, size3 (c .before .before .before .before .args .t) (omega (arith, c .before .before .before .before .pre .0, c .before .before .before .before .pre .1)))
+context-fault-requires c κs =
+    let c4 = c .before .before .before .before in
+    omega (arith, size3 (c4 .args .t) (omega (arith, c4 .pre .0, c4 .pre .1)))
 
 returns-4 : tie.Need-returns-4
 unfolding fieldFault

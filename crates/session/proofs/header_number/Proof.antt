@@ -5,12 +5,6 @@ use borrow.Author.Needs.{needs}
 use Rattle.session.proofs.header_number.Statement.{statement}
 use Rattle.session.proofs.header_number.Tie as tie
 
-enum-known-h : tie.Need-enum-known-h
-enum-known-h c = search needs
-
-enum-known-h-2 : tie.Need-enum-known-h-2
-enum-known-h-2 c = search needs
-
 returns : tie.Need-returns
 unfolding headerNumber
 returns c = sym (ap headerNumber (c .before .h .given .1))
@@ -20,4 +14,4 @@ unfolding headerNumber
 returns-2 c = sym (ap headerNumber (c .before .h2 .given .1))
 
 pub header-number-spec : {M : Type 1} → statement M
-header-number-spec = tie.close (tie.spec enum-known-h enum-known-h-2 returns returns-2)
+header-number-spec = tie.close (tie.spec (λ c. search needs) (λ c. search needs) returns returns-2)

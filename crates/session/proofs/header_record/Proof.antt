@@ -6,12 +6,6 @@ use borrow.Author.Needs.{needs}
 use Rattle.session.proofs.header_record.Statement.{statement}
 use Rattle.session.proofs.header_record.Tie as tie
 
-enum-known-h : tie.Need-enum-known-h
-enum-known-h c = search needs
-
-enum-known-h-2 : tie.Need-enum-known-h-2
-enum-known-h-2 c = search needs
-
 returns : tie.Need-returns
 unfolding headerRecord
 returns c = ap (λ (h : HeaderReading). headerRecord h (c .before .before .before .args .before)) (sym (c .before .h .given .1))
@@ -21,4 +15,4 @@ unfolding headerRecord
 returns-2 c = ap (λ (h : HeaderReading). headerRecord h (c .before .before .before .args .before)) (sym (c .before .h2 .given .1))
 
 pub header-record-spec : {M : Type 1} → statement M
-header-record-spec = tie.close (tie.spec enum-known-h enum-known-h-2 returns returns-2)
+header-record-spec = tie.close (tie.spec (λ c. search needs) (λ c. search needs) returns returns-2)

@@ -17,9 +17,6 @@ returns-3 : tie.Need-returns-3
 unfolding counted
 returns-3 c = search rows depth 14 fits 20000
 
-is-size-requires : tie.Need-is-size-requires
-is-size-requires c κs = search needs
-
 returns-4 : tie.Need-returns-4
 unfolding counted
 returns-4 c = search rows depth 14 fits 20000
@@ -27,9 +24,6 @@ returns-4 c = search rows depth 14 fits 20000
 returns-5 : tie.Need-returns-5
 unfolding counted
 returns-5 c = search rows depth 14 fits 20000
-
-is-mode-requires : tie.Need-is-mode-requires
-is-mode-requires c κs = search needs
 
 returns-6 : tie.Need-returns-6
 unfolding counted
@@ -42,13 +36,4 @@ returns-7 c = search rows depth 14 fits 20000
 pub is-counted-spec : {M : Type 1} → statement M
 is-counted-spec =
     tie.close
-    (tie.spec
-    returns
-    returns-2
-    returns-3
-    is-size-requires
-    returns-4
-    returns-5
-    is-mode-requires
-    returns-6
-    returns-7)
+    (tie.spec returns returns-2 returns-3 (λ c κs. search needs) returns-4 returns-5 (λ c κs. search needs) returns-6 returns-7)

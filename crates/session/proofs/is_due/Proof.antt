@@ -9,15 +9,6 @@ returns : tie.Need-returns
 unfolding due
 returns c = search rows
 
-is-made-requires : tie.Need-is-made-requires
-is-made-requires c κs = search needs
-
-cast-result : tie.Need-cast-result
-cast-result c = search needs
-
-add-result : tie.Need-add-result
-add-result c = search needs
-
 returns-2 : tie.Need-returns-2
 unfolding due
 returns-2 c = search rows
@@ -27,5 +18,4 @@ unfolding due
 returns-3 c = search rows
 
 pub is-due-spec : {M : Type 1} → statement M
-is-due-spec =
-    tie.close (tie.spec returns is-made-requires cast-result add-result returns-2 returns-3)
+is-due-spec = tie.close (tie.spec returns (λ c κs. search needs) (λ c. search needs) (λ c. search needs) returns-2 returns-3)

@@ -9,24 +9,6 @@ returns : tie.Need-returns
 unfolding made
 returns c = search rows
 
-is-right-requires : tie.Need-is-right-requires
-is-right-requires c κs = search needs
-
-cast-is-counted : tie.Need-cast-is-counted
-cast-is-counted c = search needs
-
-cast-is-counted-2 : tie.Need-cast-is-counted-2
-cast-is-counted-2 c = search needs
-
-cast-is-counted-3 : tie.Need-cast-is-counted-3
-cast-is-counted-3 c = search needs
-
-cast-is-counted-4 : tie.Need-cast-is-counted-4
-cast-is-counted-4 c = search needs
-
-is-counted-requires : tie.Need-is-counted-requires
-is-counted-requires c κs = search needs
-
 returns-2 : tie.Need-returns-2
 unfolding made
 returns-2 c = search rows
@@ -38,13 +20,5 @@ returns-3 c = search rows
 pub is-made-spec : {M : Type 1} → statement M
 is-made-spec =
     tie.close
-    (tie.spec
-    returns
-    is-right-requires
-    cast-is-counted
-    cast-is-counted-2
-    cast-is-counted-3
-    cast-is-counted-4
-    is-counted-requires
-    returns-2
-    returns-3)
+    (tie.spec returns (λ c κs. search needs) (λ c. search needs) (λ c. search needs) (λ c. search needs) (λ c. search needs) (λ c κs. search needs)
+    returns-2 returns-3)

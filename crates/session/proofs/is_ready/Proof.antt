@@ -9,12 +9,9 @@ returns : tie.Need-returns
 unfolding ready
 returns c = search rows
 
-is-made-requires : tie.Need-is-made-requires
-is-made-requires c κs = search needs
-
 returns-2 : tie.Need-returns-2
 unfolding ready
 returns-2 c = search rows
 
 pub is-ready-spec : {M : Type 1} → statement M
-is-ready-spec = tie.close (tie.spec returns is-made-requires returns-2)
+is-ready-spec = tie.close (tie.spec returns (λ c κs. search needs) returns-2)

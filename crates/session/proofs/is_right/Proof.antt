@@ -8,21 +8,9 @@ use borrow.Author.Needs.{needs}
 use Rattle.session.proofs.is_right.Statement.{statement}
 use Rattle.session.proofs.is_right.Tie as tie
 
-cast-if1 : tie.Need-cast-if1
-cast-if1 c = search needs
-
-tiles-over-requires : tie.Need-tiles-over-requires
-tiles-over-requires c κs = search needs
-
 returns : tie.Need-returns
 unfolding right
 returns c = fails _ _ _ _ (ne-is refl (c .before .tiles-over .ensures .0) (c .if1 .taken)) refl
-
-cast-if2 : tie.Need-cast-if2
-cast-if2 c = search needs
-
-tiles-over-requires-2 : tie.Need-tiles-over-requires-2
-tiles-over-requires-2 c κs = search needs
 
 returns-2 : tie.Need-returns-2
 unfolding right
@@ -30,12 +18,6 @@ returns-2 c =
     let i = c .before .before .before in
     passes _ _ _ _ (eq-is refl (i .before .tiles-over .ensures .0) (i .if1 .left))
     (fails _ _ _ _ (ne-is refl (c .before .tiles-over2 .ensures .0) (c .if2 .taken)) refl)
-
-cast-result : tie.Need-cast-result
-cast-result c = search needs
-
-cast-result-2 : tie.Need-cast-result-2
-cast-result-2 c = search needs
 
 mul-result : tie.Need-mul-result
 mul-result c =
@@ -53,14 +35,5 @@ returns-3 c =
 pub is-right-spec : {M : Type 1} → statement M
 is-right-spec =
     tie.close
-    (tie.spec
-    cast-if1
-    tiles-over-requires
-    returns
-    cast-if2
-    tiles-over-requires-2
-    returns-2
-    cast-result
-    cast-result-2
-    mul-result
-    returns-3)
+    (tie.spec (λ c. search needs) (λ c κs. search needs) returns (λ c. search needs) (λ c κs. search needs) returns-2 (λ c. search needs)
+    (λ c. search needs) mul-result returns-3)

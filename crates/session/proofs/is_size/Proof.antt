@@ -1,9 +1,8 @@
+-- Each return is one row of `sizeGood`.
 use Rattle.whole.specs.laws.Row.{rows}
 use Rattle.session.specs.Header.{sizeGood}
 use Rattle.session.proofs.is_size.Statement.{statement}
 use Rattle.session.proofs.is_size.Tie as tie
-use Rattle.session.proofs.is_size.Reads as reads
-use Rattle.session.proofs.is_size.Lts as lts
 
 returns : tie.Need-returns
 unfolding sizeGood

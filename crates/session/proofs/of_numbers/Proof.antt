@@ -3,11 +3,8 @@ use borrow.Author.Needs.{needs}
 use Rattle.session.proofs.of_numbers.Statement.{statement}
 use Rattle.session.proofs.of_numbers.Tie as tie
 
-of-glass-requires : tie.Need-of-glass-requires
-of-glass-requires c κs = search needs
-
 returns : tie.Need-returns
 returns c = c .of-glass .ensures
 
 pub of-numbers-spec : {M : Type 1} → statement M
-of-numbers-spec = tie.close (tie.spec of-glass-requires returns)
+of-numbers-spec = tie.close (tie.spec (λ c κs. search needs) returns)

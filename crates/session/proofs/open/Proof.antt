@@ -6,11 +6,8 @@ use Rattle.session.specs.laws.Header.{numbers-at}
 use Rattle.session.proofs.open.Statement.{statement}
 use Rattle.session.proofs.open.Tie as tie
 
-of-glass-requires : tie.Need-of-glass-requires
-of-glass-requires c κs = search needs
-
 returns : tie.Need-returns
 returns c = c .of-glass .ensures ∙ numbers-at _ 0 0 0 0 (omega arith) (omega arith)
 
 pub open-spec : {M : Type 1} → statement M
-open-spec = tie.close (tie.spec of-glass-requires returns)
+open-spec = tie.close (tie.spec (λ c κs. search needs) returns)

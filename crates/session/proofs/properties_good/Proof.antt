@@ -14,12 +14,6 @@ returns-2 : tie.Need-returns-2
 unfolding propertiesGood
 returns-2 c = search rows depth 14 fits 20000
 
-et-of-requires : tie.Need-et-of-requires
-et-of-requires c κs = search needs
-
-is-mode-requires : tie.Need-is-mode-requires
-is-mode-requires c κs = search needs
-
 returns-3 : tie.Need-returns-3
 unfolding propertiesGood
 returns-3 c = passes _ _ _ _ (search rows) (passes _ _ _ _ (search rows) (passes _ _ _ _ (cc) (search rows)))
@@ -29,5 +23,4 @@ unfolding propertiesGood
 returns-4 c = passes _ _ _ _ (search rows) (passes _ _ _ _ (search rows) (fails _ _ _ _ (cc) refl))
 
 pub properties-good-spec : {M : Type 1} → statement M
-properties-good-spec =
-    tie.close (tie.spec returns returns-2 et-of-requires is-mode-requires returns-3 returns-4)
+properties-good-spec = tie.close (tie.spec returns returns-2 (λ c κs. search needs) (λ c κs. search needs) returns-3 returns-4)

@@ -8,18 +8,9 @@ use Rattle.session.proofs.Laws.{after-sync, after-versions, after-chann
 use Rattle.session.proofs.record_after.Statement.{statement}
 use Rattle.session.proofs.record_after.Tie as tie
 
-le16-at-requires : tie.Need-le16-at-requires
-le16-at-requires c κs = search needs
-
-kept-glass-requires : tie.Need-kept-glass-requires
-kept-glass-requires c κs = search needs
-
 returns : tie.Need-returns
 unfolding tilesOver
 returns c = after-sync _ _ _ (c .before .before .le16-at .ensures .0) (c .before .if1 .taken) _ (c .kept-glass .ensures)
-
-step-requires : tie.Need-step-requires
-step-requires c κs = search needs
 
 returns-2 : tie.Need-returns-2
 returns-2 c =
@@ -32,20 +23,11 @@ le16-at-requires-2 c κs =
     let g = t .before .before .pre in
     omega (arith, size2 _ (sym (t .le16-at .ensures .0) ∙ c .if3 .taken))
 
-cast-width : tie.Need-cast-width
-cast-width c = search needs
-
 le16-at-requires-3 : tie.Need-le16-at-requires-3
 le16-at-requires-3 c κs =
     let t = c .before .before .before .before in
     let g = t .before .before .pre in
     omega (arith, size2 _ (sym (t .le16-at .ensures .0) ∙ c .before .if3 .taken))
-
-cast-height : tie.Need-cast-height
-cast-height c = search needs
-
-of-glass-requires : tie.Need-of-glass-requires
-of-glass-requires c κs = search needs
 
 returns-3 : tie.Need-returns-3
 returns-3 c =
@@ -60,15 +42,6 @@ le16-at-requires-4 c κs =
     let g = t .before .before .pre in
     omega (arith, size3 _ (sym (t .le16-at .ensures .0) ∙ omega (arith, g .head .least, g .head .known)))
 
-et-of-requires : tie.Need-et-of-requires
-et-of-requires c κs = search needs
-
-cast-step : tie.Need-cast-step
-cast-step c = search needs
-
-step-requires-2 : tie.Need-step-requires-2
-step-requires-2 c κs = search needs
-
 returns-4 : tie.Need-returns-4
 returns-4 c =
     let i = c .before .before .before in
@@ -79,20 +52,6 @@ returns-4 c =
 pub record-after-spec : {M : Type 1} → statement M
 record-after-spec =
     tie.close
-    (tie.spec
-    le16-at-requires
-    kept-glass-requires
-    returns
-    step-requires
-    returns-2
-    le16-at-requires-2
-    cast-width
-    le16-at-requires-3
-    cast-height
-    of-glass-requires
-    returns-3
-    le16-at-requires-4
-    et-of-requires
-    cast-step
-    step-requires-2
-    returns-4)
+    (tie.spec (λ c κs. search needs) (λ c κs. search needs) returns (λ c κs. search needs) returns-2 le16-at-requires-2 (λ c. search needs)
+    le16-at-requires-3 (λ c. search needs) (λ c κs. search needs) returns-3 le16-at-requires-4 (λ c κs. search needs) (λ c. search needs)
+    (λ c κs. search needs) returns-4)

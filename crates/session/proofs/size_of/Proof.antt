@@ -1,10 +1,9 @@
+-- Each return is one row of `sizeOf`, and none is below 10.
 use Rattle.whole.specs.laws.Row.{rows}
 use Rattle.session.specs.Header.{sizeOf}
 use native.Mathlib.Omega.{arith}
 use Rattle.session.proofs.size_of.Statement.{statement}
 use Rattle.session.proofs.size_of.Tie as tie
-use Rattle.session.proofs.size_of.Reads as reads
-use Rattle.session.proofs.size_of.Lts as lts
 
 returns : tie.Need-returns
 unfolding sizeOf

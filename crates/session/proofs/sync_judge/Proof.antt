@@ -1,9 +1,8 @@
+-- Each return is one row of `syncJudge`.
 use Rattle.whole.specs.laws.Row.{rows}
 use Rattle.session.specs.Header.{syncJudge}
 use Rattle.session.proofs.sync_judge.Statement.{statement}
 use Rattle.session.proofs.sync_judge.Tie as tie
-use Rattle.session.proofs.sync_judge.Reads as reads
-use Rattle.session.proofs.sync_judge.Lts as lts
 
 returns : tie.Need-returns
 unfolding syncJudge

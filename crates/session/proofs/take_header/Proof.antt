@@ -7,9 +7,6 @@ use borrow.Author.Needs.{needs}
 use Rattle.session.proofs.take_header.Statement.{statement}
 use Rattle.session.proofs.take_header.Tie as tie
 
-header-fault-requires : tie.Need-header-fault-requires
-header-fault-requires c κs = search needs
-
 returns : tie.Need-returns
 unfolding headerReading
 returns c = case-no _ _ _ _ (ne-is (c .before .header-fault .ensures) refl (c .if1 .taken)) (cc)
@@ -22,5 +19,4 @@ unfolding headerReading
 returns-2 c = case-yes _ _ _ _ (eq-is (c .before .before .header-fault .ensures) refl (c .before .if1 .left)) (cc)
 
 pub take-header-spec : {M : Type 1} → statement M
-take-header-spec =
-    tie.close (tie.spec header-fault-requires returns record-after-requires returns-2)
+take-header-spec = tie.close (tie.spec (λ c κs. search needs) returns record-after-requires returns-2)

@@ -6,12 +6,9 @@ use borrow.Author.Needs.{needs}
 use Rattle.session.proofs.tiles_over.Statement.{statement}
 use Rattle.session.proofs.tiles_over.Tie as tie
 
-add-result : tie.Need-add-result
-add-result c = search needs
-
 returns : tie.Need-returns
 unfolding tilesOver
 returns c = (refl, omega arith)
 
 pub tiles-over-spec : {M : Type 1} → statement M
-tiles-over-spec = tie.close (tie.spec add-result returns)
+tiles-over-spec = tie.close (tie.spec (λ c. search needs) returns)

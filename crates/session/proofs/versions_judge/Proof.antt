@@ -1,9 +1,8 @@
+-- Each return is one row of `versionsJudge`.
 use Rattle.whole.specs.laws.Row.{rows}
 use Rattle.session.specs.Header.{versionsJudge}
 use Rattle.session.proofs.versions_judge.Statement.{statement}
 use Rattle.session.proofs.versions_judge.Tie as tie
-use Rattle.session.proofs.versions_judge.Reads as reads
-use Rattle.session.proofs.versions_judge.Lts as lts
 
 returns : tie.Need-returns
 unfolding versionsJudge

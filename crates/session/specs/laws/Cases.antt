@@ -4,11 +4,14 @@ use mathlib.Core.Path.{refl}
 use Rattle.wire.specs.Le.{le16, le32}
 use Rattle.wire.specs.Mode.{isMode}
 use Rattle.whole.specs.Row.{_!_⨾_, _⇒_∣_, _⨟_}
-use Rattle.session.specs.Header.{tilesOver, right, sizeGood, counted, made, ready, due, sizeOf, syncJudge, versionsJudge, channelsJudge, propertiesGood, contextJudge, etOf, syncFault, versionsFault, channelsFault, contextFault, fieldFault, headJudge, headerFault, keptGlass, recordAfter, headerReading}
+use Rattle.session.specs.Header.{tilesOver, right, sizeGood, counted, made, ready, due, sizeOf, syncJudge, versionsJudge, channelsJudge}
+use Rattle.session.specs.Header.{propertiesGood, contextJudge, etOf, syncFault, versionsFault, channelsFault, contextFault, fieldFault, headJudge}
+use Rattle.session.specs.Header.{headerFault, keptGlass, recordAfter, headerReading}
 use Rattle.session.specs.Cases.{Cases}
 
 pub cases : Cases
-unfolding le16 le32 _!_⨾_ _⇒_∣_ _⨟_ tilesOver right sizeGood isMode counted made ready due sizeOf syncJudge versionsJudge channelsJudge propertiesGood contextJudge etOf syncFault versionsFault channelsFault contextFault fieldFault headJudge headerFault keptGlass recordAfter headerReading
+unfolding le16 le32 _!_⨾_ _⇒_∣_ _⨟_ tilesOver right sizeGood isMode counted made ready due sizeOf syncJudge versionsJudge channelsJudge propertiesGood
+    contextJudge etOf syncFault versionsFault channelsFault contextFault fieldFault headJudge headerFault keptGlass recordAfter headerReading
 cases = record {
   sync-taken = refl;
   versions-taken = refl;

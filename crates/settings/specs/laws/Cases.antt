@@ -6,7 +6,8 @@ use Rattle.wire.specs.Le.{le16, bytes16}
 use Rattle.wire.specs.Mode.{isMode}
 use Rattle.bands.specs.Bands.{quantOf, goodTo}
 use Rattle.quants.specs.Quants.{quantBytes, alike, same}
-use Rattle.settings.specs.Settings.{bodyOf, known, placed, frontFault, takes, settingsIn, settingsFault, bytesFault, recordFault, after, ended, unless, walk, readSettings, versionRecord, oneRecord, twoRecord, settingsOf, sizeOf, writeFault}
+use Rattle.settings.specs.Settings.{bodyOf, known, placed, frontFault, takes, settingsIn, settingsFault, bytesFault, recordFault, after, ended}
+use Rattle.settings.specs.Settings.{unless, walk, readSettings, versionRecord, oneRecord, twoRecord, settingsOf, sizeOf, writeFault}
 use Rattle.settings.specs.Cases.{Cases}
 
 pub cases : Cases

@@ -15,7 +15,8 @@ use Rattle.whole.specs.Among.{among, Among}
 use Rattle.whole.specs.laws.Among.{numbers, said, among-then}
 use Rattle.whole.specs.laws.Row.{both, case-yes, case-no, case-not}
 use Rattle.bands.specs.Bands.{quantOf}
-use Rattle.settings.specs.Settings.{settings, Kept, Refused, start, bodyOf, settingsFault, settingsIn, frontFault, bytesFault, recordFault, after, ended, unless, walk, readSettings, GoodSettings}
+use Rattle.settings.specs.Settings.{settings, Kept, Refused, start, bodyOf, settingsFault, settingsIn, frontFault, bytesFault, recordFault, after}
+use Rattle.settings.specs.Settings.{ended, unless, walk, readSettings, GoodSettings}
 use Rattle.settings.specs.laws.Read.{body-in, body-1, body-2}
 use Rattle.settings.specs.declared.Settings.{Settings}
 use Rattle.settings.specs.declared.read.Reading.{Reading}

@@ -16,7 +16,8 @@ use Rattle.whole.specs.laws.Row.{held, both, case-yes, case-no, passes, fails, 
 use Rattle.wire.specs.Le.{le16}
 use Rattle.bands.specs.Bands.{quantOf}
 use Rattle.quants.specs.laws.Quants.{drop-all}
-use Rattle.settings.specs.Settings.{settings, Refused, start, bodyOf, state, takes, settingsFault, frontFault, bytesFault, recordFault, settingsIn, after, ended, unless, walk, readSettings}
+use Rattle.settings.specs.Settings.{settings, Refused, start, bodyOf, state, takes, settingsFault, frontFault, bytesFault, recordFault, settingsIn}
+use Rattle.settings.specs.Settings.{after, ended, unless, walk, readSettings}
 use Rattle.settings.specs.declared.Settings.{Settings}
 use Rattle.settings.specs.declared.read.Reading.{Reading}
 use Rattle.settings.specs.declared.read.State.{State}

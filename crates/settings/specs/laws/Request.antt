@@ -14,10 +14,12 @@ use Rattle.wire.specs.laws.Wrote.{wrote-once, wrote-bytes}
 use Rattle.bands.specs.declared.Quant.{Quant}
 use Rattle.quants.specs.Quants.{same}
 use Rattle.quants.specs.laws.Quants.{same-is}
-use Rattle.settings.specs.Settings.{settings, Kept, Refused, known, takes, ended, walk, readSettings, versionRecord, oneRecord, twoRecord, settingsOf, writeFault, GoodSettings}
+use Rattle.settings.specs.Settings.{settings, Kept, Refused, known, takes, ended, walk, readSettings, versionRecord, oneRecord, twoRecord, settingsOf}
+use Rattle.settings.specs.Settings.{writeFault, GoodSettings}
 use Rattle.settings.specs.Request.{one, two, recordsOf, storeOf, WriteSettings, writtenBy, RequestFive}
 use Rattle.settings.specs.laws.Good.{given-good, read-among}
-use Rattle.settings.specs.laws.Store.{kind-fault, place-fault, presence-fault, placed-behind, version-again, taken-small, version-refused, not-taken, missing, unknown, last-kept, alone, fault-said}
+use Rattle.settings.specs.laws.Store.{kind-fault, place-fault, presence-fault, placed-behind, version-again, taken-small, version-refused, not-taken}
+use Rattle.settings.specs.laws.Store.{missing, unknown, last-kept, alone, fault-said}
 use Rattle.settings.specs.laws.Write.{of-one, of-two}
 use Rattle.settings.specs.declared.Settings.{Settings}
 

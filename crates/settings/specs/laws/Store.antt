@@ -17,7 +17,9 @@ use Rattle.bands.specs.Bands.{quantOf}
 use Rattle.bands.specs.laws.Band.{good-set}
 use Rattle.quants.specs.Quants.{quantBytes}
 use Rattle.quants.specs.laws.Quants.{set-five, set-read}
-use Rattle.settings.specs.Settings.{settings, noSettings, Kept, Refused, state, start, bodyOf, known, placed, takes, settingsFault, settingsIn, frontFault, bytesFault, recordFault, after, ended, unless, walk, readSettings, versionRecord, oneRecord, twoRecord, GoodSettings}
+use Rattle.settings.specs.Settings.{settings, noSettings, Kept, Refused, state, start, bodyOf, known, placed, takes, settingsFault, settingsIn}
+use Rattle.settings.specs.Settings.{frontFault, bytesFault, recordFault, after, ended, unless, walk, readSettings, versionRecord, oneRecord}
+use Rattle.settings.specs.Settings.{twoRecord, GoodSettings}
 use Rattle.settings.specs.laws.Read as R
 use Rattle.settings.specs.laws.Write.{fine, one-body, two-body}
 use Rattle.settings.specs.Request.{Setting, one, two, recordOf, kindOf, saidBy, recordsOf, storeOf, AllGood, lastOf}

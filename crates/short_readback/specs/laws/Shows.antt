@@ -58,13 +58,16 @@ module _ (old new ks : List ℕ) (w h mode : ℕ) (q : Quants) (a : Acceptable w
       by true c = absurd (yes-not-no (sym (a .all k l (changed-is old new w h k c)) ∙ e))
       by false c = refl
 
-  module _ (glass : ℕ) (pic pic′ : List ℕ) (r : FrameReading) (s : ShownPicked glass new w h q (length ks) (λ (i : ℕ). getD ks i 0) pic pic′ r) (o : Shows glass old w h q pic) where
+  module _ (glass : ℕ) (pic pic′ : List ℕ) (r : FrameReading) (s : ShownPicked glass new w h q (length ks) (λ (i : ℕ). getD ks i 0) pic pic′ r)
+      (o : Shows glass old w h q pic) where
     word-new : (px py : ℕ) → px < w → py < h → (t : Bool) → isListed (tileNo w px py) ks ≡ t →
         getD pic′ (py * w + px) 0 ≡ wordOver glass new w h q (tileNo w px py) (64 * (py % 64) + px % 64)
     word-new px py x y true e = let z = listed-is (tileNo w px py) ks e in s .word px py x y (z .place) (z .inside) (z .is)
     word-new px py x y false e =
         s .others px py x y (λ i l z. yes-not-no (sym (is-listed (tileNo w px py) ks i l z) ∙ e))
-        ∙ (o px py x y ∙ same-word old new w h (tileNo w px py) (left-out (tileNo w px py) (tile-among new w h mode q px py x y) e) glass q (64 * (py % 64) + px % 64))
+        ∙
+        (o px py x y
+        ∙ same-word old new w h (tileNo w px py) (left-out (tileNo w px py) (tile-among new w h mode q px py x y) e) glass q (64 * (py % 64) + px % 64))
 
     pub now-shows : ShortShown glass new w h q (length ks) pic pic′ r
     now-shows = record {
@@ -128,12 +131,16 @@ module _ (c : WriteShort) (e : writingNumber (c .answer) ≡ 0) where
   pub leaves-showing :
       (glass : ℕ) → glass ≤ 1 → (pic : List ℕ) (y cb cr tmp : List ℤ) (pic′ : List ℕ) (y′ cb′ cr′ tmp′ : List ℤ) (answer : FrameReading)
       → length y ≡ 4096 → length cb ≡ 4096 → length cr ≡ 4096 → length tmp ≡ 4096 → c .height * c .width ≤ length pic
-      → FrameRead glass (recordOf glass 4 (c .width) (c .height) (c .mode)) (take (writingLength (c .answer)) (c .out′)) pic y cb cr tmp pic′ y′ cb′ cr′ tmp′ answer
+      → FrameRead glass (recordOf glass 4 (c .width) (c .height) (c .mode)) (take (writingLength (c .answer)) (c .out′)) pic y cb cr tmp pic′ y′ cb′ cr′
+      tmp′ answer
       → Shows glass (c .old) (c .width) (c .height) (c .quants) pic
       → ShortShown glass (c .new) (c .width) (c .height) (c .quants) (length (c .picks)) pic pic′ answer
   unfolding framePicked
   leaves-showing glass either pic y cb cr tmp pic′ y′ cb′ cr′ tmp′ answer ly lb lr lt room done o =
-      let d = subst (λ (x : List ℕ). FrameRead glass (recordOf glass 4 (c .width) (c .height) (c .mode)) x pic y cb cr tmp pic′ y′ cb′ cr′ tmp′ answer) bytes-are done in
-      let s = shown (c .new) (c .width) (c .height) (c .mode) (c .quants) (c .index) (length (c .picks)) (λ (i : ℕ). getD (c .picks) i 0) sendable glass either (modes .0)
+      let d =
+      subst (λ (x : List ℕ). FrameRead glass (recordOf glass 4 (c .width) (c .height) (c .mode)) x pic y cb cr tmp pic′ y′ cb′ cr′ tmp′ answer)
+      bytes-are done in
+      let s = shown (c .new) (c .width) (c .height) (c .mode) (c .quants) (c .index) (length (c .picks)) (λ (i : ℕ). getD (c .picks) i 0) sendable glass
+      either (modes .0)
       pic y cb cr tmp pic′ y′ cb′ cr′ tmp′ answer ly lb lr lt room d in
       now-shows (c .old) (c .new) (c .picks) (c .width) (c .height) (c .mode) (c .quants) acceptable glass pic pic′ answer s o

@@ -24,15 +24,6 @@ send-requires c κs =
           (sym (e .if1 .left) ∙ e .before .picks-judge .ensures),
     )
 
-same-length : tie.Need-same-length
-same-length c = search needs
-
-same-length-2 : tie.Need-same-length-2
-same-length-2 c = search needs
-
-same-length-3 : tie.Need-same-length-3
-same-length-3 c = search needs
-
 returns-2 : tie.Need-returns-2
 returns-2 c =
     let s = c .before .before .before .before in
@@ -45,11 +36,4 @@ returns-2 c =
 pub send-listed-spec : {M : Type 1} → statement M
 send-listed-spec =
     tie.close
-    (tie.spec
-    (λ c κs. search needs)
-    returns
-    send-requires
-    same-length
-    same-length-2
-    same-length-3
-    returns-2)
+    (tie.spec (λ c κs. search needs) returns send-requires (λ c. search needs) (λ c. search needs) (λ c. search needs) returns-2)

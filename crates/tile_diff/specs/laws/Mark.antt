@@ -43,7 +43,8 @@ marked-next m w h y x v cs from out l e f =
 
 -- the picture for people, place by place: the word shown at column i
 pub marked-at :
-    (vs : List ℕ) (w h y : ℕ) (cs out : List ℕ) (n i : ℕ) → i < n → n ≤ length out → getD (columnsMarked vs w h y cs n out) i 0 ≡ shownAt (getD vs i 0) w h i y cs
+    (vs : List ℕ) (w h y : ℕ) (cs out : List ℕ) (n i : ℕ) → i < n → n ≤ length out →
+    getD (columnsMarked vs w h y cs n out) i 0 ≡ shownAt (getD vs i 0) w h i y cs
 unfolding columnsMarked
 marked-at vs w h y cs out zero i p l = absurd (omega arith)
 marked-at vs w h y cs out (suc n) i p l = by (eqb i n) refl (λ q. marked-at vs w h y cs out n i q (omega arith))

@@ -1,3 +1,4 @@
+-- Each return is one row of `componentOf`; every component of three bytes is small (`component-near`).
 use Prim.Native.Nat.{_-_}
 use mathlib.Core.Path.{_≡_, _∙_, sym, subst}
 use native.Mathlib.Omega.{arith}
@@ -11,42 +12,45 @@ use Rattle.tile_forth.specs.laws.TileForth.{component-near}
 use borrow.Author.Needs.{needs}
 use Rattle.tile_forth.proofs.component.Statement.{statement}
 use Rattle.tile_forth.proofs.component.Tie as tie
-use Rattle.tile_forth.proofs.component.Reads as reads
-use Rattle.tile_forth.proofs.component.Lts as lts
-use Rattle.colour.proofs.cb.Reads as cb-reads
-use Rattle.colour.proofs.cr.Reads as cr-reads
-use Rattle.colour.proofs.luma.Reads as luma-reads
-
-luma-requires : tie.Need-luma-requires
-luma-requires c κs = search needs
 
 returns : tie.Need-returns
 unfolding componentOf
 returns c =
+    let c2 = c .before .before in
     let v = back-ok w32 (c .luma .result) (c .luma .ok) ∙ c .luma .ensures in
-    let e : toZ w32 (ofZ w32 (c .luma .result)) ≡ componentOf (c .before .before .args .c) (c .before .before .args .r) (c .before .before .args .g) (c .before .before .args .b) = case-yes _ _ _ _ (eq-eqb (c .before .before .args .c) 0 (c .before .if1 .taken)) v in
-    (e, subst (Near 16384) (sym e) (component-near (c .before .before .args .c) (c .before .before .args .r) (c .before .before .args .g) (c .before .before .args .b) (omega (arith, c .before .before .fits)) (omega (arith, c .before .before .fits)) (omega (arith, c .before .before .fits))))
-
-cb-requires : tie.Need-cb-requires
-cb-requires c κs = search needs
+    let e : toZ w32 (ofZ w32 (c .luma .result)) ≡ componentOf (c2 .args .c) (c2 .args .r) (c2 .args .g) (c2 .args .b) =
+    case-yes _ _ _ _ (eq-eqb (c2 .args .c) 0 (c .before .if1 .taken)) v in (
+      e,
+      subst (Near 16384) (sym e)
+          (component-near (c2 .args .c) (c2 .args .r) (c2 .args .g) (c2 .args .b) (omega (arith, c2 .fits)) (omega (arith, c2 .fits))
+          (omega (arith, c2 .fits))),
+    )
 
 returns-2 : tie.Need-returns-2
 unfolding componentOf
 returns-2 c =
+    let c3 = c .before .before .before in
     let v = back-ok w32 (c .cb .result) (c .cb .ok) ∙ c .cb .ensures in
-    let e : toZ w32 (ofZ w32 (c .cb .result)) ≡ componentOf (c .before .before .before .args .c) (c .before .before .before .args .r) (c .before .before .before .args .g) (c .before .before .before .args .b) = case-no _ _ _ _ (ne-eqb (c .before .before .before .args .c) 0 (c .before .before .if1 .left)) (case-yes _ _ _ _ (eq-eqb (c .before .before .before .args .c) 1 (c .before .if2 .taken)) v) in
-    (e, subst (Near 16384) (sym e) (component-near (c .before .before .before .args .c) (c .before .before .before .args .r) (c .before .before .before .args .g) (c .before .before .before .args .b) (omega (arith, c .before .before .before .fits)) (omega (arith, c .before .before .before .fits)) (omega (arith, c .before .before .before .fits))))
-
-cr-requires : tie.Need-cr-requires
-cr-requires c κs = search needs
+    let e : toZ w32 (ofZ w32 (c .cb .result)) ≡ componentOf (c3 .args .c) (c3 .args .r) (c3 .args .g) (c3 .args .b) =
+    case-no _ _ _ _ (ne-eqb (c3 .args .c) 0 (c .before .before .if1 .left)) (case-yes _ _ _ _ (eq-eqb (c3 .args .c) 1 (c .before .if2 .taken)) v) in (
+      e,
+      subst (Near 16384) (sym e)
+          (component-near (c3 .args .c) (c3 .args .r) (c3 .args .g) (c3 .args .b) (omega (arith, c3 .fits)) (omega (arith, c3 .fits))
+          (omega (arith, c3 .fits))),
+    )
 
 returns-3 : tie.Need-returns-3
 unfolding componentOf
 returns-3 c =
+    let c3 = c .before .before .before in
     let v = back-ok w32 (c .cr .result) (c .cr .ok) ∙ c .cr .ensures in
-    let e : toZ w32 (ofZ w32 (c .cr .result)) ≡ componentOf (c .before .before .before .args .c) (c .before .before .before .args .r) (c .before .before .before .args .g) (c .before .before .before .args .b) = case-no _ _ _ _ (ne-eqb (c .before .before .before .args .c) 0 (c .before .before .if1 .left)) (case-no _ _ _ _ (ne-eqb (c .before .before .before .args .c) 1 (c .before .if2 .left)) v) in
-    (e, subst (Near 16384) (sym e) (component-near (c .before .before .before .args .c) (c .before .before .before .args .r) (c .before .before .before .args .g) (c .before .before .before .args .b) (omega (arith, c .before .before .before .fits)) (omega (arith, c .before .before .before .fits)) (omega (arith, c .before .before .before .fits))))
+    let e : toZ w32 (ofZ w32 (c .cr .result)) ≡ componentOf (c3 .args .c) (c3 .args .r) (c3 .args .g) (c3 .args .b) =
+    case-no _ _ _ _ (ne-eqb (c3 .args .c) 0 (c .before .before .if1 .left)) (case-no _ _ _ _ (ne-eqb (c3 .args .c) 1 (c .before .if2 .left)) v) in (
+      e,
+      subst (Near 16384) (sym e)
+          (component-near (c3 .args .c) (c3 .args .r) (c3 .args .g) (c3 .args .b) (omega (arith, c3 .fits)) (omega (arith, c3 .fits))
+          (omega (arith, c3 .fits))),
+    )
 
 pub component-spec : {M : Type 1} → statement M
-component-spec =
-    tie.close (tie.spec luma-requires returns cb-requires returns-2 cr-requires returns-3)
+component-spec = tie.close (tie.spec (λ c κs. search needs) returns (λ c κs. search needs) returns-2 (λ c κs. search needs) returns-3)

@@ -20,7 +20,9 @@ use Rattle.whole.specs.laws.More.{grid-cong, grid-within, append-near, nest-tak
 use Rattle.wave_back.specs.Tile.{lowAt, highAt, levelAt, level, tileBack}
 use Rattle.wave_back.specs.laws.Column.{colAt}
 
-row-cong : (n : ℕ) (L H F G : ℕ → ℤ) → ((k : ℕ) → k < n * n → L k ≡ F k) → ((k : ℕ) → k < n * n → H k ≡ G k) → (r : ℕ) → r < n → (x : ℕ) → x < 2 * n → rowAt n L H r x ≡ rowAt n F G r x
+row-cong :
+    (n : ℕ) (L H F G : ℕ → ℤ) → ((k : ℕ) → k < n * n → L k ≡ F k) → ((k : ℕ) → k < n * n → H k ≡ G k) → (r : ℕ) → r < n → (x : ℕ) → x < 2 * n →
+    rowAt n L H r x ≡ rowAt n F G r x
 row-cong n L H F G p q r h x j =
     line-cong rowAvg n n _ _ _ _ refl (λ c i. p (r * n + c) (omega (arith, row-in r n n h))) (λ c i. q (r * n + c) (omega (arith, row-in r n n h))) x j
 
@@ -29,12 +31,16 @@ module _ (n : ℕ) (region : List ℤ) (one : 1 ≤ n) (er : length region ≡ 4
   band : (a e : ℕ) (k : ℕ) → k < e - a → at (take (e - a) (drop a region)) k ≡ at region (a + k)
   band a e k h = part-at region a (e - a) k h
 
-  pub low-rows : grid n (2 * n) (rowAt n (at (take (4 * (n * n) - 3 * (n * n)) (drop (3 * (n * n)) region))) (at (take (n * n - 0) (drop 0 region)))) ≡ grid n (2 * n) (lowAt n (at region))
+  pub low-rows :
+      grid n (2 * n) (rowAt n (at (take (4 * (n * n) - 3 * (n * n)) (drop (3 * (n * n)) region))) (at (take (n * n - 0) (drop 0 region)))) ≡ grid n (2 * n)
+      (lowAt n (at region))
   low-rows =
       grid-cong n (2 * n) _ _ (omega arith)
       (row-cong n _ _ _ _ (λ k h. band (3 * (n * n)) (4 * (n * n)) k (omega arith)) (λ k h. band 0 (n * n) k (omega arith) ∙ ap (at region) (zero-add k)))
 
-  pub high-rows : grid n (2 * n) (rowAt n (at (take (2 * (n * n) - n * n) (drop (n * n) region))) (at (take (3 * (n * n) - 2 * (n * n)) (drop (2 * (n * n)) region)))) ≡ grid n (2 * n) (highAt n (at region))
+  pub high-rows :
+      grid n (2 * n) (rowAt n (at (take (2 * (n * n) - n * n) (drop (n * n) region))) (at (take (3 * (n * n) - 2 * (n * n)) (drop (2 * (n * n)) region))))
+      ≡ grid n (2 * n) (highAt n (at region))
   high-rows =
       grid-cong n (2 * n) _ _ (omega arith)
       (row-cong n _ _ _ _ (λ k h. band (n * n) (2 * (n * n)) k (omega arith)) (λ k h. band (2 * (n * n)) (3 * (n * n)) k (omega arith)))
@@ -43,11 +49,15 @@ module _ (n : ℕ) (region : List ℤ) (one : 1 ≤ n) (er : length region ≡ 4
 pub quarter : (q a k : ℕ) (xs : List ℤ) → length xs ≡ 4 * q → k ≡ q → a ≤ 3 * q → length (take k (drop a xs)) ≡ q
 quarter q a k xs f g h = simp (length-take, length-drop) (omega arith)
 
-pub second-half : (n : ℕ) (f tmp : List ℤ) → length f ≡ n * (2 * n) → length tmp ≡ 4 * (n * n) → length (take (4 * (n * n) - 2 * (n * n)) (drop (2 * (n * n)) (f ++ drop (2 * (n * n) - 0) tmp))) ≡ n * (2 * n)
+pub second-half :
+    (n : ℕ) (f tmp : List ℤ) → length f ≡ n * (2 * n) → length tmp ≡ 4 * (n * n) →
+    length (take (4 * (n * n) - 2 * (n * n)) (drop (2 * (n * n)) (f ++ drop (2 * (n * n) - 0) tmp))) ≡ n * (2 * n)
 second-half n f tmp ef et = simp (length-take, length-drop, length-append) (omega arith)
 
 -- two halves, put one after the other into a list that they fill
-pub halves : (n : ℕ) (tmp f g : List ℤ) → length tmp ≡ 4 * (n * n) → length f ≡ n * (2 * n) → length g ≡ n * (2 * n) → putMid (2 * (n * n)) (4 * (n * n) - 2 * (n * n)) (f ++ drop (2 * (n * n) - 0) tmp) g ≡ f ++ g
+pub halves :
+    (n : ℕ) (tmp f g : List ℤ) → length tmp ≡ 4 * (n * n) → length f ≡ n * (2 * n) → length g ≡ n * (2 * n) →
+    putMid (2 * (n * n)) (4 * (n * n) - 2 * (n * n)) (f ++ drop (2 * (n * n) - 0) tmp) g ≡ f ++ g
 halves n tmp f g et ef eg =
     let h = 2 * (n * n) in
     let k = 4 * (n * n) - 2 * (n * n) in
@@ -59,9 +69,12 @@ halves n tmp f g et ef eg =
     ∙ ap (λ (l : List ℤ). f ++ l) (append-nil g)
 
 -- the columns of the row pass's list are the level
-pub level-is : (n : ℕ) (region : List ℤ) → 1 ≤ n → grid (2 * n) (2 * n) (colAt n (at (grid n (2 * n) (lowAt n (at region)) ++ grid n (2 * n) (highAt n (at region))))) ≡ level n region
+pub level-is :
+    (n : ℕ) (region : List ℤ) → 1 ≤ n →
+    grid (2 * n) (2 * n) (colAt n (at (grid n (2 * n) (lowAt n (at region)) ++ grid n (2 * n) (highAt n (at region))))) ≡ level n region
 unfolding level
-level-is n region one = grid-cong (2 * n) (2 * n) _ _ (omega arith) (λ y i x j. line-cong colAvg n n _ _ _ _ refl (λ r h. low r h x j) (λ r h. high r h x j) y i)
+level-is n region one =
+    grid-cong (2 * n) (2 * n) _ _ (omega arith) (λ y i x j. line-cong colAvg n n _ _ _ _ refl (λ r h. low r h x j) (λ r h. high r h x j) y i)
   where
     f : List ℤ
     f = grid n (2 * n) (lowAt n (at region))
@@ -81,11 +94,15 @@ level-is n region one = grid-cong (2 * n) (2 * n) _ _ (omega arith) (λ y i x j.
         ∙ at-grid n (2 * n) (highAt n (at region)) r x h j
 
 -- the row pass makes at most 4 B + 1 of B
-pub passed-near : {B : ℕ} (n : ℕ) (region : List ℤ) → 1 ≤ n → AllNear B region → AllNear (4 * B + 1) (grid n (2 * n) (lowAt n (at region)) ++ grid n (2 * n) (highAt n (at region)))
+pub passed-near :
+    {B : ℕ} (n : ℕ) (region : List ℤ) → 1 ≤ n → AllNear B region →
+    AllNear (4 * B + 1) (grid n (2 * n) (lowAt n (at region)) ++ grid n (2 * n) (highAt n (at region)))
 passed-near {B} n region one p =
     append-near (grid n (2 * n) (lowAt n (at region))) (grid n (2 * n) (highAt n (at region)))
-    (grid-within n (2 * n) _ (omega arith) (λ y i x j. wide-near {A = B + 3 * B + 1} (omega arith) (line-tight row-mean n _ _ (λ c h. p .all _) (λ c h. p .all _) x j)))
-    (grid-within n (2 * n) _ (omega arith) (λ y i x j. wide-near {A = B + 3 * B + 1} (omega arith) (line-tight row-mean n _ _ (λ c h. p .all _) (λ c h. p .all _) x j)))
+    (grid-within n (2 * n) _ (omega arith)
+    (λ y i x j. wide-near {A = B + 3 * B + 1} (omega arith) (line-tight row-mean n _ _ (λ c h. p .all _) (λ c h. p .all _) x j)))
+    (grid-within n (2 * n) _ (omega arith)
+    (λ y i x j. wide-near {A = B + 3 * B + 1} (omega arith) (line-tight row-mean n _ _ (λ c h. p .all _) (λ c h. p .all _) x j)))
 
 pub length-level : (n : ℕ) (xs : List ℤ) → length (level n xs) ≡ 2 * n * (2 * n)
 unfolding level
@@ -106,12 +123,15 @@ tile-is xs e =
     ∙ ap (λ (l : List ℤ). level 32 (take 3072 xs ++ level 16 l)) (nest-drop xs (level 8 (drop 3840 xs)) 3072 768 (omega arith))
 
 -- a level adds at most 15 B + 5 to the bound A of its LL, where B bounds its other bands.
-pub level-tight : {A B : ℕ} (N : ℕ) (f : ℕ → ℤ) → ((k : ℕ) → k < 3 * (N * N) → Near B (f k)) → ((k : ℕ) → k < N * N → Near A (f (3 * (N * N) + k))) → (y x : ℕ) → y < 2 * N → x < 2 * N → Near (A + 15 * B + 5) (levelAt N f y x)
+pub level-tight :
+    {A B : ℕ} (N : ℕ) (f : ℕ → ℤ) → ((k : ℕ) → k < 3 * (N * N) → Near B (f k)) → ((k : ℕ) → k < N * N → Near A (f (3 * (N * N) + k))) → (y x : ℕ) →
+    y < 2 * N → x < 2 * N → Near (A + 15 * B + 5) (levelAt N f y x)
 level-tight {A} {B} N f b a y x i j =
     wide-near {A = A + 3 * B + 1 + 3 * (B + 3 * B + 1) + 1} (omega arith)
     (line-tight col-mean N _ _
     (λ r h. line-tight row-mean N _ _ (λ c k. a (r * N + c) (omega (arith, row-in r N N h))) (λ c k. b (r * N + c) (omega (arith, row-in r N N h))) x j)
-    (λ r h. line-tight row-mean N _ _ (λ c k. b (N * N + (r * N + c)) (omega (arith, row-in r N N h))) (λ c k. b (2 * (N * N) + (r * N + c)) (omega (arith, row-in r N N h))) x j) y i)
+    (λ r h. line-tight row-mean N _ _ (λ c k. b (N * N + (r * N + c)) (omega (arith, row-in r N N h)))
+    (λ c k. b (2 * (N * N) + (r * N + c)) (omega (arith, row-in r N N h))) x j) y i)
 
 -- the bound B holds before place m, and A from there on
 pub record Halves (m A B : ℕ) (xs : List ℤ) : Type 0 where
@@ -121,13 +141,17 @@ pub record Halves (m A B : ℕ) (xs : List ℤ) : Type 0 where
 pub halves-start : {B : ℕ} {xs : List ℤ} (m : ℕ) → AllNear B xs → Halves m B B xs
 halves-start m p = record { first = λ k h. p .all k; rest = λ k. p .all (m + k) }
 
-pub from-halves : {A B : ℕ} (a n : ℕ) (xs : List ℤ) → 1 ≤ n → length xs ≡ a + 4 * (n * n) → Halves (a + 3 * (n * n)) A B xs → Halves a (A + 15 * B + 5) B (levelFrom a n xs)
+pub from-halves :
+    {A B : ℕ} (a n : ℕ) (xs : List ℤ) → 1 ≤ n → length xs ≡ a + 4 * (n * n) → Halves (a + 3 * (n * n)) A B xs →
+    Halves a (A + 15 * B + 5) B (levelFrom a n xs)
 unfolding level
 from-halves {A} {B} a n xs one e p = record {
   first = λ k h.
-      subst (Near B) (sym (List·getD-append (take a xs) (level n (drop a xs)) (pos 0) k (omega (arith, head)) ∙ getD-take a xs k (pos 0) h)) (p .first k (omega arith));
+      subst (Near B) (sym (List·getD-append (take a xs) (level n (drop a xs)) (pos 0) k (omega (arith, head)) ∙ getD-take a xs k (pos 0) h))
+      (p .first k (omega arith));
   rest = λ k.
-      subst (Near (A + 15 * B + 5)) (sym (ap (λ (m : ℕ). at (levelFrom a n xs) (m + k)) (sym head) ∙ getD-append-add (take a xs) (level n (drop a xs)) k (pos 0)))
+      subst (Near (A + 15 * B + 5))
+      (sym (ap (λ (m : ℕ). at (levelFrom a n xs) (m + k)) (sym head) ∙ getD-append-add (take a xs) (level n (drop a xs)) k (pos 0)))
       (within .all k);
 }
   where
@@ -162,4 +186,6 @@ module _ (xs : List ℤ) (e : length xs ≡ 4096) (p : AllNear 32767 xs) where
   second = from-halves 3072 16 (levelFrom 3840 8 xs) (lit≤ tt) (from-length 3840 8 xs e ∙ e) third
 
   pub first : Halves 0 1507297 32767 (levelFrom 0 32 (levelFrom 3072 16 (levelFrom 3840 8 xs)))
-  first = from-halves 0 32 (levelFrom 3072 16 (levelFrom 3840 8 xs)) (lit≤ tt) (from-length 3072 16 (levelFrom 3840 8 xs) (from-length 3840 8 xs e ∙ e) ∙ from-length 3840 8 xs e ∙ e) second
+  first =
+      from-halves 0 32 (levelFrom 3072 16 (levelFrom 3840 8 xs)) (lit≤ tt)
+      (from-length 3072 16 (levelFrom 3840 8 xs) (from-length 3840 8 xs e ∙ e) ∙ from-length 3840 8 xs e ∙ e) second

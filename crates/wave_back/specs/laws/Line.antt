@@ -22,7 +22,9 @@ pub col-mean : Mean colAvg
 col-mean = record { mean = λ {B} p q. wide-near (omega arith) (add-near (cut-near p) (cut-near q)) }
 
 -- a function with the even and the odd places right is the line
-pub line-place : (avg : ℤ → ℤ → ℤ) (N : ℕ) (L H : ℕ → ℤ) (f : ℕ → ℤ) → ((n : ℕ) → n < N → f (2 * n) ≡ evenAt L H n) → ((n : ℕ) → n < N → f (2 * n + 1) ≡ oddAt avg N H (evenAt L H) n) → (k : ℕ) → k < 2 * N → f k ≡ lineAt avg N L H k
+pub line-place :
+    (avg : ℤ → ℤ → ℤ) (N : ℕ) (L H : ℕ → ℤ) (f : ℕ → ℤ) → ((n : ℕ) → n < N → f (2 * n) ≡ evenAt L H n) →
+    ((n : ℕ) → n < N → f (2 * n + 1) ≡ oddAt avg N H (evenAt L H) n) → (k : ℕ) → k < 2 * N → f k ≡ lineAt avg N L H k
 unfolding lineAt
 line-place avg N L H f p q k h = place (k % 2) refl
   where
@@ -35,7 +37,9 @@ line-place avg N L H f p q k h = place (k % 2) refl
         ap f g ∙ q (k / 2) (omega arith) ∙ ap (λ (m : ℕ). byParity m (evenAt L H (k / 2)) (oddAt avg N H (evenAt L H) (k / 2))) (sym e)
 
 -- and so is a list
-pub line-is : (avg : ℤ → ℤ → ℤ) (N : ℕ) (L H : ℕ → ℤ) (x : List ℤ) → length x ≡ 2 * N → ((n : ℕ) → n < N → at x (2 * n) ≡ evenAt L H n) → ((n : ℕ) → n < N → at x (2 * n + 1) ≡ oddAt avg N H (evenAt L H) n) → x ≡ table (2 * N) (lineAt avg N L H)
+pub line-is :
+    (avg : ℤ → ℤ → ℤ) (N : ℕ) (L H : ℕ → ℤ) (x : List ℤ) → length x ≡ 2 * N → ((n : ℕ) → n < N → at x (2 * n) ≡ evenAt L H n) →
+    ((n : ℕ) → n < N → at x (2 * n + 1) ≡ oddAt avg N H (evenAt L H) n) → x ≡ table (2 * N) (lineAt avg N L H)
 line-is avg N L H x e p q = is-tab (2 * N) (lineAt avg N L H) x e (λ k h. line-place avg N L H (at x) p q k h)
 
 -- how far an even place can grow
@@ -46,14 +50,17 @@ even-near L H n l g h = sub-near l (half-near (add-near (add-near g h) (lit-near
 -- an odd place looks at even places below N only
 pub odd-cong : (avg : ℤ → ℤ → ℤ) (M N : ℕ) (H E F : ℕ → ℤ) → M ≡ N → ((m : ℕ) → m < N → E m ≡ F m) → (n : ℕ) → n < N → oddAt avg M H E n ≡ oddAt avg N H F n
 unfolding oddAt
-odd-cong avg M N H E F e p n h = ap (λ (k : ℕ). oddZ avg (H n) (E n) (E (min (n + 1) (k - 1)))) e ∙ ap3 (oddZ avg) {a = H n} refl (p n h) (p (min (n + 1) (N - 1)) (omega arith))
+odd-cong avg M N H E F e p n h =
+    ap (λ (k : ℕ). oddZ avg (H n) (E n) (E (min (n + 1) (k - 1)))) e ∙ ap3 (oddZ avg) {a = H n} refl (p n h) (p (min (n + 1) (N - 1)) (omega arith))
 
 pub even-cong : (N : ℕ) (L H F G : ℕ → ℤ) → ((c : ℕ) → c < N → L c ≡ F c) → ((c : ℕ) → c < N → H c ≡ G c) → (n : ℕ) → n < N → evenAt L H n ≡ evenAt F G n
 unfolding evenAt
 even-cong N L H F G p q n h = ap3 evenZ (p n h) (q (n - 1) (omega arith)) (q n h)
 
 -- a line looks at places below N only
-pub line-cong : (avg : ℤ → ℤ → ℤ) (M N : ℕ) (L H F G : ℕ → ℤ) → M ≡ N → ((c : ℕ) → c < N → L c ≡ F c) → ((c : ℕ) → c < N → H c ≡ G c) → (k : ℕ) → k < 2 * N → lineAt avg M L H k ≡ lineAt avg N F G k
+pub line-cong :
+    (avg : ℤ → ℤ → ℤ) (M N : ℕ) (L H F G : ℕ → ℤ) → M ≡ N → ((c : ℕ) → c < N → L c ≡ F c) → ((c : ℕ) → c < N → H c ≡ G c) → (k : ℕ) → k < 2 * N →
+    lineAt avg M L H k ≡ lineAt avg N F G k
 unfolding lineAt oddAt
 line-cong avg M N L H F G e p q k h =
     let b : k / 2 < N = omega arith in
@@ -65,7 +72,9 @@ line-cong avg M N L H F G e p q k h =
     ap2 f u v = cc
 
 -- what a turn stores, from the numbers that it read
-pub odd-step : (avg : ℤ → ℤ → ℤ) (N : ℕ) (H E : ℕ → ℤ) (j : ℕ) {h x y z : ℤ} → z ≡ oddZ avg h x y → h ≡ H j → x ≡ E j → y ≡ E (min (j + 1) (N - 1)) → z ≡ oddAt avg N H E j
+pub odd-step :
+    (avg : ℤ → ℤ → ℤ) (N : ℕ) (H E : ℕ → ℤ) (j : ℕ) {h x y z : ℤ} → z ≡ oddZ avg h x y → h ≡ H j → x ≡ E j → y ≡ E (min (j + 1) (N - 1)) →
+    z ≡ oddAt avg N H E j
 unfolding oddAt
 odd-step avg N H E j e p q r = e ∙ ap3 (oddZ avg) p q r
 
@@ -78,7 +87,9 @@ pub record Pairs (F G : ℕ → ℤ) (j : ℕ) (l : List ℤ) : Type 0 where
   pub evens : (n : ℕ) → n < j → at l (2 * n) ≡ F n
   pub odds : (n : ℕ) → n < j → at l (2 * n + 1) ≡ G n
 
-pub pair-put : (F G : ℕ → ℤ) (l : List ℤ) (j : ℕ) (u v : ℤ) → 2 * j + 1 < length l → u ≡ F j → v ≡ G j → Pairs F G j l → Pairs F G (j + 1) (set (set l (2 * j) u) (2 * j + 1) v)
+pub pair-put :
+    (F G : ℕ → ℤ) (l : List ℤ) (j : ℕ) (u v : ℤ) → 2 * j + 1 < length l → u ≡ F j → v ≡ G j → Pairs F G j l →
+    Pairs F G (j + 1) (set (set l (2 * j) u) (2 * j + 1) v)
 pair-put F G l j u v b e f p = record {
   evens = put-old (λ n. 2 * n) F (set l (2 * j) u) (2 * j + 1) v (j + 1) (λ n k. omega arith)
       (put-new (λ n. 2 * n) F l j u (omega arith) (λ n k. omega arith) e (p .evens));
@@ -87,7 +98,9 @@ pair-put F G l j u v b e f p = record {
 }
 
 -- how far a line can grow: the halves have bounds of their own, and only the places that are looked at count
-pub line-tight : {avg : ℤ → ℤ → ℤ} → Mean avg → {A B : ℕ} (N : ℕ) (L H : ℕ → ℤ) → ((c : ℕ) → c < N → Near A (L c)) → ((c : ℕ) → c < N → Near B (H c)) → (k : ℕ) → k < 2 * N → Near (A + 3 * B + 1) (lineAt avg N L H k)
+pub line-tight :
+    {avg : ℤ → ℤ → ℤ} → Mean avg → {A B : ℕ} (N : ℕ) (L H : ℕ → ℤ) → ((c : ℕ) → c < N → Near A (L c)) → ((c : ℕ) → c < N → Near B (H c)) → (k : ℕ) →
+    k < 2 * N → Near (A + 3 * B + 1) (lineAt avg N L H k)
 unfolding lineAt oddAt evenAt
 line-tight a {A} {B} N L H p q k h =
     let i : k / 2 < N = omega arith in

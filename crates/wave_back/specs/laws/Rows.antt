@@ -28,7 +28,9 @@ module _ (n r : ℕ) (lo hi out ys : List ℤ) (h : r < n) (el : length lo ≡ n
   cell : (xs : List ℤ) (c : ℕ) → c < n → at (rowOf xs) c ≡ at xs (r * n + c)
   cell xs c k = part-at xs (r * n) (r * n + n - r * n) c (omega arith)
 
-  pub turn : ys ≡ table (2 * length (rowOf lo)) (lineAt rowAvg (length (rowOf lo)) (at (rowOf lo)) (at (rowOf hi))) → Done n lo hi out r → Done n lo hi (putMid (r * (2 * n)) (r * (2 * n) + 2 * n - r * (2 * n)) out ys) (r + 1)
+  pub turn :
+      ys ≡ table (2 * length (rowOf lo)) (lineAt rowAvg (length (rowOf lo)) (at (rowOf lo)) (at (rowOf hi))) → Done n lo hi out r →
+      Done n lo hi (putMid (r * (2 * n)) (r * (2 * n) + 2 * n - r * (2 * n)) out ys) (r + 1)
   turn e done =
       below-more (λ y. (x : ℕ) → x < 2 * n → at whole (y * (2 * n) + x) ≡ rowAt n (at lo) (at hi) y x) r
       (λ y k x j. put-below out ys p w fits same (y * (2 * n) + x) (omega (arith, row-in y r (2 * n) k)) ∙ done y k x j)

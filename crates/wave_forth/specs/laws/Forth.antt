@@ -57,4 +57,5 @@ forth-length xs e =
 -- and its numbers stay within 64 times the bound: 262,144 for the 4,096 of the colours
 pub forth-near : {B : ℕ} (xs : List ℤ) → AllNear B xs → AllNear (64 * B) (tileForth xs)
 unfolding tileForth
-forth-near {B} xs p = all-wide (omega arith) (from-near 3840 8 (forthFrom 3072 16 (forthFrom 0 32 xs)) (from-near 3072 16 (forthFrom 0 32 xs) (from-near 0 32 xs p)))
+forth-near {B} xs p =
+    all-wide (omega arith) (from-near 3840 8 (forthFrom 3072 16 (forthFrom 0 32 xs)) (from-near 3072 16 (forthFrom 0 32 xs) (from-near 0 32 xs p)))

@@ -7,7 +7,8 @@ use Rattle.whole.specs.laws.Near.{Near, add-near, sub-near, half-near, wide-nea
 use Rattle.wave_forth.specs.Halves.{highZ, lowZ, lineHigh, lineLow}
 
 -- what a turn stores, from the numbers that it read
-pub high-step : (N : ℕ) (x : ℕ → ℤ) (n : ℕ) {o e f z : ℤ} → z ≡ highZ o e f → o ≡ x (2 * n + 1) → e ≡ x (2 * n) → f ≡ x (2 * min (n + 1) (N - 1)) → z ≡ lineHigh N x n
+pub high-step :
+    (N : ℕ) (x : ℕ → ℤ) (n : ℕ) {o e f z : ℤ} → z ≡ highZ o e f → o ≡ x (2 * n + 1) → e ≡ x (2 * n) → f ≡ x (2 * min (n + 1) (N - 1)) → z ≡ lineHigh N x n
 unfolding lineHigh
 high-step N x n u p q r = u ∙ ap3 highZ p q r
 

@@ -22,7 +22,8 @@ module _ (n : ℕ) (xs d₀ d₁ d₂ : List ℤ) (one : 1 ≤ n) (e : length d�
   passed = grid n (2 * n) (lowRow n (at xs)) ++ grid n (2 * n) (highRow n (at xs))
 
   top : (r : ℕ) → r < n → (k : ℕ) → k < 2 * n → from passed (0 + r * (2 * n)) k ≡ lowRow n (at xs) r k
-  top r i k j = let z : 0 + r * (2 * n) + k ≡ r * (2 * n) + k = omega arith in ap (at passed) z ∙ upper-at n (2 * n) (lowRow n (at xs)) (highRow n (at xs)) r i k j
+  top r i k j =
+      let z : 0 + r * (2 * n) + k ≡ r * (2 * n) + k = omega arith in ap (at passed) z ∙ upper-at n (2 * n) (lowRow n (at xs)) (highRow n (at xs)) r i k j
 
   bottom : (r : ℕ) → r < n → (k : ℕ) → k < 2 * n → from passed (n * (2 * n) + r * (2 * n)) k ≡ highRow n (at xs) r k
   bottom r i k j = lower-at n (2 * n) (lowRow n (at xs)) (highRow n (at xs)) r i k j
@@ -32,12 +33,15 @@ module _ (n : ℕ) (xs d₀ d₁ d₂ : List ℤ) (one : 1 ≤ n) (e : length d�
   level-is p q =
       holds-all d₂ _ (q .same ∙ p .same ∙ e ∙ sym (length-level n xs))
       (holds-append d₂ 0 (n * n) _ _ (omega (arith, length-grid n n (λ r c. lineHigh n (lowRow n (at xs) r) c)))
-      (holds-grid d₂ 0 n n _ one (λ y i x j. let b = row-in y n n i in q .kept (0 + (y * n + x)) (λ m g. omega arith) (λ m g. omega arith) ∙ p .highs y i x j ∙ high-cong n _ _ (top y i) x j))
+      (holds-grid d₂ 0 n n _ one
+      (λ y i x j.
+      let b = row-in y n n i in q .kept (0 + (y * n + x)) (λ m g. omega arith) (λ m g. omega arith) ∙ p .highs y i x j ∙ high-cong n _ _ (top y i) x j))
       (holds-append d₂ (n * n) (2 * (n * n)) _ _ (omega (arith, length-grid n n (λ r c. lineLow n (highRow n (at xs) r) c)))
       (holds-grid d₂ (n * n) n n _ one (λ y i x j. q .lows y i x j ∙ low-cong n _ _ (bottom y i) x j))
       (holds-append d₂ (2 * (n * n)) (3 * (n * n)) _ _ (omega (arith, length-grid n n (λ r c. lineHigh n (highRow n (at xs) r) c)))
       (holds-grid d₂ (2 * (n * n)) n n _ one (λ y i x j. q .highs y i x j ∙ high-cong n _ _ (bottom y i) x j))
-      (holds-grid d₂ (3 * (n * n)) n n _ one (λ y i x j. let b = row-in y n n i in q .kept (3 * (n * n) + (y * n + x)) (λ m g. omega arith) (λ m g. omega arith) ∙ p .lows y i x j ∙ low-cong n _ _ (top y i) x j)))))
+      (holds-grid d₂ (3 * (n * n)) n n _ one (λ y i x j. let b = row-in y n n i in q .kept (3 * (n * n) + (y * n + x)) (λ m g. omega arith)
+      (λ m g. omega arith) ∙ p .lows y i x j ∙ low-cong n _ _ (top y i) x j)))))
 
 -- the sizes of a level
 pub record Size (n w : ℕ) : Type 0 where

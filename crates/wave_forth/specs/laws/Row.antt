@@ -32,7 +32,9 @@ pub record Split (n : ℕ) (x : ℕ → ℤ) (l h c : ℕ) (d₀ d : List ℤ) :
 pub split-start : (n : ℕ) (x : ℕ → ℤ) (l h : ℕ) (d : List ℤ) → Split n x l h 0 d d
 split-start n x l h d = record { same = refl; lows = λ i k. absurd (not-suc-le-zero k); highs = λ i k. absurd (not-suc-le-zero k); kept = λ k p q. refl }
 
-pub split-put : (n : ℕ) (x : ℕ → ℤ) (l h j : ℕ) (d₀ d : List ℤ) (u v : ℤ) → Apart n l h → j < n → l + j < length d → h + j < length d → u ≡ lineLow n x j → v ≡ lineHigh n x j → Split n x l h j d₀ d → Split n x l h (j + 1) d₀ (set (set d (h + j) v) (l + j) u)
+pub split-put :
+    (n : ℕ) (x : ℕ → ℤ) (l h j : ℕ) (d₀ d : List ℤ) (u v : ℤ) → Apart n l h → j < n → l + j < length d → h + j < length d → u ≡ lineLow n x j →
+    v ≡ lineHigh n x j → Split n x l h j d₀ d → Split n x l h (j + 1) d₀ (set (set d (h + j) v) (l + j) u)
 split-put n x l h j d₀ d u v a b bl bh e f p = record {
   same = simp length-set (p .same);
   lows = put-new (λ i. l + i) (lineLow n x) (set d (h + j) v) j u (simp length-set bl) (λ i k. omega arith) e
@@ -66,14 +68,20 @@ module _ (n r l h : ℕ) (b : r < n) (a : Apart (n * n) l h) where
   pub row-apart : Apart n (l + r * n) (h + r * n)
   row-apart = record { apart = λ i j p q e. a .apart (r * n + i) (r * n + j) (in-row i p) (in-row j q) (omega arith) }
 
-  pub bands-turn : (w s : ℕ) (src d₀ d e : List ℤ) → Split n (from src (s + r * w)) (l + r * n) (h + r * n) n d e → Bands n w s src l h r d₀ d → Bands n w s src l h (r + 1) d₀ e
+  pub bands-turn :
+      (w s : ℕ) (src d₀ d e : List ℤ) → Split n (from src (s + r * w)) (l + r * n) (h + r * n) n d e → Bands n w s src l h r d₀ d →
+      Bands n w s src l h (r + 1) d₀ e
   bands-turn w s src d₀ d e v p = record {
     same = v .same ∙ p .same;
     lows = below-more (λ y. (i : ℕ) → i < n → at e (l + (y * n + i)) ≡ lineLow n (from src (s + y * w)) i) r
-        (λ y k i j. v .kept (l + (y * n + i)) (λ m g. omega (arith, row-in y r n k)) (λ m g f. a .apart (y * n + i) (r * n + m) (omega (arith, row-in y n n (before k))) (in-row m g) (omega arith)) ∙ p .lows y k i j)
+        (λ y k i j.
+        v .kept (l + (y * n + i)) (λ m g. omega (arith, row-in y r n k))
+        (λ m g f. a .apart (y * n + i) (r * n + m) (omega (arith, row-in y n n (before k))) (in-row m g) (omega arith)) ∙ p .lows y k i j)
         (λ i j. let z : l + (r * n + i) ≡ l + r * n + i = omega arith in ap (at e) z ∙ v .lows i j);
     highs = below-more (λ y. (i : ℕ) → i < n → at e (h + (y * n + i)) ≡ lineHigh n (from src (s + y * w)) i) r
-        (λ y k i j. v .kept (h + (y * n + i)) (λ m g f. a .apart (r * n + m) (y * n + i) (in-row m g) (omega (arith, row-in y n n (before k))) (omega arith)) (λ m g. omega (arith, row-in y r n k)) ∙ p .highs y k i j)
+        (λ y k i j.
+        v .kept (h + (y * n + i)) (λ m g f. a .apart (r * n + m) (y * n + i) (in-row m g) (omega (arith, row-in y n n (before k))) (omega arith))
+        (λ m g. omega (arith, row-in y r n k)) ∙ p .highs y k i j)
         (λ i j. let z : h + (r * n + i) ≡ h + r * n + i = omega arith in ap (at e) z ∙ v .highs i j);
     kept = λ k y z. v .kept k (λ i g f. y (r * n + i) (in-row i g) (omega arith)) (λ i g f. z (r * n + i) (in-row i g) (omega arith)) ∙ p .kept k y z;
   }
@@ -82,6 +90,7 @@ module _ (n r l h : ℕ) (b : r < n) (a : Apart (n * n) l h) where
       before k = omega arith
 
 -- the same rows under other names
-pub bands-as : {n w v s t : ℕ} {src new : List ℤ} {l h r : ℕ} {d₀ d : List ℤ} → w ≡ v → s ≡ t → src ≡ new → Bands n w s src l h r d₀ d → Bands n v t new l h r d₀ d
+pub bands-as :
+    {n w v s t : ℕ} {src new : List ℤ} {l h r : ℕ} {d₀ d : List ℤ} → w ≡ v → s ≡ t → src ≡ new → Bands n w s src l h r d₀ d → Bands n v t new l h r d₀ d
 bands-as {n} {w} {v} {s} {t} {src} {new} {l} {h} {r} {d₀} {d} e f g p =
     subst (λ (x : ℕ). Bands n x t new l h r d₀ d) e (subst (λ (x : ℕ). Bands n w x new l h r d₀ d) f (subst (λ (x : List ℤ). Bands n w s x l h r d₀ d) g p))

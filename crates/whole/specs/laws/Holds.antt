@@ -15,14 +15,16 @@ use Rattle.whole.specs.laws.Tab.{at-grid, length-grid, row-in}
 pub record Holds (l : List ℤ) (m : ℕ) (xs : List ℤ) : Type 0 where
   pub holds : (k : ℕ) → k < length xs → at l (m + k) ≡ at xs k
 
-pub holds-grid : (l : List ℤ) (m h W : ℕ) (f : ℕ → ℕ → ℤ) → zero < W → ((y : ℕ) → y < h → (x : ℕ) → x < W → at l (m + (y * W + x)) ≡ f y x) → Holds l m (grid h W f)
+pub holds-grid :
+    (l : List ℤ) (m h W : ℕ) (f : ℕ → ℕ → ℤ) → zero < W → ((y : ℕ) → y < h → (x : ℕ) → x < W → at l (m + (y * W + x)) ≡ f y x) → Holds l m (grid h W f)
 holds-grid l m h W f w p = record { holds = λ k q. place k (subst (λ (n : ℕ). k < n) (length-grid h W f) q) }
   where
     place : (k : ℕ) → k < h * W → at l (m + k) ≡ at (grid h W f) k
     place k q =
         let y : k / W < h = div-lt-iff-lt-mul w .1 q in
         let x : k % W < W = mod-lt k w in
-        ap (λ (i : ℕ). at l (m + i)) (sym (div-add-mod' k W)) ∙ p (k / W) y (k % W) x ∙ sym (at-grid h W f (k / W) (k % W) y x) ∙ ap (at (grid h W f)) (div-add-mod' k W)
+        ap (λ (i : ℕ). at l (m + i)) (sym (div-add-mod' k W)) ∙ p (k / W) y (k % W) x ∙ sym (at-grid h W f (k / W) (k % W) y x)
+        ∙ ap (at (grid h W f)) (div-add-mod' k W)
 
 pub holds-append : (l : List ℤ) (m n : ℕ) (xs ys : List ℤ) → n ≡ m + length xs → Holds l m xs → Holds l n ys → Holds l m (xs ++ ys)
 holds-append l m n xs ys e p q = record { holds = λ k h. place k (subst (λ (i : ℕ). k < i) (length-append xs ys) h) (decLt k (length xs)) }
@@ -40,8 +42,10 @@ holds-all l xs e p = ext-getD (pos 0) l xs e (λ i k. let z : i ≡ 0 + i = omeg
 
 -- a row of the upper and of the lower of two grids
 pub upper-at : (n W : ℕ) (f g : ℕ → ℕ → ℤ) (r : ℕ) → r < n → (x : ℕ) → x < W → at (grid n W f ++ grid n W g) (r * W + x) ≡ f r x
-upper-at n W f g r h x j = List·getD-append (grid n W f) (grid n W g) (pos 0) (r * W + x) (omega (arith, length-grid n W f, row-in r n W h)) ∙ at-grid n W f r x h j
+upper-at n W f g r h x j =
+    List·getD-append (grid n W f) (grid n W g) (pos 0) (r * W + x) (omega (arith, length-grid n W f, row-in r n W h)) ∙ at-grid n W f r x h j
 
 pub lower-at : (n W : ℕ) (f g : ℕ → ℕ → ℤ) (r : ℕ) → r < n → (x : ℕ) → x < W → at (grid n W f ++ grid n W g) (n * W + r * W + x) ≡ g r x
 lower-at n W f g r h x j =
-    ap (at (grid n W f ++ grid n W g)) (omega (arith, length-grid n W f)) ∙ getD-append-add (grid n W f) (grid n W g) (r * W + x) (pos 0) ∙ at-grid n W g r x h j
+    ap (at (grid n W f ++ grid n W g)) (omega (arith, length-grid n W f)) ∙ getD-append-add (grid n W f) (grid n W g) (r * W + x) (pos 0)
+    ∙ at-grid n W g r x h j

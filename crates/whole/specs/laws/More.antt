@@ -23,7 +23,9 @@ tab-within {B} n f p = record { all = λ i. place i (decLt i n) }
   where
     place : (i : ℕ) → Dec (i < n) → Near B (at (table n f) i)
     place i (yes h) = subst (Near B) (sym (at-tab n f i h)) (p i h)
-    place i (no h) = subst (Near B) (sym (List·getD-eq-default (table n f) (pos 0) (subst (λ (m : ℕ). m ≤ i) (sym (length-tab n f)) (omega arith)))) (record { near = zero-le })
+    place i (no h) =
+        subst (Near B) (sym (List·getD-eq-default (table n f) (pos 0) (subst (λ (m : ℕ). m ≤ i) (sym (length-tab n f)) (omega arith))))
+        (record { near = zero-le })
 
 pub grid-within : {B : ℕ} (h W : ℕ) (f : ℕ → ℕ → ℤ) → zero < W → ((y : ℕ) → y < h → (x : ℕ) → x < W → Near B (f y x)) → AllNear B (grid h W f)
 unfolding grid
@@ -67,7 +69,9 @@ module _ (xs g : List ℤ) (a m : ℕ) (e : a + m ≤ length xs) where
 pub tail-length : (a k : ℕ) (xs : List ℤ) → length xs ≡ a + k → length (take (length xs - a) (drop a xs)) ≡ k
 tail-length a k xs e = simp (length-take, length-drop) (omega arith)
 
-pub tail-put : (F : List ℤ → List ℤ) (a k : ℕ) (xs ys : List ℤ) → length xs ≡ a + k → ys ≡ F (take (length xs - a) (drop a xs)) → putMid a (length xs - a) xs ys ≡ take a xs ++ F (drop a xs)
+pub tail-put :
+    (F : List ℤ → List ℤ) (a k : ℕ) (xs ys : List ℤ) → length xs ≡ a + k → ys ≡ F (take (length xs - a) (drop a xs)) →
+    putMid a (length xs - a) xs ys ≡ take a xs ++ F (drop a xs)
 tail-put F a k xs ys e p =
     let h : length xs ≡ a + (length xs - a) = omega arith in
     end-put xs ys a (length xs - a) h ∙ ap (λ (l : List ℤ). take a xs ++ l) (p ∙ ap F (end-part xs ys a (length xs - a) h))

@@ -93,4 +93,27 @@ ne-is {a′ = a′} {b′ = b′} p q h = ne-eqb a′ b′ (λ e. h (p ∙ (e �
 pub eq-is : {a a′ b b′ : ℕ} → a ≡ a′ → b ≡ b′ → a ≡ b → eqb a′ b′ ≡ true
 eq-is {a′ = a′} {b′ = b′} p q h = eq-eqb a′ b′ (sym p ∙ (h ∙ q))
 
-pub ruleset rows = (refl, fails, passes, case-yes, case-no, and-yes, and-no, and-no′, or-yes, or-yes′, or-no, lt-ltb, le-ltb, le-leb, lt-leb, eq-eqb, ne-eqb, ne-via, eq-via, flag-yes, flag-no, arith)
+pub ruleset rows = (
+  refl,
+  fails,
+  passes,
+  case-yes,
+  case-no,
+  and-yes,
+  and-no,
+  and-no′,
+  or-yes,
+  or-yes′,
+  or-no,
+  lt-ltb,
+  le-ltb,
+  le-leb,
+  lt-leb,
+  eq-eqb,
+  ne-eqb,
+  ne-via,
+  eq-via,
+  flag-yes,
+  flag-no,
+  arith,
+)

@@ -38,12 +38,15 @@ pub record AllNear (B : ℕ) (xs : List ℤ) : Type 0 where
 pub row-in : (r h W : ℕ) → r < h → r * W + W ≤ h * W
 row-in r h W p = omega (arith, mul-le-mul-right W p)
 
-at-row : (h W : ℕ) (f : ℕ → ℕ → ℤ) (l : List ℤ) → zero < W → ((y : ℕ) → y < h → (x : ℕ) → x < W → at l (y * W + x) ≡ f y x) → (k : ℕ) → k < h * W → at l k ≡ f (k / W) (k % W)
+at-row :
+    (h W : ℕ) (f : ℕ → ℕ → ℤ) (l : List ℤ) → zero < W → ((y : ℕ) → y < h → (x : ℕ) → x < W → at l (y * W + x) ≡ f y x) → (k : ℕ) → k < h * W →
+    at l k ≡ f (k / W) (k % W)
 at-row h W f l w p k q =
     ap (at l) (sym (div-add-mod' k W)) ∙ p (k / W) (div-lt-iff-lt-mul w .1 q) (k % W) (mod-lt k w)
 
 -- a list that has f at each row and place is the grid of f
-pub is-grid : (h W : ℕ) (f : ℕ → ℕ → ℤ) (l : List ℤ) → zero < W → length l ≡ h * W → ((y : ℕ) → y < h → (x : ℕ) → x < W → at l (y * W + x) ≡ f y x) → l ≡ grid h W f
+pub is-grid :
+    (h W : ℕ) (f : ℕ → ℕ → ℤ) (l : List ℤ) → zero < W → length l ≡ h * W → ((y : ℕ) → y < h → (x : ℕ) → x < W → at l (y * W + x) ≡ f y x) → l ≡ grid h W f
 unfolding grid
 is-grid h W f l w e p = is-tab (h * W) (λ k. f (k / W) (k % W)) l e (at-row h W f l w p)
 
@@ -70,7 +73,9 @@ tab-near {B} n f p = record { all = λ i. place i (decLt i n) }
   where
     place : (i : ℕ) → Dec (i < n) → Near B (at (table n f) i)
     place i (yes h) = subst (Near B) (sym (at-tab n f i h)) (p i)
-    place i (no h) = subst (Near B) (sym (List·getD-eq-default (table n f) (pos 0) (subst (λ (m : ℕ). m ≤ i) (sym (length-tab n f)) (omega arith)))) (record { near = zero-le })
+    place i (no h) =
+        subst (Near B) (sym (List·getD-eq-default (table n f) (pos 0) (subst (λ (m : ℕ). m ≤ i) (sym (length-tab n f)) (omega arith))))
+        (record { near = zero-le })
 
 pub grid-near : {B : ℕ} (h W : ℕ) (f : ℕ → ℕ → ℤ) → ((y x : ℕ) → Near B (f y x)) → AllNear B (grid h W f)
 unfolding grid

@@ -5,12 +5,6 @@ use borrow.Author.Needs.{needs}
 use Rattle.wire.proofs.writing_length.Statement.{statement}
 use Rattle.wire.proofs.writing_length.Tie as tie
 
-enum-known-w : tie.Need-enum-known-w
-enum-known-w c = search needs
-
-enum-known-w-2 : tie.Need-enum-known-w-2
-enum-known-w-2 c = search needs
-
 returns : tie.Need-returns
 unfolding writingLength
 returns c = sym (ap writingLength (c .before .w .given .1))
@@ -20,4 +14,4 @@ unfolding writingLength
 returns-2 c = sym (ap writingLength (c .before .w2 .given .1))
 
 pub writing-length-spec : {M : Type 1} → statement M
-writing-length-spec = tie.close (tie.spec enum-known-w enum-known-w-2 returns returns-2)
+writing-length-spec = tie.close (tie.spec (λ c. search needs) (λ c. search needs) returns returns-2)

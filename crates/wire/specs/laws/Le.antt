@@ -82,7 +82,8 @@ patch-none xs at = sym (rw add-zero (take-append-drop at xs))
 patch-behind : (p a b : List ℕ) (at k : ℕ) → length p ≡ at → patch (p ++ a) (at + k) b ≡ p ++ patch a k b
 unfolding patch
 patch-behind p a b at k l =
-    rw (← l, take-append-add p a k, add-assoc (length p) k (length b), drop-append-add p a (k + length b)) (append-assoc p (take k a) (b ++ drop (k + length b) a))
+    rw (← l, take-append-add p a k, add-assoc (length p) k (length b), drop-append-add p a (k + length b))
+    (append-assoc p (take k a) (b ++ drop (k + length b) a))
 
 -- a patch inside an earlier one: numbers filled in afterwards
 pub patch-refill :

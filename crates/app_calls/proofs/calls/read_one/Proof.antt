@@ -4,18 +4,8 @@ use borrow.Author.Needs.{needs}
 use Rattle.app_calls.proofs.calls.read_one.Statement.{statement}
 use Rattle.app_calls.proofs.calls.read_one.Tie as tie
 
-read-header-requires : tie.Need-read-header-requires
-read-header-requires c κs = search needs
-
-header-record-requires : tie.Need-header-record-requires
-header-record-requires c κs = search needs
-
-header-number-requires : tie.Need-header-number-requires
-header-number-requires c κs = search needs
-
 returns : tie.Need-returns
 returns c = heard-made _ _ _ _ _ (c .header-number .ensures) (c .before .header-record .ensures) (c .before .before .read-header .ensures)
 
 pub read-one-spec : {M : Type 1} → statement M
-read-one-spec =
-    tie.close (tie.spec read-header-requires header-record-requires header-number-requires returns)
+read-one-spec = tie.close (tie.spec (λ c κs. search needs) (λ c κs. search needs) (λ c κs. search needs) returns)

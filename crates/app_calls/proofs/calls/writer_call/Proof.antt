@@ -4,39 +4,15 @@ use borrow.Author.Needs.{needs}
 use Rattle.app_calls.proofs.calls.writer_call.Statement.{statement}
 use Rattle.app_calls.proofs.calls.writer_call.Tie as tie
 
-fill-bytes-requires : tie.Need-fill-bytes-requires
-fill-bytes-requires c κs = search needs
-
-write-component-requires : tie.Need-write-component-requires
-write-component-requires c κs = search needs
-
-writing-length-requires : tie.Need-writing-length-requires
-writing-length-requires c κs = search needs
-
-writing-number-requires : tie.Need-writing-number-requires
-writing-number-requires c κs = search needs
-
-hash-bytes-requires : tie.Need-hash-bytes-requires
-hash-bytes-requires c κs = search needs
-
-say-hash-requires : tie.Need-say-hash-requires
-say-hash-requires c κs = search needs
-
-same-length : tie.Need-same-length
-same-length c = search needs
-
 returns : tie.Need-returns
-returns c = component-said _ _ _ _ _ _ _ (c .before .before .before .before .before .before .before .before .before .before .before .fill-bytes .ensures) (c .before .before .before .before .before .before .before .write-component .ensures) (c .before .before .before .before .writing-length .ensures)
+returns c =
+    let c4 = c .before .before .before .before in
+    let c7 = c4 .before .before .before in
+    let c11 = c7 .before .before .before .before in
+    component-said _ _ _ _ _ _ _ (c11 .fill-bytes .ensures) (c7 .write-component .ensures) (c4 .writing-length .ensures)
 
 pub writer-call-spec : {M : Type 1} → statement M
 writer-call-spec =
     tie.close
-    (tie.spec
-    fill-bytes-requires
-    write-component-requires
-    writing-length-requires
-    writing-number-requires
-    hash-bytes-requires
-    say-hash-requires
-    same-length
-    returns)
+    (tie.spec (λ c κs. search needs) (λ c κs. search needs) (λ c κs. search needs) (λ c κs. search needs) (λ c κs. search needs)
+    (λ c κs. search needs) (λ c. search needs) returns)

@@ -4,18 +4,6 @@ use borrow.Author.Needs.{needs}
 use Rattle.app_calls.proofs.collected.size_of.Statement.{statement}
 use Rattle.app_calls.proofs.collected.size_of.Tie as tie
 
-enum-told : tie.Need-enum-told
-enum-told c = search needs
-
-enum-known-answer : tie.Need-enum-known-answer
-enum-known-answer c = search needs
-
-enum-known-answer-2 : tie.Need-enum-known-answer-2
-enum-known-answer-2 c = search needs
-
-enum-told-2 : tie.Need-enum-told-2
-enum-told-2 c = search needs
-
 returns : tie.Need-returns
 unfolding sizeOf
 returns c = search needs
@@ -35,12 +23,4 @@ returns-4 c = search needs
 pub size-of-spec : {M : Type 1} → statement M
 size-of-spec =
     tie.close
-    (tie.spec
-    enum-told
-    enum-known-answer
-    enum-known-answer-2
-    enum-told-2
-    returns
-    returns-2
-    returns-3
-    returns-4)
+    (tie.spec (λ c. search needs) (λ c. search needs) (λ c. search needs) (λ c. search needs) returns returns-2 returns-3 returns-4)

@@ -21,8 +21,13 @@ loop-holds : tie.Need-loop-holds Inv-loop μ-loop
 loop-holds c = (refl, refl, refl)
 
 loop-again : tie.Need-loop-again Inv-loop μ-loop
-loop-again c =
-    (search needs, search needs, c .before .before .before .before .before .before .before .before .before .before .loop .inv .2 ∙ one-more _ _ _ _ _ (c .before .before .before .before .before .before .before .before .before .loop-test .taken) (ltb-true _ _ (c .before .before .before .before .before .before .before .if1 .taken)) (c .before .before .before .before .step .ensures))
+loop-again c = (
+  search needs,
+  search needs,
+  c .before .before .before .before .before .before .before .before .before .before .loop .inv .2
+      ∙ one-more _ _ _ _ _ (c .before .before .before .before .before .before .before .before .before .loop-test .taken)
+      (ltb-true _ _ (c .before .before .before .before .before .before .before .if1 .taken)) (c .before .before .before .before .step .ensures),
+)
 
 same-length : tie.Need-same-length Inv-loop μ-loop
 same-length c = c .before .before .before .loop .inv .0
@@ -31,7 +36,10 @@ same-length-2 : tie.Need-same-length-2 Inv-loop μ-loop
 same-length-2 c = c .before .before .before .loop .inv .1
 
 returns : tie.Need-returns Inv-loop μ-loop
-returns c = at-end _ _ _ _ (ltb-false _ _ (c .if1 .left)) ∙ (sym (c .before .before .before .loop .inv .2) ∙ given-is _ _ _ _ _ _ (c .before .before .before .before .start .ensures))
+returns c =
+    let c3 = c .before .before .before in
+    let c4 = c3 .before in
+    at-end _ _ _ _ (ltb-false _ _ (c .if1 .left)) ∙ (sym (c3 .loop .inv .2) ∙ given-is _ _ _ _ _ _ (c4 .start .ensures))
 
 same-length-3 : tie.Need-same-length-3 Inv-loop μ-loop
 same-length-3 c = c .before .loop .inv .0

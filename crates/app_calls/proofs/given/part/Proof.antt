@@ -12,7 +12,11 @@ returns-2 : tie.Need-returns-2
 returns-2 c = part-header _ _ _ _ _ _ _ _ (c .before .before .before .answer .given .1) (c .before .first .ensures) (c .header .ensures)
 
 returns-3 : tie.Need-returns-3
-returns-3 c = part-frame _ _ _ _ _ _ _ _ _ _ (c .before .before .before .before .before .before .before .before .answer2 .given .1) (c .before .before .before .before .before .before .first2 .ensures) (c .before .before .before .frame-call .ensures) (c .after-frame .ensures)
+returns-3 c =
+    let c3 = c .before .before .before in
+    let c6 = c3 .before .before .before in
+    let c8 = c6 .before .before in
+    part-frame _ _ _ _ _ _ _ _ _ _ (c8 .answer2 .given .1) (c6 .first2 .ensures) (c3 .frame-call .ensures) (c .after-frame .ensures)
 
 returns-4 : tie.Need-returns-4
 returns-4 c = part-refused _ _ _ _ _ _ _ (c .before .answer3 .given .1) refl

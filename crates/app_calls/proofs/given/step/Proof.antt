@@ -5,7 +5,11 @@ use Rattle.app_calls.proofs.given.step.Statement.{statement}
 use Rattle.app_calls.proofs.given.step.Tie as tie
 
 returns : tie.Need-returns
-returns c = step-is _ _ _ _ _ _ _ _ _ _ _ (c .before .before .before .before .before .before .before .before .before .before .before .rest .ensures) (c .before .before .before .before .before .before .before .before .before .collect .ensures) (c .before .before .before .before .before .advance .ensures) (c .before .before .part .ensures)
+returns c =
+    let c5 = c .before .before .before .before .before in
+    let c9 = c5 .before .before .before .before in
+    let c11 = c9 .before .before in
+    step-is _ _ _ _ _ _ _ _ _ _ _ (c11 .rest .ensures) (c9 .collect .ensures) (c5 .advance .ensures) (c .before .before .part .ensures)
 
 pub step-spec : {M : Type 1} → statement M
 step-spec =

@@ -17,15 +17,6 @@ abbrev μ-loop : tie.MeasureT-loop
 loop-holds : tie.Need-loop-holds Inv-loop μ-loop
 loop-holds c = saying-none _ _ _
 
-next-tile-requires : tie.Need-next-tile-requires Inv-loop μ-loop
-next-tile-requires c κs = search needs
-
-enum-known-j : tie.Need-enum-known-j Inv-loop μ-loop
-enum-known-j c = search needs
-
-say-line-requires : tie.Need-say-line-requires Inv-loop μ-loop
-say-line-requires c κs = search needs
-
 add-t : tie.Need-add-t Inv-loop μ-loop
 add-t c =
     let l = c .before .before .before .before .before .loop in
@@ -67,16 +58,5 @@ returns c =
 pub say-lines-spec : {M : Type 1} → statement M
 say-lines-spec =
     tie.close
-    (tie.spec
-    Inv-loop
-    μ-loop
-    loop-holds
-    next-tile-requires
-    enum-known-j
-    say-line-requires
-    add-t
-    add-k
-    loop-less
-    loop-again
-    enum-told
+    (tie.spec Inv-loop μ-loop loop-holds (λ c κs. search needs) (λ c. search needs) (λ c κs. search needs) add-t add-k loop-less loop-again enum-told
     returns)

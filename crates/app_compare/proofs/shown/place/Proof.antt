@@ -23,8 +23,5 @@ cast-result c =
     let s = c .args in
     record { sfits = omega (arith, area (s .width) (s .y) (omega arith) (omega arith)) }
 
-returns : tie.Need-returns
-returns c = search needs
-
 pub place-spec : {M : Type 1} → statement M
-place-spec = tie.close (tie.spec mul-result mul-result-2 add-result cast-result returns)
+place-spec = tie.close (tie.spec mul-result mul-result-2 add-result cast-result (λ c. search needs))

@@ -7,9 +7,6 @@ use Rattle.bits.specs.Word.{horner}
 use Rattle.bits.specs.laws.Ahead.{horner-more, horner-end, byte-grow}
 use Rattle.bits.proofs.word.all_of.Statement.{statement}
 use Rattle.bits.proofs.word.all_of.Tie as tie
-use Rattle.bits.proofs.word.all_of.Reads as reads
-use Rattle.bits.proofs.word.all_of.Lts as lts
-use Rattle.bits.proofs.word.wide.Reads as wide-reads
 
 abbrev Inv-loop : tie.InvT-loop
 Inv-loop s w₀ i₀ w i = (horner w (drop i s) ≡ horner 0 s) × (w < 2 ^ (8 * i))
@@ -38,12 +35,6 @@ add-w c =
     let s = t .before .before .before in
     record { fits = byte-grow (l .i) (l .w) (c .wide .result) (omega (arith, t .loop-test .taken, s .pre)) (l .inv .1) (c .wide .ensures .1) .1 }
 
-add-i : tie.Need-add-i Inv-loop μ-loop
-add-i c = omega arith
-
-loop-less : tie.Need-loop-less Inv-loop μ-loop
-loop-less c = omega arith
-
 loop-again : tie.Need-loop-again Inv-loop μ-loop
 loop-again c =
     let t = c .before .before in
@@ -61,15 +52,4 @@ returns c =
 pub all-of-spec : {M : Type 1} → statement M
 all-of-spec =
     tie.close
-    (tie.spec
-    Inv-loop
-    μ-loop
-    loop-holds
-    mul-w
-    shared-slice-read-wide
-    wide-requires
-    add-w
-    add-i
-    loop-less
-    loop-again
-    returns)
+    (tie.spec Inv-loop μ-loop loop-holds mul-w shared-slice-read-wide wide-requires add-w (λ c. omega arith) (λ c. omega arith) loop-again returns)

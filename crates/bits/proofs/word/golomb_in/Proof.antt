@@ -7,33 +7,11 @@ use Rattle.bits.specs.laws.Word.{in-place, in-small}
 use borrow.Author.Needs.{needs}
 use Rattle.bits.proofs.word.golomb_in.Statement.{statement}
 use Rattle.bits.proofs.word.golomb_in.Tie as tie
-use Rattle.bits.proofs.word.golomb_in.Reads as reads
-use Rattle.bits.proofs.word.golomb_in.Lts as lts
-use Rattle.bits.proofs.word.number_in.Reads as number-in-reads
-use Rattle.bits.proofs.word.ones_in.Reads as ones-in-reads
-
-ones-in-requires : tie.Need-ones-in-requires
-ones-in-requires c κs = search needs
-
-enum-told : tie.Need-enum-told
-enum-told c = search needs
-
-enum-known-v : tie.Need-enum-known-v
-enum-known-v c = search needs
 
 number-in-requires : tie.Need-number-in-requires
 number-in-requires c κs =
     let o = c .before .before .before .ones-in in
     (in-place _ _ _ _ (sym (o .ensures) ∙ c .before .v .given .1) .0, omega arith)
-
-enum-told-2 : tie.Need-enum-told-2
-enum-told-2 c = search needs
-
-enum-known-b : tie.Need-enum-known-b
-enum-known-b c = search needs
-
-shl-t12 : tie.Need-shl-t12
-shl-t12 c = search needs
 
 add-t13 : tie.Need-add-t13
 add-t13 c =
@@ -68,15 +46,5 @@ returns-3 c =
 pub golomb-in-spec : {M : Type 1} → statement M
 golomb-in-spec =
     tie.close
-    (tie.spec
-    ones-in-requires
-    enum-told
-    enum-known-v
-    number-in-requires
-    enum-told-2
-    enum-known-b
-    shl-t12
-    add-t13
-    returns
-    returns-2
-    returns-3)
+    (tie.spec (λ c κs. search needs) (λ c. search needs) (λ c. search needs) number-in-requires (λ c. search needs) (λ c. search needs)
+    (λ c. search needs) add-t13 returns returns-2 returns-3)

@@ -4,27 +4,6 @@ use Rattle.bits.specs.laws.Word.{look-four}
 use borrow.Author.Needs.{needs}
 use Rattle.bits.proofs.word.look.Statement.{statement}
 use Rattle.bits.proofs.word.look.Tie as tie
-use Rattle.bits.proofs.word.look.Reads as reads
-use Rattle.bits.proofs.word.look.Lts as lts
-use Rattle.bits.proofs.word.four.Reads as four-reads
-
-four-requires : tie.Need-four-requires
-four-requires c κs = search needs
-
-mul-w : tie.Need-mul-w
-mul-w c = search needs
-
-add-four : tie.Need-add-four
-add-four c = search needs
-
-four-requires-2 : tie.Need-four-requires-2
-four-requires-2 c κs = search needs
-
-add-w : tie.Need-add-w
-add-w c = search needs
-
-shl-result : tie.Need-shl-result
-shl-result c = search needs
 
 returns : tie.Need-returns
 returns c =
@@ -34,4 +13,6 @@ returns c =
     (rw (c .before .four .ensures .0, c .four2 .ensures .0))
 
 pub look-spec : {M : Type 1} → statement M
-look-spec = tie.close (tie.spec four-requires mul-w add-four four-requires-2 add-w shl-result returns)
+look-spec =
+    tie.close
+    (tie.spec (λ c κs. search needs) (λ c. search needs) (λ c. search needs) (λ c κs. search needs) (λ c. search needs) (λ c. search needs) returns)

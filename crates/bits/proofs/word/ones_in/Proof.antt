@@ -7,14 +7,6 @@ use Rattle.bits.specs.laws.Word.{all, all-over, shl-some, lead-some, in-
 use borrow.Author.Needs.{needs}
 use Rattle.bits.proofs.word.ones_in.Statement.{statement}
 use Rattle.bits.proofs.word.ones_in.Tie as tie
-use Rattle.bits.proofs.word.ones_in.Reads as reads
-use Rattle.bits.proofs.word.ones_in.Lts as lts
-
-sub-r : tie.Need-sub-r
-sub-r c = search needs
-
-shl-all : tie.Need-shl-all
-shl-all c = search needs
 
 sub-m : tie.Need-sub-m
 sub-m c = shl-some (57 - c .args .at) (omega arith)
@@ -30,17 +22,8 @@ cast-m c =
     let m = all (c .args .w) (c .args .at) (c .pre) in
     record { fits = omega (arith, leading-le 64 (m - 1 - c .args .w % m)) }
 
-sub-m-3 : tie.Need-sub-m-3
-sub-m-3 c = search needs
-
 sub-m-4 : tie.Need-sub-m-4
 sub-m-4 c = lead-some (c .args .w) (c .args .at) (c .pre)
-
-add-t13 : tie.Need-add-t13
-add-t13 c = search needs
-
-add-t14 : tie.Need-add-t14
-add-t14 c = search needs
 
 returns : tie.Need-returns
 returns c = let s = c .before in in-ones (s .args .w) (s .args .at) (s .pre) _ refl (c .if1 .taken)
@@ -49,4 +32,7 @@ returns-2 : tie.Need-returns-2
 returns-2 c = let s = c .before in in-none (s .args .w) (s .args .at) (s .pre) _ refl (omega arith)
 
 pub ones-in-spec : {M : Type 1} → statement M
-ones-in-spec = tie.close (tie.spec sub-r shl-all sub-m rem-m sub-m-2 cast-m sub-m-3 sub-m-4 add-t13 add-t14 returns returns-2)
+ones-in-spec =
+    tie.close
+    (tie.spec (λ c. search needs) (λ c. search needs) sub-m rem-m sub-m-2 cast-m (λ c. search needs) sub-m-4 (λ c. search needs) (λ c. search needs)
+    returns returns-2)

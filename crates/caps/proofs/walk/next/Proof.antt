@@ -27,7 +27,8 @@ returns-2 : tie.Need-returns-2
 returns-2 c =
     let t = c .before .before in
     let s = t .before in
-    next-there _ _ (s .before .before .before .before .args .s) (s .size .result) _ (s .before .if1 .left) (s .size .ensures) (sym (t .there .ensures) ∙ c .before .if2 .taken) (c .number .ensures)
+    next-there _ _ (s .before .before .before .before .args .s) (s .size .result) _ (s .before .if1 .left) (s .size .ensures)
+    (sym (t .there .ensures) ∙ c .before .if2 .taken) (c .number .ensures)
 
 returns-3 : tie.Need-returns-3
 returns-3 c =

@@ -1,3 +1,4 @@
+-- By the sign: `negative` and `positive` name the whole number behind the machine's, and every step of it fits.
 use Prim.Native.Nat.{_≤_}
 use mathlib.Core.Path.{_≡_, sym, ap}
 use native.Mathlib.Omega.{arith}
@@ -5,26 +6,34 @@ use Rattle.code.specs.Fold.{foldZ}
 use Rattle.code.specs.laws.Fold.{negative, positive}
 use Rattle.code.proofs.element.folded.Statement.{statement}
 use Rattle.code.proofs.element.folded.Tie as tie
-use Rattle.code.proofs.element.folded.Reads as reads
-use Rattle.code.proofs.element.folded.Lts as lts
 
 sub-result : tie.Need-sub-result
 sub-result c = negative (c .before .args .x) (c .before .fits .x) (c .if1 .taken) .fits
 
 cast-result : tie.Need-cast-result
-cast-result c = let w = negative (c .before .args .x) (c .before .fits .x) (c .if1 .taken) in let e : c .before .args .x ≡ lib.IntN.negsuc (w .n) = w .is in let m : w .n ≤ 32767 = (rw e at (c .before .pre)) in rw (w .less) (tt, omega arith)
+cast-result c =
+    let w = negative (c .before .args .x) (c .before .fits .x) (c .if1 .taken) in
+    let e : c .before .args .x ≡ lib.IntN.negsuc (w .n) = w .is in let m : w .n ≤ 32767 = (rw e at (c .before .pre)) in rw (w .less) (tt, omega arith)
 
 mul-result : tie.Need-mul-result
-mul-result c = let w = negative (c .before .args .x) (c .before .fits .x) (c .if1 .taken) in let e : c .before .args .x ≡ lib.IntN.negsuc (w .n) = w .is in let m : w .n ≤ 32767 = (rw e at (c .before .pre)) in rw (w .less) (omega arith)
+mul-result c =
+    let w = negative (c .before .args .x) (c .before .fits .x) (c .if1 .taken) in
+    let e : c .before .args .x ≡ lib.IntN.negsuc (w .n) = w .is in let m : w .n ≤ 32767 = (rw e at (c .before .pre)) in rw (w .less) (omega arith)
 
 add-result : tie.Need-add-result
-add-result c = let w = negative (c .before .args .x) (c .before .fits .x) (c .if1 .taken) in let e : c .before .args .x ≡ lib.IntN.negsuc (w .n) = w .is in let m : w .n ≤ 32767 = (rw e at (c .before .pre)) in rw (w .less) (omega arith)
+add-result c =
+    let w = negative (c .before .args .x) (c .before .fits .x) (c .if1 .taken) in
+    let e : c .before .args .x ≡ lib.IntN.negsuc (w .n) = w .is in let m : w .n ≤ 32767 = (rw e at (c .before .pre)) in rw (w .less) (omega arith)
 
 cast-result-2 : tie.Need-cast-result-2
-cast-result-2 c = let w = positive (c .before .args .x) (c .before .fits .x) (c .if1 .left) in let m : w .0 ≤ 32767 = (rw (w .1) at (c .before .pre)) in rw (w .2) (tt, omega arith)
+cast-result-2 c =
+    let w = positive (c .before .args .x) (c .before .fits .x) (c .if1 .left) in
+    let m : w .0 ≤ 32767 = (rw (w .1) at (c .before .pre)) in rw (w .2) (tt, omega arith)
 
 mul-result-2 : tie.Need-mul-result-2
-mul-result-2 c = let w = positive (c .before .args .x) (c .before .fits .x) (c .if1 .left) in let m : w .0 ≤ 32767 = (rw (w .1) at (c .before .pre)) in rw (w .2) (omega arith)
+mul-result-2 c =
+    let w = positive (c .before .args .x) (c .before .fits .x) (c .if1 .left) in
+    let m : w .0 ≤ 32767 = (rw (w .1) at (c .before .pre)) in rw (w .2) (omega arith)
 
 returns : tie.Need-returns
 unfolding foldZ

@@ -4,19 +4,9 @@ use Rattle.code.specs.laws.Steps.{one-wide, one-ok}
 use borrow.Author.Needs.{needs}
 use Rattle.code.proofs.element.judge_one.Statement.{statement}
 use Rattle.code.proofs.element.judge_one.Tie as tie
-use Rattle.code.proofs.element.judge_one.Reads as reads
-use Rattle.code.proofs.element.judge_one.Lts as lts
-use Rattle.code.proofs.element.kp_one.Reads as kp-one-reads
-use Rattle.code.proofs.element.kr_after.Reads as kr-after-reads
 
 returns : tie.Need-returns
 returns c = let a = c .before .args in sym (one-wide (a .c .kp) (a .c .krp) _ (a .g) (a .next) refl (c .if1 .taken))
-
-kp-one-requires : tie.Need-kp-one-requires
-kp-one-requires c κs = search needs
-
-kr-after-requires : tie.Need-kr-after-requires
-kr-after-requires c κs = search needs
 
 returns-2 : tie.Need-returns-2
 returns-2 c =
@@ -24,4 +14,4 @@ returns-2 c =
     sym (one-ok (a .c .kp) (a .c .krp) _ (a .g) (a .next) _ _ refl (c .before .before .if1 .left) (c .before .kp-one .ensures) (c .kr-after .ensures))
 
 pub judge-one-spec : {M : Type 1} → statement M
-judge-one-spec = tie.close (tie.spec returns kp-one-requires kr-after-requires returns-2)
+judge-one-spec = tie.close (tie.spec returns (λ c κs. search needs) (λ c κs. search needs) returns-2)

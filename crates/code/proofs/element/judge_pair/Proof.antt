@@ -1,3 +1,4 @@
+-- One law for each way out, in the order of the tests: above g, a half too large, no place for the second, and the pair.
 use mathlib.Core.Path.{sym}
 use mathlib.Core.Logic.{⊎-elim}
 use native.Mathlib.Omega.{arith}
@@ -5,10 +6,6 @@ use Rattle.code.specs.laws.Steps.{judge-above, judge-first, judge-second
 use borrow.Author.Needs.{needs}
 use Rattle.code.proofs.element.judge_pair.Statement.{statement}
 use Rattle.code.proofs.element.judge_pair.Tie as tie
-use Rattle.code.proofs.element.judge_pair.Reads as reads
-use Rattle.code.proofs.element.judge_pair.Lts as lts
-use Rattle.code.proofs.element.kp_two.Reads as kp-two-reads
-use Rattle.code.proofs.element.kr_after.Reads as kr-after-reads
 
 returns : tie.Need-returns
 returns c = sym (let a = c .before .args in judge-above (a .c .kp) (a .c .krp) (a .left) (a .g) (a .a) (a .next) (omega arith))
@@ -17,23 +14,23 @@ returns-2 : tie.Need-returns-2
 returns-2 c = sym (let a = c .before .before .args in judge-first (a .c .kp) (a .c .krp) (a .left) (a .g) (a .a) (a .next) (omega arith) (omega arith))
 
 returns-3 : tie.Need-returns-3
-returns-3 c = sym (let a = c .before .before .before .args in judge-second (a .c .kp) (a .c .krp) (a .left) (a .g) (a .a) (a .next) (omega arith) (omega arith) (omega arith))
+returns-3 c =
+    sym
+    (let a = c .before .before .before .args in
+    judge-second (a .c .kp) (a .c .krp) (a .left) (a .g) (a .a) (a .next) (omega arith) (omega arith) (omega arith))
 
 returns-4 : tie.Need-returns-4
-returns-4 c = sym (let a = c .before .before .before .before .before .args in judge-lone (a .c .kp) (a .c .krp) (a .left) (a .g) (a .a) (a .next) (omega arith) (omega arith) (omega arith) (omega arith) (omega arith))
-
-kp-two-requires : tie.Need-kp-two-requires
-kp-two-requires c κs = search needs
-
-kr-after-requires : tie.Need-kr-after-requires
-kr-after-requires c κs = search needs
+returns-4 c =
+    sym
+    (let a = c .before .before .before .before .before .args in
+    judge-lone (a .c .kp) (a .c .krp) (a .left) (a .g) (a .a) (a .next) (omega arith) (omega arith) (omega arith) (omega arith) (omega arith))
 
 returns-5 : tie.Need-returns-5
 returns-5 c =
     let a = c .before .before .before .before .before .before .args in
-    sym (judge-pair (a .c .kp) (a .c .krp) (a .left) (a .g) (a .a) (a .next) _ _ (omega arith) (omega arith) (omega arith) (λ l. ⊎-elim (λ w. omega arith) (λ w. omega arith) (c .before .before .if4 .came)) (c .before .kp-two .ensures) (c .kr-after .ensures))
+    sym
+    (judge-pair (a .c .kp) (a .c .krp) (a .left) (a .g) (a .a) (a .next) _ _ (omega arith) (omega arith) (omega arith)
+    (λ l. ⊎-elim (λ w. omega arith) (λ w. omega arith) (c .before .before .if4 .came)) (c .before .kp-two .ensures) (c .kr-after .ensures))
 
 pub judge-pair-spec : {M : Type 1} → statement M
-judge-pair-spec =
-    tie.close
-    (tie.spec returns returns-2 returns-3 returns-4 kp-two-requires kr-after-requires returns-5)
+judge-pair-spec = tie.close (tie.spec returns returns-2 returns-3 returns-4 (λ c κs. search needs) (λ c κs. search needs) returns-5)

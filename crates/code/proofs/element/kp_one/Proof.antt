@@ -1,18 +1,9 @@
+-- One law for each of the two ways: zero (`kp-zero`), not zero (`kp-some`).
 use mathlib.Core.Path.{sym, _∙_}
 use Rattle.code.specs.laws.Steps.{kp-zero, kp-some}
 use borrow.Author.Needs.{needs}
 use Rattle.code.proofs.element.kp_one.Statement.{statement}
 use Rattle.code.proofs.element.kp_one.Tie as tie
-use Rattle.code.proofs.element.kp_one.Reads as reads
-use Rattle.code.proofs.element.kp_one.Lts as lts
-use Rattle.code.proofs.element.less.Reads as less-reads
-use Rattle.code.proofs.element.more.Reads as more-reads
-
-more-requires : tie.Need-more-requires
-more-requires c κs = search needs
-
-less-requires : tie.Need-less-requires
-less-requires c κs = search needs
 
 returns : tie.Need-returns
 returns c = c .more .ensures ∙ sym (kp-zero _ _ (c .before .if1 .taken))
@@ -21,4 +12,4 @@ returns-2 : tie.Need-returns-2
 returns-2 c = c .less .ensures ∙ sym (kp-some _ _ (c .before .if1 .left))
 
 pub kp-one-spec : {M : Type 1} → statement M
-kp-one-spec = tie.close (tie.spec more-requires less-requires returns returns-2)
+kp-one-spec = tie.close (tie.spec (λ c κs. search needs) (λ c κs. search needs) returns returns-2)

@@ -1,18 +1,9 @@
+-- One law for each of the four ways: both zero, one of them, none (`kp-00` to `kp-11`).
 use mathlib.Core.Path.{sym, _∙_}
 use Rattle.code.specs.laws.Steps.{kp-00, kp-01, kp-10, kp-11}
 use borrow.Author.Needs.{needs}
 use Rattle.code.proofs.element.kp_two.Statement.{statement}
 use Rattle.code.proofs.element.kp_two.Tie as tie
-use Rattle.code.proofs.element.kp_two.Reads as reads
-use Rattle.code.proofs.element.kp_two.Lts as lts
-use Rattle.code.proofs.element.less.Reads as less-reads
-use Rattle.code.proofs.element.more.Reads as more-reads
-
-more-requires : tie.Need-more-requires
-more-requires c κs = search needs
-
-less-requires : tie.Need-less-requires
-less-requires c κs = search needs
 
 returns : tie.Need-returns
 returns c = c .more .ensures ∙ sym (kp-00 _ _ _ (c .before .before .if1 .taken) (c .before .if2 .taken))
@@ -27,5 +18,4 @@ returns-4 : tie.Need-returns-4
 returns-4 c = c .less .ensures ∙ sym (kp-11 _ _ _ (c .before .before .if1 .left) (c .before .if3 .left))
 
 pub kp-two-spec : {M : Type 1} → statement M
-kp-two-spec =
-    tie.close (tie.spec more-requires less-requires returns returns-2 returns-3 returns-4)
+kp-two-spec = tie.close (tie.spec (λ c κs. search needs) (λ c κs. search needs) returns returns-2 returns-3 returns-4)

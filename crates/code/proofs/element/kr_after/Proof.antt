@@ -1,3 +1,4 @@
+-- By v: none, one or more ones (`kr-none`, `kr-one`, `kr-more`); both ends are clamped.
 use mathlib.Core.Path.{sym}
 use native.Mathlib.Omega.{arith}
 use Rattle.code.specs.Code.{krAfter}
@@ -5,17 +6,6 @@ use Rattle.code.specs.laws.Steps.{kr-none, kr-one, kr-more}
 use borrow.Author.Needs.{needs}
 use Rattle.code.proofs.element.kr_after.Statement.{statement}
 use Rattle.code.proofs.element.kr_after.Tie as tie
-use Rattle.code.proofs.element.kr_after.Reads as reads
-use Rattle.code.proofs.element.kr_after.Lts as lts
-
-shr-v : tie.Need-shr-v
-shr-v c = search needs
-
-sub-if4 : tie.Need-sub-if4
-sub-if4 c = search needs
-
-add-result : tie.Need-add-result
-add-result c = search needs
 
 returns : tie.Need-returns
 unfolding krAfter
@@ -38,5 +28,4 @@ unfolding krAfter
 returns-5 c = omega (arith, kr-more (c .before .before .before .args .krp) _ (c .before .before .if1 .left) (c .before .if3 .left))
 
 pub kr-after-spec : {M : Type 1} → statement M
-kr-after-spec =
-    tie.close (tie.spec shr-v sub-if4 add-result returns returns-2 returns-3 returns-4 returns-5)
+kr-after-spec = tie.close (tie.spec (λ c. search needs) (λ c. search needs) (λ c. search needs) returns returns-2 returns-3 returns-4 returns-5)

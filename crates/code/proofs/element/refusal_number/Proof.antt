@@ -1,19 +1,9 @@
+-- Each way of the match is a row of `refusalNumber`.
 use mathlib.Core.Path.{ap, sym}
 use Rattle.code.specs.ReadList.{refusalNumber}
 use borrow.Author.Needs.{needs}
 use Rattle.code.proofs.element.refusal_number.Statement.{statement}
 use Rattle.code.proofs.element.refusal_number.Tie as tie
-use Rattle.code.proofs.element.refusal_number.Reads as reads
-use Rattle.code.proofs.element.refusal_number.Lts as lts
-
-enum-told : tie.Need-enum-told
-enum-told c = search needs
-
-enum-told-2 : tie.Need-enum-told-2
-enum-told-2 c = search needs
-
-enum-told-3 : tie.Need-enum-told-3
-enum-told-3 c = search needs
 
 returns : tie.Need-returns
 unfolding refusalNumber
@@ -28,5 +18,4 @@ unfolding refusalNumber
 returns-3 c = sym (ap refusalNumber (c .enum-told3 .given .1))
 
 pub refusal-number-spec : {M : Type 1} → statement M
-refusal-number-spec =
-    tie.close (tie.spec enum-told enum-told-2 enum-told-3 returns returns-2 returns-3)
+refusal-number-spec = tie.close (tie.spec (λ c. search needs) (λ c. search needs) (λ c. search needs) returns returns-2 returns-3)

@@ -6,22 +6,6 @@ use Rattle.code.specs.laws.Steps.{one-cut}
 use borrow.Author.Needs.{needs}
 use Rattle.code.proofs.element.single.Statement.{statement}
 use Rattle.code.proofs.element.single.Tie as tie
-use Rattle.code.proofs.element.single.Reads as reads
-use Rattle.code.proofs.element.single.Lts as lts
-use Rattle.bits.proofs.golomb.Reads as golomb-reads
-use Rattle.code.proofs.element.judge_one.Reads as judge-one-reads
-
-golomb-requires : tie.Need-golomb-requires
-golomb-requires c κs = search needs
-
-enum-told : tie.Need-enum-told
-enum-told c = search needs
-
-enum-known-g : tie.Need-enum-known-g
-enum-known-g c = search needs
-
-judge-one-requires : tie.Need-judge-one-requires
-judge-one-requires c κs = search needs
 
 returns : tie.Need-returns
 returns c =
@@ -35,4 +19,4 @@ returns-2 c =
     c .judge-one .ensures ∙ ap (λ (n : Num). oneElem (a .kp) (a .krp) n) (sym (sym (g .before .before .golomb .ensures) ∙ g .g .given .1))
 
 pub single-spec : {M : Type 1} → statement M
-single-spec = tie.close (tie.spec golomb-requires enum-told enum-known-g judge-one-requires returns returns-2)
+single-spec = tie.close (tie.spec (λ c κs. search needs) (λ c. search needs) (λ c. search needs) (λ c κs. search needs) returns returns-2)

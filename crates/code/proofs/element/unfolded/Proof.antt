@@ -1,3 +1,4 @@
+-- An even number is its half (`unfold-even`), an odd one lies below zero (`unfold-odd`); both fit 32 bits.
 use mathlib.Core.Path.{sym, _∙_}
 use Prim.Native.Nat.{_/_}
 use native.Mathlib.Omega.{arith}
@@ -5,14 +6,6 @@ use Rattle.code.specs.laws.Fold.{unfold-even, unfold-odd, small-toZ, les
 use borrow.Author.Needs.{needs}
 use Rattle.code.proofs.element.unfolded.Statement.{statement}
 use Rattle.code.proofs.element.unfolded.Tie as tie
-use Rattle.code.proofs.element.unfolded.Reads as reads
-use Rattle.code.proofs.element.unfolded.Lts as lts
-
-cast-result : tie.Need-cast-result
-cast-result c = search needs
-
-cast-result-2 : tie.Need-cast-result-2
-cast-result-2 c = search needs
 
 sub-result : tie.Need-sub-result
 sub-result c = less-fits (c .before .args .v / 2) (omega arith)
@@ -24,4 +17,4 @@ returns-2 : tie.Need-returns-2
 returns-2 c = less-is (c .before .args .v / 2) (omega arith) ∙ sym (unfold-odd (c .before .args .v) (c .if1 .left))
 
 pub unfolded-spec : {M : Type 1} → statement M
-unfolded-spec = tie.close (tie.spec cast-result cast-result-2 sub-result returns returns-2)
+unfolded-spec = tie.close (tie.spec (λ c. search needs) (λ c. search needs) sub-result returns returns-2)

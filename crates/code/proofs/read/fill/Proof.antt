@@ -11,11 +11,6 @@ use Rattle.code.specs.laws.Filling.{filling-start, filling-end, elem-fin
 use Rattle.code.specs.laws.Quick.{filling-long, quick-next, quick-same}
 use Rattle.code.proofs.read.fill.Statement.{statement}
 use Rattle.code.proofs.read.fill.Tie as tie
-use Rattle.code.proofs.read.fill.Reads as reads
-use Rattle.code.proofs.read.fill.Lts as lts
-use Rattle.code.proofs.element.read_element.Reads as read-element-reads
-use Rattle.code.proofs.read.place.Reads as place-reads
-use Rattle.code.proofs.read.quick_turn.Reads as quick-turn-reads
 
 abbrev Inv-loop : tie.InvT-loop
 Inv-loop s rlgr3 out₀ n c₀ i₀ out c i = Filling rlgr3 (length out₀) (bitsOf s) out c i
@@ -40,32 +35,29 @@ quick-turn-requires c κs =
       filling-long (a .rlgr3) (length (a .list .now)) (bitsOf (a .s .now)) (l .list) (l .c) (l .i) (l .inv),
     )
 
-enum-known-j : tie.Need-enum-known-j Inv-loop μ-loop
-enum-known-j c = search needs
-
 loop-less : tie.Need-loop-less Inv-loop μ-loop
 loop-less c =
-    let q = c .before .before .before .before in
+    let c4 = c .before .before .before .before in
+    let q = c4 in
     let l = q .before .before .before .loop in
     let a = q .before .before .before .before .before .args in
     let t = q .quick-turn in
-    let r = quick-next (a .rlgr3) (bitsOf (a .s .now)) (l .list) (l .c) (l .i) (length (a .list .now)) (t .last .1 .1 .1 .0) (t .result) (l .inv) (t .ensures) in
+    let r =
+    quick-next (a .rlgr3) (bitsOf (a .s .now)) (l .list) (l .c) (l .i) (length (a .list .now)) (t .last .1 .1 .1 .0) (t .result) (l .inv)
+    (t .ensures) in
     omega (arith, r _ _ (c .before .j .given .1) .1, q .before .before .loop-test .taken)
 
 loop-again : tie.Need-loop-again Inv-loop μ-loop
 loop-again c =
-    let q = c .before .before .before .before in
+    let c4 = c .before .before .before .before in
+    let q = c4 in
     let l = q .before .before .before .loop in
     let a = q .before .before .before .before .before .args in
     let t = q .quick-turn in
-    let r = quick-next (a .rlgr3) (bitsOf (a .s .now)) (l .list) (l .c) (l .i) (length (a .list .now)) (t .last .1 .1 .1 .0) (t .result) (l .inv) (t .ensures) in
+    let r =
+    quick-next (a .rlgr3) (bitsOf (a .s .now)) (l .list) (l .c) (l .i) (length (a .list .now)) (t .last .1 .1 .1 .0) (t .result) (l .inv)
+    (t .ensures) in
     r _ _ (c .before .j .given .1) .0
-
-enum-told : tie.Need-enum-told Inv-loop μ-loop
-enum-told c = search needs
-
-sub-read-element : tie.Need-sub-read-element Inv-loop μ-loop
-sub-read-element c = search needs
 
 read-element-requires : tie.Need-read-element-requires Inv-loop μ-loop
 read-element-requires c κs =
@@ -82,9 +74,6 @@ place-requires c κs =
     let n : length (q .quick-turn .last .1 .1 .1 .0) ≡ length (a .list .now) = q .quick-turn .kept .1 .1 .1 .0 ∙ l .inv .clear .len in
     let f = elem-fine (a .rlgr3) (l .c .kp) (l .c .krp) (length (a .list .now)) (l .i) (l .c .at) (bitsOf (a .s .now)) h in
     (omega (arith, n, s .pre .1), omega (arith, n, h), rw (n, c .before .read-element .ensures) f)
-
-enum-known-r : tie.Need-enum-known-r Inv-loop μ-loop
-enum-known-r c = search needs
 
 same-length : tie.Need-same-length Inv-loop μ-loop
 same-length c =
@@ -104,9 +93,6 @@ returns c =
     let same = quick-same (a .rlgr3) (bitsOf (a .s .now)) (l .list) (l .c) (l .i) n (t .last .1 .1 .1 .0) (t .result) (l .inv) (t .ensures) in
     turn-bad (a .rlgr3) n (bitsOf (a .s .now)) (t .last .1 .1 .1 .0) (p .place .last .0) (l .c) (l .i) (e .result) (p .place .result)
     (same (p .before .before .before .enum-told .given .1)) (q .before .before .loop-test .taken) (e .ensures) (p .place .ensures .0) _ (c .before .r .given .1)
-
-enum-known-j-2 : tie.Need-enum-known-j-2 Inv-loop μ-loop
-enum-known-j-2 c = search needs
 
 loop-less-2 : tie.Need-loop-less-2 Inv-loop μ-loop
 loop-less-2 c =
@@ -149,23 +135,5 @@ returns-2 c =
 pub fill-spec : {M : Type 1} → statement M
 fill-spec =
     tie.close
-    (tie.spec
-    Inv-loop
-    μ-loop
-    loop-holds
-    quick-turn-requires
-    enum-known-j
-    loop-less
-    loop-again
-    enum-told
-    sub-read-element
-    read-element-requires
-    place-requires
-    enum-known-r
-    same-length
-    returns
-    enum-known-j-2
-    loop-less-2
-    loop-again-2
-    same-length-2
-    returns-2)
+    (tie.spec Inv-loop μ-loop loop-holds quick-turn-requires (λ c. search needs) loop-less loop-again (λ c. search needs) (λ c. search needs)
+    read-element-requires place-requires (λ c. search needs) same-length returns (λ c. search needs) loop-less-2 loop-again-2 same-length-2 returns-2)

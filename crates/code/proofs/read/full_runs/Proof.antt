@@ -9,10 +9,6 @@ use Rattle.bits.specs.laws.Gr.{shift-one}
 use Rattle.code.specs.laws.Quick.{Leaping, leap-again, leap-done}
 use Rattle.code.proofs.read.full_runs.Statement.{statement}
 use Rattle.code.proofs.read.full_runs.Tie as tie
-use Rattle.code.proofs.read.full_runs.Reads as reads
-use Rattle.code.proofs.read.full_runs.Lts as lts
-use Rattle.code.proofs.element.more.Reads as more-reads
-use Rattle.code.proofs.read.clipped.Reads as clipped-reads
 
 abbrev Inv-loop : tie.InvT-loop
 Inv-loop n i m at krp kp₀ j₀ k₀ kp j k = Leaping n i m at krp kp₀ kp j k

@@ -4,14 +4,6 @@ use native.Mathlib.Omega.{arith}
 use borrow.Author.Needs.{needs}
 use Rattle.code.proofs.read.onward.Statement.{statement}
 use Rattle.code.proofs.read.onward.Tie as tie
-use Rattle.code.proofs.read.onward.Reads as reads
-use Rattle.code.proofs.read.onward.Lts as lts
-
-enum-known-p : tie.Need-enum-known-p
-enum-known-p c = search needs
-
-enum-known-p-2 : tie.Need-enum-known-p-2
-enum-known-p-2 c = search needs
 
 add-t10 : tie.Need-add-t10
 add-t10 c =
@@ -19,11 +11,8 @@ add-t10 c =
     let h : c .before .p2 .given .0 .1 .0 .at ≤ 57 = rw (c .before .p2 .given .1) at (s .pre .1) in
     omega (arith, s .pre .0, h)
 
-returns : tie.Need-returns
-returns c = search needs
-
 returns-2 : tie.Need-returns-2
 returns-2 c = rw (c .before .p2 .given .1)
 
 pub onward-spec : {M : Type 1} → statement M
-onward-spec = tie.close (tie.spec enum-known-p enum-known-p-2 add-t10 returns returns-2)
+onward-spec = tie.close (tie.spec (λ c. search needs) (λ c. search needs) add-t10 (λ c. search needs) returns-2)

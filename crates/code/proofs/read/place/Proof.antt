@@ -1,30 +1,13 @@
+-- One law for each kind of element; that its values have a place and fit is said by `Fine` (`fine-one`, `fine-two`).
 use native.Mathlib.Omega.{arith}
 use lib.ListN.{length-set}
 use Rattle.code.specs.laws.Place.{fine-one, fine-two, place-no, place-zeros, place-one, place-lone, place-two}
 use borrow.Author.Needs.{needs}
 use Rattle.code.proofs.read.place.Statement.{statement}
 use Rattle.code.proofs.read.place.Tie as tie
-use Rattle.code.proofs.read.place.Reads as reads
-use Rattle.code.proofs.read.place.Lts as lts
-use Rattle.code.proofs.element.unfolded.Reads as unfolded-reads
-
-enum-known-e : tie.Need-enum-known-e
-enum-known-e c = search needs
-
-enum-known-e-2 : tie.Need-enum-known-e-2
-enum-known-e-2 c = search needs
-
-sub-if1 : tie.Need-sub-if1
-sub-if1 c = search needs
 
 returns : tie.Need-returns
 returns c = place-zeros (c .before .before .before .before .args .list .now) _ _ _ _ _ (c .before .before .e2 .given .1) (omega arith)
-
-add-t14 : tie.Need-add-t14
-add-t14 c = search needs
-
-enum-known-e-3 : tie.Need-enum-known-e-3
-enum-known-e-3 c = search needs
 
 unfolded-requires : tie.Need-unfolded-requires
 unfolded-requires c κs = fine-one _ _ _ _ _ _ (c .before .e3 .given .1) (c .before .before .before .pre .2) .1
@@ -44,91 +27,50 @@ add-t19-2 c = omega (arith, fine-one _ _ _ _ _ _ (c .before .before .e3 .given .
 add-t20 : tie.Need-add-t20
 add-t20 c = omega (arith, fine-one _ _ _ _ _ _ (c .before .before .e3 .given .1) (c .before .before .before .before .pre .2) .0)
 
-enum-known-e-4 : tie.Need-enum-known-e-4
-enum-known-e-4 c = search needs
-
 unfolded-requires-2 : tie.Need-unfolded-requires-2
 unfolded-requires-2 c κs = fine-two _ _ _ _ _ _ (c .before .e4 .given .1) (c .before .before .before .pre .2) .0
-
-mul-list : tie.Need-mul-list
-mul-list c = search needs
-
-slice-set-from-list-2 : tie.Need-slice-set-from-list-2
-slice-set-from-list-2 c = search needs
 
 sub-if2 : tie.Need-sub-if2
 sub-if2 c = simp length-set (omega arith)
 
-same-length : tie.Need-same-length
-same-length c = search needs
-
 returns-2 : tie.Need-returns-2
-returns-2 c = place-lone (c .before .before .before .before .before .args .list .now) (c .before .before .before .before .before .args .i) (c .before .before .before .before .before .args .e) _ _ _ _ (c .before .before .before .e4 .given .1) (omega arith) (simp length-set at (c .if2 .taken)) (record { sfits = c .before .unfolded2 .ok }) (c .before .unfolded2 .ensures)
+returns-2 c =
+    place-lone (c .before .before .before .before .before .args .list .now) (c .before .before .before .before .before .args .i)
+    (c .before .before .before .before .before .args .e) _ _ _ _ (c .before .before .before .e4 .given .1) (omega arith)
+    (simp length-set at (c .if2 .taken)) (record { sfits = c .before .unfolded2 .ok }) (c .before .unfolded2 .ensures)
 
 unfolded-requires-3 : tie.Need-unfolded-requires-3
-unfolded-requires-3 c κs = fine-two _ _ _ _ _ _ (c .before .before .before .e4 .given .1) (c .before .before .before .before .before .pre .2) .1 (omega (arith, simp length-set at (c .if2 .left)))
-
-add-t23 : tie.Need-add-t23
-add-t23 c = search needs
-
-mul-t25 : tie.Need-mul-t25
-mul-t25 c = search needs
-
-slice-set-from-list-3 : tie.Need-slice-set-from-list-3
-slice-set-from-list-3 c = search needs
-
-add-t23-2 : tie.Need-add-t23-2
-add-t23-2 c = search needs
+unfolded-requires-3 c κs =
+    let c3 = c .before .before .before in
+    let c5 = c3 .before .before in
+    fine-two _ _ _ _ _ _ (c3 .e4 .given .1) (c5 .pre .2) .1 (omega (arith, simp length-set at (c .if2 .left)))
 
 returns-3 : tie.Need-returns-3
-returns-3 c = place-no (c .before .before .before .args .list .now) (c .before .before .before .args .i) (c .before .before .before .args .e) _ (c .before .e .given .1)
+returns-3 c =
+    let c3 = c .before .before .before in
+    place-no (c3 .args .list .now) (c3 .args .i) (c3 .args .e) _ (c .before .e .given .1)
 
 returns-4 : tie.Need-returns-4
 returns-4 c = place-zeros (c .before .before .before .before .args .list .now) _ _ _ _ _ (c .before .before .e2 .given .1) (omega arith)
 
-same-length-2 : tie.Need-same-length-2
-same-length-2 c = search needs
-
 returns-5 : tie.Need-returns-5
-returns-5 c = place-one (c .before .before .before .before .args .list .now) (c .before .before .before .before .args .i) (c .before .before .before .before .args .e) _ _ _ _ (c .before .before .e3 .given .1) (record { sfits = c .unfolded .ok }) (c .unfolded .ensures)
-
-same-length-3 : tie.Need-same-length-3
-same-length-3 c = search needs
+returns-5 c =
+    let c4 = c .before .before .before .before in
+    place-one (c4 .args .list .now) (c4 .args .i) (c4 .args .e) _ _ _ _ (c .before .before .e3 .given .1) (record { sfits = c .unfolded .ok })
+    (c .unfolded .ensures)
 
 returns-6 : tie.Need-returns-6
-returns-6 c = place-two (c .before .before .before .before .before .before .args .list .now) (c .before .before .before .before .before .before .args .i) (c .before .before .before .before .before .before .args .e) _ _ _ _ _ (c .before .before .before .before .e4 .given .1) (simp length-set at (c .before .if2 .left)) (record { sfits = c .before .before .unfolded2 .ok }) (c .before .before .unfolded2 .ensures) (record { sfits = c .unfolded3 .ok }) (c .unfolded3 .ensures)
+returns-6 c =
+    let c4 = c .before .before .before .before in
+    let c6 = c4 .before .before in
+    place-two (c6 .args .list .now) (c6 .args .i) (c6 .args .e) _ _ _ _ _ (c4 .e4 .given .1) (simp length-set at (c .before .if2 .left))
+    (record { sfits = c .before .before .unfolded2 .ok }) (c .before .before .unfolded2 .ensures) (record { sfits = c .unfolded3 .ok })
+    (c .unfolded3 .ensures)
 
 pub place-spec : {M : Type 1} → statement M
 place-spec =
     tie.close
-    (tie.spec
-    enum-known-e
-    enum-known-e-2
-    sub-if1
-    returns
-    add-t14
-    enum-known-e-3
-    unfolded-requires
-    add-t19
-    mul-t20
-    slice-set-from-list
-    add-t19-2
-    add-t20
-    enum-known-e-4
-    unfolded-requires-2
-    mul-list
-    slice-set-from-list-2
-    sub-if2
-    same-length
-    returns-2
-    unfolded-requires-3
-    add-t23
-    mul-t25
-    slice-set-from-list-3
-    add-t23-2
-    returns-3
-    returns-4
-    same-length-2
-    returns-5
-    same-length-3
-    returns-6)
+    (tie.spec (λ c. search needs) (λ c. search needs) (λ c. search needs) returns (λ c. search needs) (λ c. search needs) unfolded-requires add-t19
+    mul-t20 slice-set-from-list add-t19-2 add-t20 (λ c. search needs) unfolded-requires-2 (λ c. search needs) (λ c. search needs) sub-if2
+    (λ c. search needs) returns-2 unfolded-requires-3 (λ c. search needs) (λ c. search needs) (λ c. search needs) (λ c. search needs) returns-3
+    returns-4 (λ c. search needs) returns-5 (λ c. search needs) returns-6)

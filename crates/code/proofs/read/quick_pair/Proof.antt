@@ -11,21 +11,6 @@ use Rattle.code.specs.laws.Steps.{elem-low-two}
 use borrow.Author.Needs.{needs}
 use Rattle.code.proofs.read.quick_pair.Statement.{statement}
 use Rattle.code.proofs.read.quick_pair.Tie as tie
-use Rattle.code.proofs.read.quick_pair.Reads as reads
-use Rattle.code.proofs.read.quick_pair.Lts as lts
-use Rattle.bits.proofs.word.look.Reads as look-reads
-use Rattle.code.proofs.read.onward.Reads as onward-reads
-use Rattle.code.proofs.read.place.Reads as place-reads
-use Rattle.code.proofs.word.pair_in.Reads as pair-in-reads
-
-look-requires : tie.Need-look-requires
-look-requires c κs = search needs
-
-sub-pair-in : tie.Need-sub-pair-in
-sub-pair-in c = search needs
-
-pair-in-requires : tie.Need-pair-in-requires
-pair-in-requires c κs = search needs
 
 place-requires : tie.Need-place-requires
 place-requires c κs =
@@ -50,9 +35,6 @@ onward-requires c κs =
       rw (c .before .place .ensures .0) (word-inside true (a .c .kp) (a .c .krp) n (a .i) 0 w _ (omega arith) (s .pre .0 .2) q),
     )
 
-same-length : tie.Need-same-length
-same-length c = search needs
-
 returns : tie.Need-returns
 returns c =
     let p = c .before .before .place in
@@ -70,11 +52,4 @@ returns c =
 pub quick-pair-spec : {M : Type 1} → statement M
 quick-pair-spec =
     tie.close
-    (tie.spec
-    look-requires
-    sub-pair-in
-    pair-in-requires
-    place-requires
-    onward-requires
-    same-length
-    returns)
+    (tie.spec (λ c κs. search needs) (λ c. search needs) (λ c κs. search needs) place-requires onward-requires (λ c. search needs) returns)

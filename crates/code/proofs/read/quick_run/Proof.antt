@@ -8,15 +8,6 @@ use Rattle.code.specs.laws.Quick.{led-state, led-some, led-full, led-val
 use borrow.Author.Needs.{needs}
 use Rattle.code.proofs.read.quick_run.Statement.{statement}
 use Rattle.code.proofs.read.quick_run.Tie as tie
-use Rattle.code.proofs.read.quick_run.Reads as reads
-use Rattle.code.proofs.read.quick_run.Lts as lts
-use Rattle.bits.proofs.word.look.Reads as look-reads
-use Rattle.bits.proofs.word.zeros_in.Reads as zeros-in-reads
-use Rattle.code.proofs.read.full_runs.Reads as full-runs-reads
-use Rattle.code.proofs.read.quick_value.Reads as quick-value-reads
-
-look-requires : tie.Need-look-requires
-look-requires c κs = search needs
 
 zeros-in-requires : tie.Need-zeros-in-requires
 zeros-in-requires c κs =
@@ -32,12 +23,6 @@ full-runs-requires c κs =
       omega (arith, s .pre .word, s .pre .small),
       zeros-few _ _ (c .zeros-in .ensures),
     )
-
-enum-told : tie.Need-enum-told
-enum-told c = search needs
-
-enum-known-j : tie.Need-enum-known-j
-enum-known-j c = search needs
 
 returns : tie.Need-returns
 returns c =
@@ -108,15 +93,6 @@ quick-value-requires c κs =
       room = omega (arith, c .before .if2 .left);
     }
 
-enum-known-l : tie.Need-enum-known-l
-enum-known-l c = search needs
-
-enum-told-2 : tie.Need-enum-told-2
-enum-told-2 c = search needs
-
-same-length : tie.Need-same-length
-same-length c = search needs
-
 returns-3 : tie.Need-returns-3
 returns-3 c rlgr3 _ =
     let q = c .before .before .before .before in
@@ -139,12 +115,6 @@ returns-3 c rlgr3 _ =
     })
     (omega (arith, t .before .if1 .left)) _ _ (q .quick-value .ensures) (c .before .enum-told2 .given .1)
 
-returns-4 : tie.Need-returns-4
-returns-4 c = search needs
-
-same-length-2 : tie.Need-same-length-2
-same-length-2 c = search needs
-
 returns-5 : tie.Need-returns-5
 returns-5 c =
     let q = c .before .before .before .before in
@@ -166,9 +136,6 @@ returns-5 c =
       krs = s .pre .krs;
     })
     (omega (arith, t .if2 .left)) (omega (arith, t .before .if1 .left)) _ _ (q .quick-value .ensures) _ _ (c .before .l .given .1)
-
-same-length-3 : tie.Need-same-length-3
-same-length-3 c = search needs
 
 returns-6 : tie.Need-returns-6
 returns-6 c =
@@ -206,21 +173,6 @@ returns-6 c =
 pub quick-run-spec : {M : Type 1} → statement M
 quick-run-spec =
     tie.close
-    (tie.spec
-    look-requires
-    zeros-in-requires
-    full-runs-requires
-    enum-told
-    enum-known-j
-    returns
-    returns-2
-    quick-value-requires
-    enum-known-l
-    enum-told-2
-    same-length
-    returns-3
-    returns-4
-    same-length-2
-    returns-5
-    same-length-3
-    returns-6)
+    (tie.spec (λ c κs. search needs) zeros-in-requires full-runs-requires (λ c. search needs) (λ c. search needs) returns returns-2
+    quick-value-requires (λ c. search needs) (λ c. search needs) (λ c. search needs) returns-3 (λ c. search needs) (λ c. search needs) returns-5
+    (λ c. search needs) returns-6)

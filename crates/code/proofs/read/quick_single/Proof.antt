@@ -11,18 +11,6 @@ use Rattle.code.specs.laws.Steps.{elem-low-one}
 use borrow.Author.Needs.{needs}
 use Rattle.code.proofs.read.quick_single.Statement.{statement}
 use Rattle.code.proofs.read.quick_single.Tie as tie
-use Rattle.code.proofs.read.quick_single.Reads as reads
-use Rattle.code.proofs.read.quick_single.Lts as lts
-use Rattle.bits.proofs.word.look.Reads as look-reads
-use Rattle.code.proofs.read.onward.Reads as onward-reads
-use Rattle.code.proofs.read.place.Reads as place-reads
-use Rattle.code.proofs.word.single_in.Reads as single-in-reads
-
-look-requires : tie.Need-look-requires
-look-requires c κs = search needs
-
-single-in-requires : tie.Need-single-in-requires
-single-in-requires c κs = search needs
 
 place-requires : tie.Need-place-requires
 place-requires c κs =
@@ -47,9 +35,6 @@ onward-requires c κs =
       rw (c .before .place .ensures .0) (word-inside false (a .c .kp) (a .c .krp) n (a .i) 0 w _ (omega arith) (s .pre .0 .2) q),
     )
 
-same-length : tie.Need-same-length
-same-length c = search needs
-
 returns : tie.Need-returns
 returns c =
     let p = c .before .before .place in
@@ -65,6 +50,4 @@ returns c =
     (l .look .ensures) (omega arith) (omega arith) (s .pre .0 .3) (s .pre .0 .2) q)
 
 pub quick-single-spec : {M : Type 1} → statement M
-quick-single-spec =
-    tie.close
-    (tie.spec look-requires single-in-requires place-requires onward-requires same-length returns)
+quick-single-spec = tie.close (tie.spec (λ c κs. search needs) (λ c κs. search needs) place-requires onward-requires (λ c. search needs) returns)

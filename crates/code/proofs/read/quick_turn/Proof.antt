@@ -3,26 +3,6 @@ use native.Mathlib.Omega.{arith}
 use borrow.Author.Needs.{needs}
 use Rattle.code.proofs.read.quick_turn.Statement.{statement}
 use Rattle.code.proofs.read.quick_turn.Tie as tie
-use Rattle.code.proofs.read.quick_turn.Reads as reads
-use Rattle.code.proofs.read.quick_turn.Lts as lts
-use Rattle.code.proofs.read.quick_pair.Reads as quick-pair-reads
-use Rattle.code.proofs.read.quick_run.Reads as quick-run-reads
-use Rattle.code.proofs.read.quick_single.Reads as quick-single-reads
-
-returns : tie.Need-returns
-returns c = search needs
-
-sub-if2 : tie.Need-sub-if2
-sub-if2 c = search needs
-
-returns-2 : tie.Need-returns-2
-returns-2 c = search needs
-
-quick-run-requires : tie.Need-quick-run-requires
-quick-run-requires c κs = search needs
-
-same-length : tie.Need-same-length
-same-length c = search needs
 
 returns-3 : tie.Need-returns-3
 returns-3 c =
@@ -38,9 +18,6 @@ quick-pair-requires c κs =
       omega (arith, t .before .before .if2 .left, t .before .before .before .if1 .left),
     )
 
-same-length-2 : tie.Need-same-length-2
-same-length-2 c = search needs
-
 returns-4 : tie.Need-returns-4
 returns-4 c = rw (c .before .before .before .if4 .taken) (c .before .quick-pair .ensures)
 
@@ -53,25 +30,11 @@ quick-single-requires c κs =
       omega (arith, t .before .before .if2 .left, t .before .before .before .if1 .left),
     )
 
-same-length-3 : tie.Need-same-length-3
-same-length-3 c = search needs
-
 returns-5 : tie.Need-returns-5
 returns-5 c = rw (c .before .before .before .if4 .left) (c .before .quick-single .ensures)
 
 pub quick-turn-spec : {M : Type 1} → statement M
 quick-turn-spec =
     tie.close
-    (tie.spec
-    returns
-    sub-if2
-    returns-2
-    quick-run-requires
-    same-length
-    returns-3
-    quick-pair-requires
-    same-length-2
-    returns-4
-    quick-single-requires
-    same-length-3
-    returns-5)
+    (tie.spec (λ c. search needs) (λ c. search needs) (λ c. search needs) (λ c κs. search needs) (λ c. search needs) returns-3 quick-pair-requires
+    (λ c. search needs) returns-4 quick-single-requires (λ c. search needs) returns-5)

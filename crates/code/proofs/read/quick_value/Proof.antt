@@ -14,20 +14,6 @@ use Rattle.code.specs.laws.Steps.{elem-high}
 use borrow.Author.Needs.{needs}
 use Rattle.code.proofs.read.quick_value.Statement.{statement}
 use Rattle.code.proofs.read.quick_value.Tie as tie
-use Rattle.code.proofs.read.quick_value.Reads as reads
-use Rattle.code.proofs.read.quick_value.Lts as lts
-use Rattle.code.proofs.read.onward.Reads as onward-reads
-use Rattle.code.proofs.read.place.Reads as place-reads
-use Rattle.code.proofs.word.run_value_in.Reads as run-value-in-reads
-
-sub-run-value-in : tie.Need-sub-run-value-in
-sub-run-value-in c = search needs
-
-add-run-value-in : tie.Need-add-run-value-in
-add-run-value-in c = search needs
-
-run-value-in-requires : tie.Need-run-value-in-requires
-run-value-in-requires c κs = search needs
 
 place-requires : tie.Need-place-requires
 place-requires c κs =
@@ -51,9 +37,6 @@ onward-requires c κs =
       rw (c .before .place .ensures .0) (word-inside true (a .t .kp) (a .t .krp) n (a .j) (a .m) (a .w) _ (omega (arith, s .pre .inside)) (s .pre .room) q),
     )
 
-same-length : tie.Need-same-length
-same-length c = search needs
-
 returns : tie.Need-returns
 returns c =
     let p = c .before .before .place in
@@ -69,11 +52,4 @@ returns c =
 pub quick-value-spec : {M : Type 1} → statement M
 quick-value-spec =
     tie.close
-    (tie.spec
-    sub-run-value-in
-    add-run-value-in
-    run-value-in-requires
-    place-requires
-    onward-requires
-    same-length
-    returns)
+    (tie.spec (λ c. search needs) (λ c. search needs) (λ c κs. search needs) place-requires onward-requires (λ c. search needs) returns)

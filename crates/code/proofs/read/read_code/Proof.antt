@@ -14,10 +14,12 @@ clean-tail-requires c κs =
 
 returns : tie.Need-returns
 returns c =
-    let a = c .before .before .before in
+    let c3 = c .before .before .before in
+    let a = c3 in
     let f = a .before .before .before .decode in
     let s = a .before .before .before .before .before .before in
-    code-done (s .args .rlgr3) (now (s .args .s)) (f .last .1 .1 .0) (f .result) (f .ensures) _ (a .at .given .1) (sym (c .before .clean-tail .ensures) ∙ c .if1 .taken)
+    code-done (s .args .rlgr3) (now (s .args .s)) (f .last .1 .1 .0) (f .result) (f .ensures) _ (a .at .given .1)
+    (sym (c .before .clean-tail .ensures) ∙ c .if1 .taken)
 
 returns-2 : tie.Need-returns-2
 returns-2 c =
@@ -28,10 +30,12 @@ returns-2 c =
 
 returns-3 : tie.Need-returns-3
 returns-3 c =
-    let a = c .before .before .before in
+    let c3 = c .before .before .before in
+    let a = c3 in
     let f = a .before .before .before .decode in
     let s = a .before .before .before .before .before .before in
-    code-tail (s .args .rlgr3) (now (s .args .s)) (f .last .1 .1 .0) (f .result) (f .ensures) _ (a .at .given .1) (sym (c .before .clean-tail .ensures) ∙ c .if1 .left)
+    code-tail (s .args .rlgr3) (now (s .args .s)) (f .last .1 .1 .0) (f .result) (f .ensures) _ (a .at .given .1)
+    (sym (c .before .clean-tail .ensures) ∙ c .if1 .left)
 
 pub read-code-spec : {M : Type 1} → statement M
 read-code-spec =

@@ -39,7 +39,8 @@ returns-3 c =
     let e = n .before .before .before .before in
     let j = e .before .shell-judge in
     let s = e .before .before .before in
-    code-taken (s .args .mode) (now (s .args .s)) (now (s .args .list)) (j .result) (j .ensures) (e .if1 .left) (d .last .1 .1 .0) (d .last .1 .1 .0) (d .result) (d .ensures)
+    code-taken (s .args .mode) (now (s .args .s)) (now (s .args .list)) (j .result) (j .ensures) (e .if1 .left) (d .last .1 .1 .0) (d .last .1 .1 .0)
+    (d .result) (d .ensures)
     (sym (n .reading-number .ensures) ∙ c .if2 .left)
 
 pub read-component-spec : {M : Type 1} → statement M

@@ -7,9 +7,6 @@ use borrow.Author.Needs.{needs}
 use Rattle.code.proofs.read.shell_judge.Statement.{statement}
 use Rattle.code.proofs.read.shell_judge.Tie as tie
 
-is-mode-requires : tie.Need-is-mode-requires
-is-mode-requires c κs = search needs
-
 returns : tie.Need-returns
 unfolding shellFault
 returns c = fails _ _ _ _ (sym (c .before .is-mode .ensures) ∙ not-true (c .before .is-mode .result) (c .if1 .taken)) refl
@@ -31,4 +28,4 @@ returns-4 c =
     passes _ _ _ _ (sym (p .is-mode .ensures) ∙ not-false (p .is-mode .result) (c .before .before .if1 .left)) (search rows)
 
 pub shell-judge-spec : {M : Type 1} → statement M
-shell-judge-spec = tie.close (tie.spec is-mode-requires returns returns-2 returns-3 returns-4)
+shell-judge-spec = tie.close (tie.spec (λ c κs. search needs) returns returns-2 returns-3 returns-4)

@@ -9,24 +9,6 @@ use Rattle.code.specs.laws.Steps.{two-cut, two-cut-low, two-got, size-fi
 use borrow.Author.Needs.{needs}
 use Rattle.code.proofs.word.pair_in.Statement.{statement}
 use Rattle.code.proofs.word.pair_in.Tie as tie
-use Rattle.code.proofs.word.pair_in.Reads as reads
-use Rattle.code.proofs.word.pair_in.Lts as lts
-use Rattle.bits.proofs.word.golomb_in.Reads as golomb-in-reads
-use Rattle.bits.proofs.word.number_in.Reads as number-in-reads
-use Rattle.code.proofs.element.bit_size.Reads as bit-size-reads
-use Rattle.code.proofs.element.judge_pair.Reads as judge-pair-reads
-
-golomb-in-requires : tie.Need-golomb-in-requires
-golomb-in-requires c κs = search needs
-
-enum-told : tie.Need-enum-told
-enum-told c = search needs
-
-enum-known-g : tie.Need-enum-known-g
-enum-known-g c = search needs
-
-bit-size-requires : tie.Need-bit-size-requires
-bit-size-requires c κs = search needs
 
 number-in-requires : tie.Need-number-in-requires
 number-in-requires c κs =
@@ -35,15 +17,6 @@ number-in-requires c κs =
     let h = gr-within _ _ _ _ _ (omega (arith, s .pre .2)) (sym (g .before .before .golomb-in .ensures) ∙ g .g .given .1) in
     let k : size (g .g .given .0 .0) ≤ 31 = size-fit _ 31 (h .1) in
     (h .0, omega (arith, c .bit-size .ensures))
-
-enum-told-2 : tie.Need-enum-told-2
-enum-told-2 c = search needs
-
-enum-known-a : tie.Need-enum-known-a
-enum-known-a c = search needs
-
-judge-pair-requires : tie.Need-judge-pair-requires
-judge-pair-requires c κs = search needs
 
 returns : tie.Need-returns
 returns c =
@@ -71,15 +44,5 @@ returns-3 c =
 pub pair-in-spec : {M : Type 1} → statement M
 pair-in-spec =
     tie.close
-    (tie.spec
-    golomb-in-requires
-    enum-told
-    enum-known-g
-    bit-size-requires
-    number-in-requires
-    enum-told-2
-    enum-known-a
-    judge-pair-requires
-    returns
-    returns-2
-    returns-3)
+    (tie.spec (λ c κs. search needs) (λ c. search needs) (λ c. search needs) (λ c κs. search needs) number-in-requires (λ c. search needs)
+    (λ c. search needs) (λ c κs. search needs) returns returns-2 returns-3)

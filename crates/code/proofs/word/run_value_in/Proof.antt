@@ -8,31 +8,11 @@ use Rattle.code.specs.laws.Steps.{run1-cut, run2-cut, run3-cut, run3-got
 use borrow.Author.Needs.{needs}
 use Rattle.code.proofs.word.run_value_in.Statement.{statement}
 use Rattle.code.proofs.word.run_value_in.Tie as tie
-use Rattle.code.proofs.word.run_value_in.Reads as reads
-use Rattle.code.proofs.word.run_value_in.Lts as lts
-use Rattle.bits.proofs.word.golomb_in.Reads as golomb-in-reads
-use Rattle.bits.proofs.word.number_in.Reads as number-in-reads
-use Rattle.code.proofs.element.judge_run.Reads as judge-run-reads
-
-number-in-requires : tie.Need-number-in-requires
-number-in-requires c κs = search needs
-
-enum-told : tie.Need-enum-told
-enum-told c = search needs
-
-enum-known-z : tie.Need-enum-known-z
-enum-known-z c = search needs
 
 number-in-requires-2 : tie.Need-number-in-requires-2
 number-in-requires-2 c κs =
     let z = c .before in
     (num-within _ _ _ _ _ (z .before .before .before .pre .0) (sym (z .before .before .number-in .ensures) ∙ z .z .given .1), omega arith)
-
-enum-told-2 : tie.Need-enum-told-2
-enum-told-2 c = search needs
-
-enum-known-sign : tie.Need-enum-known-sign
-enum-known-sign c = search needs
 
 golomb-in-requires : tie.Need-golomb-in-requires
 golomb-in-requires c κs =
@@ -41,12 +21,6 @@ golomb-in-requires c κs =
     let s = z .before .before .before in
     let a = num-within _ _ _ _ _ (s .pre .0) (sym (z .before .before .number-in .ensures) ∙ z .z .given .1) in
     (num-within _ _ _ _ _ a (sym (g .before .before .number-in2 .ensures) ∙ g .sign .given .1), omega (arith, s .pre .2))
-
-enum-told-3 : tie.Need-enum-told-3
-enum-told-3 c = search needs
-
-enum-known-g : tie.Need-enum-known-g
-enum-known-g c = search needs
 
 judge-run-requires : tie.Need-judge-run-requires
 judge-run-requires c κs =
@@ -89,18 +63,5 @@ returns-4 c =
 pub run-value-in-spec : {M : Type 1} → statement M
 run-value-in-spec =
     tie.close
-    (tie.spec
-    number-in-requires
-    enum-told
-    enum-known-z
-    number-in-requires-2
-    enum-told-2
-    enum-known-sign
-    golomb-in-requires
-    enum-told-3
-    enum-known-g
-    judge-run-requires
-    returns
-    returns-2
-    returns-3
-    returns-4)
+    (tie.spec (λ c κs. search needs) (λ c. search needs) (λ c. search needs) number-in-requires-2 (λ c. search needs) (λ c. search needs)
+    golomb-in-requires (λ c. search needs) (λ c. search needs) judge-run-requires returns returns-2 returns-3 returns-4)

@@ -6,22 +6,6 @@ use Rattle.code.specs.laws.Steps.{one-cut}
 use borrow.Author.Needs.{needs}
 use Rattle.code.proofs.word.single_in.Statement.{statement}
 use Rattle.code.proofs.word.single_in.Tie as tie
-use Rattle.code.proofs.word.single_in.Reads as reads
-use Rattle.code.proofs.word.single_in.Lts as lts
-use Rattle.bits.proofs.word.golomb_in.Reads as golomb-in-reads
-use Rattle.code.proofs.element.judge_one.Reads as judge-one-reads
-
-golomb-in-requires : tie.Need-golomb-in-requires
-golomb-in-requires c κs = search needs
-
-enum-told : tie.Need-enum-told
-enum-told c = search needs
-
-enum-known-g : tie.Need-enum-known-g
-enum-known-g c = search needs
-
-judge-one-requires : tie.Need-judge-one-requires
-judge-one-requires c κs = search needs
 
 returns : tie.Need-returns
 returns c =
@@ -35,4 +19,4 @@ returns-2 c =
     c .judge-one .ensures ∙ ap (λ (n : Num). oneElem (a .kp) (a .krp) n) (sym (sym (g .before .before .golomb-in .ensures) ∙ g .g .given .1))
 
 pub single-in-spec : {M : Type 1} → statement M
-single-in-spec = tie.close (tie.spec golomb-in-requires enum-told enum-known-g judge-one-requires returns returns-2)
+single-in-spec = tie.close (tie.spec (λ c κs. search needs) (λ c. search needs) (λ c. search needs) (λ c κs. search needs) returns returns-2)

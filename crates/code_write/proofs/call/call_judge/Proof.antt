@@ -7,9 +7,6 @@ use borrow.Author.Needs.{needs}
 use Rattle.code_write.proofs.call.call_judge.Statement.{statement}
 use Rattle.code_write.proofs.call.call_judge.Tie as tie
 
-is-mode-requires : tie.Need-is-mode-requires
-is-mode-requires c κs = search needs
-
 returns : tie.Need-returns
 unfolding askFault
 returns c = fails _ _ _ _ (sym (c .before .is-mode .ensures) ∙ not-true (c .before .is-mode .result) (c .if1 .taken)) refl
@@ -23,4 +20,4 @@ unfolding askFault
 returns-3 c = passes _ _ _ _ (sym (c .before .before .is-mode .ensures) ∙ not-false (c .before .before .is-mode .result) (c .before .if1 .left)) (search rows)
 
 pub call-judge-spec : {M : Type 1} → statement M
-call-judge-spec = tie.close (tie.spec is-mode-requires returns returns-2 returns-3)
+call-judge-spec = tie.close (tie.spec (λ c κs. search needs) returns returns-2 returns-3)

@@ -1,8 +1,7 @@
+-- Below the least (`near-low`), or one test is left (`near-high`).
 use Rattle.code_write.specs.laws.Write.{near-low, near-high}
 use Rattle.code_write.proofs.call.near.Statement.{statement}
 use Rattle.code_write.proofs.call.near.Tie as tie
-use Rattle.code_write.proofs.call.near.Reads as reads
-use Rattle.code_write.proofs.call.near.Lts as lts
 
 returns : tie.Need-returns
 returns c = near-low (c .before .args .x) (c .before .fits .x) (c .if1 .taken)

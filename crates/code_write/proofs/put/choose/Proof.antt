@@ -1,3 +1,4 @@
+-- A run where k is above 0; else a pair or a single value, with 0 for the second past the end (`none-past`).
 use Prim.Native.Nat.{_+_}
 use mathlib.Core.Path.{refl, sym, _∙_}
 use mathlib.Core.List.{map}
@@ -9,57 +10,38 @@ use Rattle.code_write.specs.laws.Item.{at-drop, none-past}
 use borrow.Author.Needs.{needs}
 use Rattle.code_write.proofs.put.choose.Statement.{statement}
 use Rattle.code_write.proofs.put.choose.Tie as tie
-use Rattle.code_write.proofs.put.choose.Reads as reads
-use Rattle.code_write.proofs.put.choose.Lts as lts
-use Rattle.code_write.proofs.put.choose_run.Reads as choose-run-reads
-use Rattle.code_write.proofs.put.folded_at.Reads as folded-at-reads
-
-choose-run-requires : tie.Need-choose-run-requires
-choose-run-requires c κs = search needs
-
-returns : tie.Need-returns
-returns c = search needs
-
-folded-at-requires : tie.Need-folded-at-requires
-folded-at-requires c κs = search needs
-
-add-if3 : tie.Need-add-if3
-add-if3 c = search needs
-
-add-folded-at : tie.Need-add-folded-at
-add-folded-at c = search needs
-
-folded-at-requires-2 : tie.Need-folded-at-requires-2
-folded-at-requires-2 c κs = search needs
 
 returns-2 : tie.Need-returns-2
 returns-2 c =
     let a = c .before .before .before .before .before .args in
     let l = map foldZ (a .xs .now) in
-    rw (c .before .before .if2 .taken) (sym (item-twin (a .kp) (drop (a .i) l) _ _ (omega (arith, c .before .before .before .before .if1 .left)) (at-drop l (a .i) 0 (a .i) (omega arith) ∙ sym (c .before .before .before .folded-at .ensures)) (at-drop l (a .i) 1 (a .i + 1) refl ∙ sym (c .folded-at2 .ensures))))
+    rw (c .before .before .if2 .taken)
+    (sym
+    (item-twin (a .kp) (drop (a .i) l) _ _ (omega (arith, c .before .before .before .before .if1 .left))
+    (at-drop l (a .i) 0 (a .i) (omega arith) ∙ sym (c .before .before .before .folded-at .ensures))
+    (at-drop l (a .i) 1 (a .i + 1) refl ∙ sym (c .folded-at2 .ensures))))
 
 returns-3 : tie.Need-returns-3
 returns-3 c =
     let a = c .before .before .before .before .args in
     let l = map foldZ (a .xs .now) in
-    rw (c .before .if2 .taken) (sym (item-twin (a .kp) (drop (a .i) l) _ _ (omega (arith, c .before .before .before .if1 .left)) (at-drop l (a .i) 0 (a .i) (omega arith) ∙ sym (c .before .before .folded-at .ensures)) (none-past l (a .i) 1 (omega (arith, length-map (a .xs .now) foldZ, c .if3 .left)))))
+    rw (c .before .if2 .taken)
+    (sym
+    (item-twin (a .kp) (drop (a .i) l) _ _ (omega (arith, c .before .before .before .if1 .left))
+    (at-drop l (a .i) 0 (a .i) (omega arith) ∙ sym (c .before .before .folded-at .ensures))
+    (none-past l (a .i) 1 (omega (arith, length-map (a .xs .now) foldZ, c .if3 .left)))))
 
 returns-4 : tie.Need-returns-4
 returns-4 c =
     let a = c .before .before .before .args in
     let l = map foldZ (a .xs .now) in
-    rw (c .if2 .left) (sym (item-single (a .kp) (drop (a .i) l) _ (omega (arith, c .before .before .if1 .left)) (at-drop l (a .i) 0 (a .i) (omega arith) ∙ sym (c .before .folded-at .ensures))))
+    rw (c .if2 .left)
+    (sym
+    (item-single (a .kp) (drop (a .i) l) _ (omega (arith, c .before .before .if1 .left))
+    (at-drop l (a .i) 0 (a .i) (omega arith) ∙ sym (c .before .folded-at .ensures))))
 
 pub choose-spec : {M : Type 1} → statement M
 choose-spec =
     tie.close
-    (tie.spec
-    choose-run-requires
-    returns
-    folded-at-requires
-    add-if3
-    add-folded-at
-    folded-at-requires-2
-    returns-2
-    returns-3
-    returns-4)
+    (tie.spec (λ c κs. search needs) (λ c. search needs) (λ c κs. search needs) (λ c. search needs) (λ c. search needs) (λ c κs. search needs)
+    returns-2 returns-3 returns-4)

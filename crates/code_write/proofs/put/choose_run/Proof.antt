@@ -12,19 +12,6 @@ use Rattle.code_write.specs.laws.Item.{at-drop}
 use borrow.Author.Needs.{needs}
 use Rattle.code_write.proofs.put.choose_run.Statement.{statement}
 use Rattle.code_write.proofs.put.choose_run.Tie as tie
-use Rattle.code_write.proofs.put.choose_run.Reads as reads
-use Rattle.code_write.proofs.put.choose_run.Lts as lts
-use Rattle.code_write.proofs.put.folded_at.Reads as folded-at-reads
-use Rattle.code_write.proofs.put.zeros_from.Reads as zeros-from-reads
-
-shl-full : tie.Need-shl-full
-shl-full c = search needs
-
-zeros-from-requires : tie.Need-zeros-from-requires
-zeros-from-requires c κs = search needs
-
-sub-left : tie.Need-sub-left
-sub-left c = search needs
 
 returns : tie.Need-returns
 returns c =
@@ -43,12 +30,6 @@ returns-2 c =
     sym (item-full (a .rlgr3) (a .kp) (drop (a .i) l) (omega (arith, s .pre .3))
     (omega (arith, n, length-map (a .xs .now) foldZ, c .before .before .zeros-from .ensures, c .if2 .taken)))
 
-add-folded-at : tie.Need-add-folded-at
-add-folded-at c = search needs
-
-folded-at-requires : tie.Need-folded-at-requires
-folded-at-requires c κs = search needs
-
 returns-3 : tie.Need-returns-3
 returns-3 c =
     let f = c .before .before .before in
@@ -65,12 +46,4 @@ returns-3 c =
 pub choose-run-spec : {M : Type 1} → statement M
 choose-run-spec =
     tie.close
-    (tie.spec
-    shl-full
-    zeros-from-requires
-    sub-left
-    returns
-    returns-2
-    add-folded-at
-    folded-at-requires
-    returns-3)
+    (tie.spec (λ c. search needs) (λ c κs. search needs) (λ c. search needs) returns returns-2 (λ c. search needs) (λ c κs. search needs) returns-3)

@@ -1,38 +1,9 @@
+-- One law for each kind of item: `kp-full`, `kp-single`, `kp-twin`, `kp-run`.
 use mathlib.Core.Path.{sym, _∙_}
 use Rattle.code_write.specs.laws.Item.{kp-full, kp-single, kp-twin, kp-run}
 use borrow.Author.Needs.{needs}
 use Rattle.code_write.proofs.put.item_kp.Statement.{statement}
 use Rattle.code_write.proofs.put.item_kp.Tie as tie
-use Rattle.code_write.proofs.put.item_kp.Reads as reads
-use Rattle.code_write.proofs.put.item_kp.Lts as lts
-use Rattle.code.proofs.element.kp_one.Reads as kp-one-reads
-use Rattle.code.proofs.element.kp_two.Reads as kp-two-reads
-use Rattle.code.proofs.element.less.Reads as less-reads
-use Rattle.code.proofs.element.more.Reads as more-reads
-
-enum-told : tie.Need-enum-told
-enum-told c = search needs
-
-more-requires : tie.Need-more-requires
-more-requires c κs = search needs
-
-enum-known-it : tie.Need-enum-known-it
-enum-known-it c = search needs
-
-kp-one-requires : tie.Need-kp-one-requires
-kp-one-requires c κs = search needs
-
-enum-known-it-2 : tie.Need-enum-known-it-2
-enum-known-it-2 c = search needs
-
-kp-two-requires : tie.Need-kp-two-requires
-kp-two-requires c κs = search needs
-
-enum-told-2 : tie.Need-enum-told-2
-enum-told-2 c = search needs
-
-less-requires : tie.Need-less-requires
-less-requires c κs = search needs
 
 returns : tie.Need-returns
 returns c = let s = c .before .before .before in c .more .ensures ∙ sym (kp-full (s .args .kp) (s .args .it) (c .before .enum-told .given .1))
@@ -49,16 +20,5 @@ returns-4 c = let s = c .before .before .before in c .less .ensures ∙ sym (kp-
 pub item-kp-spec : {M : Type 1} → statement M
 item-kp-spec =
     tie.close
-    (tie.spec
-    enum-told
-    more-requires
-    enum-known-it
-    kp-one-requires
-    enum-known-it-2
-    kp-two-requires
-    enum-told-2
-    less-requires
-    returns
-    returns-2
-    returns-3
-    returns-4)
+    (tie.spec (λ c. search needs) (λ c κs. search needs) (λ c. search needs) (λ c κs. search needs) (λ c. search needs) (λ c κs. search needs)
+    (λ c. search needs) (λ c κs. search needs) returns returns-2 returns-3 returns-4)

@@ -10,12 +10,6 @@ use Rattle.frame.specs.Frame.{callFault}
 use Rattle.frame.proofs.call.call_judge.Statement.{statement}
 use Rattle.frame.proofs.call.call_judge.Tie as tie
 
-is-ready-requires : tie.Need-is-ready-requires
-is-ready-requires c κs = search needs
-
-is-full-requires : tie.Need-is-full-requires
-is-full-requires c κs = search needs
-
 returns : tie.Need-returns
 unfolding callFault
 returns c =
@@ -24,9 +18,6 @@ returns c =
     let a = r .before .args in
     passes _ _ _ _ (sym (r .is-ready .ensures) ∙ f .before .if1 .taken) (passes _ _ _ _ (sym (f .is-full .ensures) ∙ c .before .before .if2 .taken)
     (fails _ _ _ _ (ne-eqb (a .word) (a .s .glass) (c .if3 .taken)) refl))
-
-cast-if4 : tie.Need-cast-if4
-cast-if4 c = search needs
 
 returns-2 : tie.Need-returns-2
 unfolding callFault
@@ -65,12 +56,4 @@ returns-5 c = fails _ _ _ _ (sym (c .before .is-ready .ensures) ∙ c .if1 .left
 pub call-judge-spec : {M : Type 1} → statement M
 call-judge-spec =
     tie.close
-    (tie.spec
-    is-ready-requires
-    is-full-requires
-    returns
-    cast-if4
-    returns-2
-    returns-3
-    returns-4
-    returns-5)
+    (tie.spec (λ c κs. search needs) (λ c κs. search needs) returns (λ c. search needs) returns-2 returns-3 returns-4 returns-5)

@@ -1,3 +1,4 @@
+-- Each list is cleared over its own length, and each length is 4,096.
 use mathlib.Core.Path.{ap, _∙_}
 use Prim.Native.Nat.{ℕ}
 use lib.IntN.{pos}
@@ -5,47 +6,25 @@ use lib.ListN.{replicate}
 use borrow.Author.Needs.{needs}
 use Rattle.frame.proofs.call.clear_all.Statement.{statement}
 use Rattle.frame.proofs.call.clear_all.Tie as tie
-use Rattle.frame.proofs.call.clear_all.Reads as reads
-use Rattle.frame.proofs.call.clear_all.Lts as lts
-use Rattle.whole.proofs.clear.Reads as clear-reads
-
-clear-requires : tie.Need-clear-requires
-clear-requires c κs = search needs
-
-clear-requires-2 : tie.Need-clear-requires-2
-clear-requires-2 c κs = search needs
-
-clear-requires-3 : tie.Need-clear-requires-3
-clear-requires-3 c κs = search needs
-
-clear-requires-4 : tie.Need-clear-requires-4
-clear-requires-4 c κs = search needs
-
-same-length : tie.Need-same-length
-same-length c = search needs
-
-same-length-2 : tie.Need-same-length-2
-same-length-2 c = search needs
-
-same-length-3 : tie.Need-same-length-3
-same-length-3 c = search needs
-
-same-length-4 : tie.Need-same-length-4
-same-length-4 c = search needs
 
 returns : tie.Need-returns
-returns c = record { y-is = c .before .before .before .before .before .before .before .before .before .before .clear .ensures ∙ ap (λ (k : ℕ). replicate k (pos 0)) (c .before .before .before .before .before .before .before .before .before .before .before .before .pre .y-len); cb-is = c .before .before .before .before .before .before .before .clear2 .ensures ∙ ap (λ (k : ℕ). replicate k (pos 0)) (c .before .before .before .before .before .before .before .before .before .before .before .before .pre .cb-len); cr-is = c .before .before .before .before .clear3 .ensures ∙ ap (λ (k : ℕ). replicate k (pos 0)) (c .before .before .before .before .before .before .before .before .before .before .before .before .pre .cr-len); tmp-is = c .before .clear4 .ensures ∙ ap (λ (k : ℕ). replicate k (pos 0)) (c .before .before .before .before .before .before .before .before .before .before .before .before .pre .tmp-len) }
+returns c =
+    let c4 = c .before .before .before .before in
+    let c7 = c4 .before .before .before in
+    let c10 = c7 .before .before .before in
+    let c12 = c10 .before .before in
+    record {
+      y-is = c10 .clear .ensures ∙ ap (λ (k : ℕ). replicate k (pos 0)) (c12 .pre .y-len);
+      cb-is = c7 .clear2 .ensures
+          ∙ ap (λ (k : ℕ). replicate k (pos 0)) (c12 .pre .cb-len);
+      cr-is = c4 .clear3 .ensures
+          ∙ ap (λ (k : ℕ). replicate k (pos 0)) (c12 .pre .cr-len);
+      tmp-is = c .before .clear4 .ensures
+          ∙ ap (λ (k : ℕ). replicate k (pos 0)) (c12 .pre .tmp-len);
+    }
 
 pub clear-all-spec : {M : Type 1} → statement M
 clear-all-spec =
     tie.close
-    (tie.spec
-    clear-requires
-    clear-requires-2
-    clear-requires-3
-    clear-requires-4
-    same-length
-    same-length-2
-    same-length-3
-    same-length-4
-    returns)
+    (tie.spec (λ c κs. search needs) (λ c κs. search needs) (λ c κs. search needs) (λ c κs. search needs) (λ c. search needs) (λ c. search needs)
+    (λ c. search needs) (λ c. search needs) returns)

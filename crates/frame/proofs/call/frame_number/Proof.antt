@@ -5,12 +5,6 @@ use borrow.Author.Needs.{needs}
 use Rattle.frame.proofs.call.frame_number.Statement.{statement}
 use Rattle.frame.proofs.call.frame_number.Tie as tie
 
-enum-known-f : tie.Need-enum-known-f
-enum-known-f c = search needs
-
-enum-known-f-2 : tie.Need-enum-known-f-2
-enum-known-f-2 c = search needs
-
 returns : tie.Need-returns
 unfolding frameReadingNumber
 returns c = sym (ap frameReadingNumber (c .before .f .given .1))
@@ -20,4 +14,4 @@ unfolding frameReadingNumber
 returns-2 c = sym (ap frameReadingNumber (c .before .f2 .given .1))
 
 pub frame-number-spec : {M : Type 1} → statement M
-frame-number-spec = tie.close (tie.spec enum-known-f enum-known-f-2 returns returns-2)
+frame-number-spec = tie.close (tie.spec (λ c. search needs) (λ c. search needs) returns returns-2)

@@ -1,9 +1,8 @@
+-- The four tests are the rows of `full`, one after the other.
 use Rattle.whole.specs.laws.Row.{rows}
 use Rattle.frame.specs.Frame.{full}
 use Rattle.frame.proofs.call.is_full.Statement.{statement}
 use Rattle.frame.proofs.call.is_full.Tie as tie
-use Rattle.frame.proofs.call.is_full.Reads as reads
-use Rattle.frame.proofs.call.is_full.Lts as lts
 
 returns : tie.Need-returns
 unfolding full

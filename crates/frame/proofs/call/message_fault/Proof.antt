@@ -8,9 +8,6 @@ use Rattle.frame.specs.laws.Frame.{front-good, check-front, set-there, c
 use Rattle.frame.proofs.call.message_fault.Statement.{statement}
 use Rattle.frame.proofs.call.message_fault.Tie as tie
 
-front-fault-requires : tie.Need-front-fault-requires
-front-fault-requires c κs = search needs
-
 returns : tie.Need-returns
 returns c =
     let f = c .before in
@@ -23,9 +20,6 @@ le32-at-requires c κs =
     let g = front-good _ (now (f .before .before .args .m)) (sym (c .if1 .left) ∙ f .front-fault .ensures) in
     omega (arith, g .region .there, g .region .size)
 
-add-sp : tie.Need-add-sp
-add-sp c = search needs
-
 check-requires : tie.Need-check-requires
 unfolding sizeAt
 check-requires c κs =
@@ -37,9 +31,6 @@ check-requires c κs =
     (z .le32-at .result) (z .le32-at .ensures .0) in
     (s .pre .0, s .pre .1, g)
 
-same-length : tie.Need-same-length
-same-length c = search needs
-
 returns-2 : tie.Need-returns-2
 unfolding sizeAt
 returns-2 c =
@@ -49,9 +40,6 @@ returns-2 c =
     let a = f .before .before .args in
     check-tiles (a .s .width) (a .s .height) (a .s .mode) (now (a .m)) (f .front-fault .result) (f .front-fault .ensures) (z .before .if1 .left)
     (z .le32-at .result) (z .le32-at .ensures .0) (k .check .result) (k .check .ensures) (c .if2 .taken)
-
-add-le32-at : tie.Need-add-le32-at
-add-le32-at c = search needs
 
 le32-at-requires-2 : tie.Need-le32-at-requires-2
 unfolding sizeAt
@@ -63,9 +51,6 @@ le32-at-requires-2 c κs =
     (z .le32-at .result) (z .le32-at .ensures .0) in
     omega (arith, g .good .there, g .good .size)
 
-add-end-fault : tie.Need-add-end-fault
-add-end-fault c = search needs
-
 end-fault-requires : tie.Need-end-fault-requires
 unfolding sizeAt
 end-fault-requires c κs =
@@ -75,9 +60,6 @@ end-fault-requires c κs =
     let g = set-there (a .s .width) (a .s .height) (a .s .mode) (now (a .m)) (f .front-fault .result) (f .front-fault .ensures) (z .before .if1 .left)
     (z .le32-at .result) (z .le32-at .ensures .0) in
     omega (arith, g .good .there, c .le32-at2 .ensures .0)
-
-same-length-2 : tie.Need-same-length-2
-same-length-2 c = search needs
 
 returns-3 : tie.Need-returns-3
 unfolding sizeAt
@@ -93,17 +75,5 @@ returns-3 c =
 pub message-fault-spec : {M : Type 1} → statement M
 message-fault-spec =
     tie.close
-    (tie.spec
-    front-fault-requires
-    returns
-    le32-at-requires
-    add-sp
-    check-requires
-    same-length
-    returns-2
-    add-le32-at
-    le32-at-requires-2
-    add-end-fault
-    end-fault-requires
-    same-length-2
-    returns-3)
+    (tie.spec (λ c κs. search needs) returns le32-at-requires (λ c. search needs) check-requires (λ c. search needs) returns-2 (λ c. search needs)
+    le32-at-requires-2 (λ c. search needs) end-fault-requires (λ c. search needs) returns-3)

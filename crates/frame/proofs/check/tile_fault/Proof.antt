@@ -9,9 +9,6 @@ use Rattle.frame_blocks.specs.laws.Tiles.{tile-good, tile-goes-on}
 use Rattle.frame.proofs.check.tile_fault.Statement.{statement}
 use Rattle.frame.proofs.check.tile_fault.Tie as tie
 
-tile-front-requires : tie.Need-tile-front-requires
-tile-front-requires c κs = search needs
-
 returns : tie.Need-returns
 returns c =
     let f = c .before in
@@ -27,9 +24,6 @@ codes-fault-requires c κs =
     let g = tile-good (a .s .width) (a .s .height) (a .q) (now (a .d)) (a .at) (s .pre .4) (sym (c .before .if1 .left) ∙ f .tile-front .ensures) in
     (s .pre .1, s .pre .2, subst (λ (z : ℕ). TileGood z (now (a .d)) (a .at)) (s .pre .3) g)
 
-same-length : tie.Need-same-length
-same-length c = search needs
-
 returns-2 : tie.Need-returns-2
 returns-2 c =
     let i = c .before .before .before in
@@ -39,5 +33,4 @@ returns-2 c =
     ∙ sym (tile-goes-on _ (a .s .width) (a .s .height) (a .q) (now (a .d)) (a .at))
 
 pub tile-fault-spec : {M : Type 1} → statement M
-tile-fault-spec =
-    tie.close (tie.spec tile-front-requires returns codes-fault-requires same-length returns-2)
+tile-fault-spec = tie.close (tie.spec (λ c κs. search needs) returns codes-fault-requires (λ c. search needs) returns-2)

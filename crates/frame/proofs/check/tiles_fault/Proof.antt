@@ -73,12 +73,6 @@ add-at c =
     (sym (c .before .if1 .left) ∙ t .tile-fault .ensures) in
     omega (arith, g .good .whole, c .le32-at .ensures, s .good)
 
-add-i : tie.Need-add-i Inv-loop μ-loop
-add-i c = omega arith
-
-loop-less : tie.Need-loop-less Inv-loop μ-loop
-loop-less c = omega arith
-
 loop-again : tie.Need-loop-again Inv-loop μ-loop
 unfolding sizeAt
 loop-again c =
@@ -121,20 +115,5 @@ returns-3 c =
 pub tiles-fault-spec : {M : Type 1} → statement M
 tiles-fault-spec =
     tie.close
-    (tie.spec
-    Inv-loop
-    μ-loop
-    loop-holds
-    tile-fault-requires
-    same-length
-    returns
-    add-le32-at
-    le32-at-requires
-    add-at
-    add-i
-    loop-less
-    loop-again
-    same-length-2
-    returns-2
-    same-length-3
-    returns-3)
+    (tie.spec Inv-loop μ-loop loop-holds tile-fault-requires same-length returns add-le32-at le32-at-requires add-at (λ c. omega arith)
+    (λ c. omega arith) loop-again same-length-2 returns-2 same-length-3 returns-3)

@@ -1,9 +1,8 @@
+-- Each return is one row of `beginJudge`.
 use Rattle.whole.specs.laws.Row.{rows}
 use Rattle.frame_layout.specs.Reader.{beginJudge}
 use Rattle.frame_blocks.proofs.block.begin_judge.Statement.{statement}
 use Rattle.frame_blocks.proofs.block.begin_judge.Tie as tie
-use Rattle.frame_blocks.proofs.block.begin_judge.Reads as reads
-use Rattle.frame_blocks.proofs.block.begin_judge.Lts as lts
 
 returns : tie.Need-returns
 unfolding beginJudge

@@ -1,9 +1,8 @@
+-- Each return is one row of `codecJudge`.
 use Rattle.whole.specs.laws.Row.{rows}
 use Rattle.frame_layout.specs.Reader.{codecJudge}
 use Rattle.frame_blocks.proofs.block.codec_judge.Statement.{statement}
 use Rattle.frame_blocks.proofs.block.codec_judge.Tie as tie
-use Rattle.frame_blocks.proofs.block.codec_judge.Reads as reads
-use Rattle.frame_blocks.proofs.block.codec_judge.Lts as lts
 
 returns : tie.Need-returns
 unfolding codecJudge

@@ -6,12 +6,9 @@ use borrow.Author.Needs.{needs}
 use Rattle.frame_blocks.proofs.block.fixed_head.Statement.{statement}
 use Rattle.frame_blocks.proofs.block.fixed_head.Tie as tie
 
-block-head-requires : tie.Need-block-head-requires
-block-head-requires c κs = search needs
-
 returns : tie.Need-returns
 unfolding fixedHead headBy _⇒_∣_
 returns c = c .block-head .ensures
 
 pub fixed-head-spec : {M : Type 1} → statement M
-fixed-head-spec = tie.close (tie.spec block-head-requires returns)
+fixed-head-spec = tie.close (tie.spec (λ c κs. search needs) returns)

@@ -1,9 +1,8 @@
+-- Each return is one row of `halvesFault`.
 use Rattle.whole.specs.laws.Row.{rows}
 use Rattle.frame_layout.specs.Reader.{halvesFault}
 use Rattle.frame_blocks.proofs.block.halves_fault.Statement.{statement}
 use Rattle.frame_blocks.proofs.block.halves_fault.Tie as tie
-use Rattle.frame_blocks.proofs.block.halves_fault.Reads as reads
-use Rattle.frame_blocks.proofs.block.halves_fault.Lts as lts
 
 returns : tie.Need-returns
 unfolding halvesFault

@@ -1,9 +1,8 @@
+-- Each return is one row of `blockJudge`.
 use Rattle.whole.specs.laws.Row.{rows}
 use Rattle.frame_layout.specs.Reader.{blockJudge}
 use Rattle.frame_blocks.proofs.block.head_judge.Statement.{statement}
 use Rattle.frame_blocks.proofs.block.head_judge.Tie as tie
-use Rattle.frame_blocks.proofs.block.head_judge.Reads as reads
-use Rattle.frame_blocks.proofs.block.head_judge.Lts as lts
 
 returns : tie.Need-returns
 unfolding blockJudge

@@ -1,9 +1,8 @@
+-- Each return is one row of `propsGood`.
 use Rattle.whole.specs.laws.Row.{rows}
 use Rattle.frame_layout.specs.Reader.{propsGood}
 use Rattle.frame_blocks.proofs.block.is_props.Statement.{statement}
 use Rattle.frame_blocks.proofs.block.is_props.Tie as tie
-use Rattle.frame_blocks.proofs.block.is_props.Reads as reads
-use Rattle.frame_blocks.proofs.block.is_props.Lts as lts
 
 returns : tie.Need-returns
 unfolding propsGood

@@ -1,9 +1,8 @@
+-- Each return is one row of `lastJudge`.
 use Rattle.whole.specs.laws.Row.{rows}
 use Rattle.frame_layout.specs.Reader.{lastJudge}
 use Rattle.frame_blocks.proofs.block.last_judge.Statement.{statement}
 use Rattle.frame_blocks.proofs.block.last_judge.Tie as tie
-use Rattle.frame_blocks.proofs.block.last_judge.Reads as reads
-use Rattle.frame_blocks.proofs.block.last_judge.Lts as lts
 
 returns : tie.Need-returns
 unfolding lastJudge

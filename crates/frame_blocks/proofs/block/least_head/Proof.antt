@@ -6,12 +6,9 @@ use borrow.Author.Needs.{needs}
 use Rattle.frame_blocks.proofs.block.least_head.Statement.{statement}
 use Rattle.frame_blocks.proofs.block.least_head.Tie as tie
 
-block-head-requires : tie.Need-block-head-requires
-block-head-requires c κs = search needs
-
 returns : tie.Need-returns
 unfolding leastHead headBy _⇒_∣_
 returns c = c .block-head .ensures
 
 pub least-head-spec : {M : Type 1} → statement M
-least-head-spec = tie.close (tie.spec block-head-requires returns)
+least-head-spec = tie.close (tie.spec (λ c κs. search needs) returns)

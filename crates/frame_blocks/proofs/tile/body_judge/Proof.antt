@@ -6,15 +6,6 @@ use borrow.Author.Needs.{needs}
 use Rattle.frame_blocks.proofs.tile.body_judge.Statement.{statement}
 use Rattle.frame_blocks.proofs.tile.body_judge.Tie as tie
 
-add-if1 : tie.Need-add-if1
-add-if1 c = search needs
-
-add-if1-2 : tie.Need-add-if1-2
-add-if1-2 c = search needs
-
-add-if1-3 : tie.Need-add-if1-3
-add-if1-3 c = search needs
-
 returns : tie.Need-returns
 unfolding bodyJudge
 returns c = search rows depth 14 fits 20000
@@ -31,9 +22,6 @@ returns-4 : tie.Need-returns-4
 unfolding bodyJudge
 returns-4 c = search rows depth 14 fits 20000
 
-place-judge-requires : tie.Need-place-judge-requires
-place-judge-requires c κs = search needs
-
 returns-5 : tie.Need-returns-5
 unfolding bodyJudge placeJudge
 returns-5 c =
@@ -41,4 +29,5 @@ returns-5 c =
 
 pub body-judge-spec : {M : Type 1} → statement M
 body-judge-spec =
-    tie.close (tie.spec add-if1 add-if1-2 add-if1-3 returns returns-2 returns-3 returns-4 place-judge-requires returns-5)
+    tie.close
+    (tie.spec (λ c. search needs) (λ c. search needs) (λ c. search needs) returns returns-2 returns-3 returns-4 (λ c κs. search needs) returns-5)

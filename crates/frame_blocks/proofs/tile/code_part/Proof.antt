@@ -1,3 +1,4 @@
+-- A checked tile holds its three codes (`part-fits`), so the part of the message is there and is the code (`part-is`).
 use native.Mathlib.Omega.{arith}
 use denote.Ref.{now}
 use native.Mathlib.Nat.{add-sub-cancel-left}
@@ -5,52 +6,24 @@ use Rattle.frame_blocks.specs.laws.Tiles.{part-fits, part-is}
 use borrow.Author.Needs.{needs}
 use Rattle.frame_blocks.proofs.tile.code_part.Statement.{statement}
 use Rattle.frame_blocks.proofs.tile.code_part.Tie as tie
-use Rattle.frame_blocks.proofs.tile.code_part.Reads as reads
-use Rattle.frame_blocks.proofs.tile.code_part.Lts as lts
-use Rattle.frame_blocks.proofs.tile.part_start.Reads as part-start-reads
-use Rattle.wire.proofs.le16_at.Reads as le16-at-reads
-
-mul-le16-at : tie.Need-mul-le16-at
-mul-le16-at c = search needs
-
-add-le16-at : tie.Need-add-le16-at
-add-le16-at c = search needs
-
-add-le16-at-2 : tie.Need-add-le16-at-2
-add-le16-at-2 c = search needs
-
-le16-at-requires : tie.Need-le16-at-requires
-le16-at-requires c κs = search needs
-
-part-start-requires : tie.Need-part-start-requires
-part-start-requires c κs = search needs
 
 add-result : tie.Need-add-result
-add-result c = omega (arith, part-fits (now (c .before .before .before .args .d)) (c .before .before .before .args .at) (c .before .before .before .args .k) (c .before .before .before .pre .0) (c .before .before .before .pre .1), c .before .le16-at .ensures .0, c .part-start .ensures)
-
-sub-result : tie.Need-sub-result
-sub-result c = search needs
-
-part-result-start : tie.Need-part-result-start
-part-result-start c = search needs
+add-result c =
+    let c3 = c .before .before .before in
+    omega (arith, part-fits (now (c3 .args .d)) (c3 .args .at) (c3 .args .k) (c3 .pre .0) (c3 .pre .1), c .before .le16-at .ensures .0, c .part-start .ensures)
 
 part-result-end : tie.Need-part-result-end
-part-result-end c = omega (arith, part-fits (now (c .before .before .before .args .d)) (c .before .before .before .args .at) (c .before .before .before .args .k) (c .before .before .before .pre .0) (c .before .before .before .pre .1), c .before .le16-at .ensures .0, c .part-start .ensures)
+part-result-end c =
+    let c3 = c .before .before .before in
+    omega (arith, part-fits (now (c3 .args .d)) (c3 .args .at) (c3 .args .k) (c3 .pre .0) (c3 .pre .1), c .before .le16-at .ensures .0, c .part-start .ensures)
 
 returns : tie.Need-returns
-returns c = simp (add-sub-cancel-left, c .before .before .le16-at .ensures .0, c .before .part-start .ensures) (part-is _ _ (c .before .before .before .before .args .k) (c .before .before .before .before .pre .1))
+returns c =
+    let c4 = c .before .before .before .before in
+    simp (add-sub-cancel-left, c .before .before .le16-at .ensures .0, c .before .part-start .ensures) (part-is _ _ (c4 .args .k) (c4 .pre .1))
 
 pub code-part-spec : {M : Type 1} → statement M
 code-part-spec =
     tie.close
-    (tie.spec
-    mul-le16-at
-    add-le16-at
-    add-le16-at-2
-    le16-at-requires
-    part-start-requires
-    add-result
-    sub-result
-    part-result-start
-    part-result-end
-    returns)
+    (tie.spec (λ c. search needs) (λ c. search needs) (λ c. search needs) (λ c κs. search needs) (λ c κs. search needs) add-result (λ c. search needs)
+    (λ c. search needs) part-result-end returns)

@@ -7,15 +7,9 @@ use Rattle.frame_blocks.specs.laws.Tiles.{place-in, place-out}
 use Rattle.frame_blocks.proofs.tile.place_judge.Statement.{statement}
 use Rattle.frame_blocks.proofs.tile.place_judge.Tie as tie
 
-cast-if1 : tie.Need-cast-if1
-cast-if1 c = search needs
-
 returns : tie.Need-returns
 unfolding placeJudge
 returns c = fails _ _ _ _ (place-out _ _ _ (c .before .before .pre .columns) (c .if1 .taken)) refl
-
-cast-if2 : tie.Need-cast-if2
-cast-if2 c = search needs
 
 returns-2 : tie.Need-returns-2
 unfolding placeJudge
@@ -32,4 +26,4 @@ returns-3 c =
     passes _ _ _ _ (place-in _ _ _ (r .columns) (i .if1 .left)) (passes _ _ _ _ (place-in _ _ _ (r .rows) (c .if2 .left)) refl)
 
 pub place-judge-spec : {M : Type 1} → statement M
-place-judge-spec = tie.close (tie.spec cast-if1 returns cast-if2 returns-2 returns-3)
+place-judge-spec = tie.close (tie.spec (λ c. search needs) returns (λ c. search needs) returns-2 returns-3)

@@ -9,9 +9,6 @@ use borrow.Author.Needs.{needs}
 use Rattle.frame_blocks.proofs.tile.tile_front.Statement.{statement}
 use Rattle.frame_blocks.proofs.tile.tile_front.Tie as tie
 
-least-head-requires : tie.Need-least-head-requires
-least-head-requires c κs = search needs
-
 returns : tie.Need-returns
 unfolding tileFront
 returns c = stops _ _ _ (λ z. c .if1 .taken (c .before .least-head .ensures ∙ z)) (c .before .least-head .ensures)
@@ -27,4 +24,4 @@ unfolding tileFront
 returns-2 c = goes-on _ _ _ (sym (c .before .before .least-head .ensures) ∙ c .before .if1 .left) (c .tile-fields .ensures)
 
 pub tile-front-spec : {M : Type 1} → statement M
-tile-front-spec = tie.close (tie.spec least-head-requires returns tile-fields-requires returns-2)
+tile-front-spec = tie.close (tie.spec (λ c κs. search needs) returns tile-fields-requires returns-2)

@@ -77,11 +77,16 @@ samples-requires c κs =
 returns : tie.Need-returns
 unfolding planeOf
 returns c =
-    let i = c .before .before .before .before .before .before .before in
+    let c5 = c .before .before .before .before .before in
+    let c6 = c5 .before in
+    let c7 = c6 .before in
+    let i = c7 in
     let s = i .before .before .before in
-    let set = set-is (now (s .args .m)) (s .args .p .sp) _ _ _ (c .before .before .before .before .before .before .quant-at .ensures) (i .quant-index .ensures) in
-    let d = ap (λ (z : List ℕ). planeOf (s .args .p .mode) (setAt (now (s .args .m)) (s .args .p .sp)) (tileAt z (s .args .at)) (s .args .k)) (i .before .tile-data .ensures) in
-    c .before .before .samples .ensures ∙ (rw (set, c .before .before .before .before .before .code-part .ensures) d)
+    let set = set-is (now (s .args .m)) (s .args .p .sp) _ _ _ (c6 .quant-at .ensures) (i .quant-index .ensures) in
+    let d =
+    ap (λ (z : List ℕ). planeOf (s .args .p .mode) (setAt (now (s .args .m)) (s .args .p .sp)) (tileAt z (s .args .at)) (s .args .k))
+    (i .before .tile-data .ensures) in
+    c .before .before .samples .ensures ∙ (rw (set, c5 .code-part .ensures) d)
 
 pub part-samples-spec : {M : Type 1} → statement M
 part-samples-spec =

@@ -8,15 +8,9 @@ use borrow.Author.Needs.{needs}
 use Rattle.frame_write.proofs.call.arg_judge.Statement.{statement}
 use Rattle.frame_write.proofs.call.arg_judge.Tie as tie
 
-is-size-requires : tie.Need-is-size-requires
-is-size-requires c κs = search needs
-
 returns : tie.Need-returns
 unfolding argFaultOver
 returns c = fails _ _ _ _ (sym (c .before .is-size .ensures) ∙ not-true (c .before .is-size .result) (c .if1 .taken)) refl
-
-is-mode-requires : tie.Need-is-mode-requires
-is-mode-requires c κs = search needs
 
 returns-2 : tie.Need-returns-2
 unfolding argFaultOver
@@ -24,9 +18,6 @@ returns-2 c =
     let p = c .before .before .before in
     passes _ _ _ _ (sym (p .is-size .ensures) ∙ not-false (p .is-size .result) (c .before .before .if1 .left))
     (fails _ _ _ _ (sym (c .before .is-mode .ensures) ∙ not-true (c .before .is-mode .result) (c .if2 .taken)) refl)
-
-is-good-requires : tie.Need-is-good-requires
-is-good-requires c κs = search needs
 
 returns-3 : tie.Need-returns-3
 unfolding argFaultOver
@@ -114,15 +105,5 @@ returns-7 c =
 pub arg-judge-spec : {M : Type 1} → statement M
 arg-judge-spec =
     tie.close
-    (tie.spec
-    is-size-requires
-    returns
-    is-mode-requires
-    returns-2
-    is-good-requires
-    returns-3
-    is-pixels-requires
-    returns-4
-    returns-5
-    returns-6
-    returns-7)
+    (tie.spec (λ c κs. search needs) returns (λ c κs. search needs) returns-2 (λ c κs. search needs) returns-3 is-pixels-requires returns-4 returns-5
+    returns-6 returns-7)

@@ -83,7 +83,8 @@ same-length-7 c =
 
 returns-3 : tie.Need-returns-3
 returns-3 c =
-    let p = c .before .before .before .before in
+    let c4 = c .before .before .before .before in
+    let p = c4 in
     let b = p .before .before .before .before in
     let t = b .before .before .before .before .before .before in
     let s = t .before .before .before .before .before .before in
@@ -91,7 +92,8 @@ returns-3 c =
     let j = a .job in
     send-done (j .index) (j .width) (j .height) (j .mode) (j .quants) (now (a .out)) (a .n) (tileSent j (now (a .pixels)) (now (a .picks)))
     (stopSent j (now (a .pixels)) (now (a .picks))) (t .tiles-size .result) (t .tiles-size .ensures) (ten s .0) (ten s .1)
-    (b .before .before .before .if1 .left) (omega (arith, b .if2 .left, b .before .chroma-index .ensures .0)) _ _ (p .put-frame .ensures .0) (p .put-frame .ensures .1)
+    (b .before .before .before .if1 .left) (omega (arith, b .if2 .left, b .before .chroma-index .ensures .0)) _ _ (p .put-frame .ensures .0)
+    (p .put-frame .ensures .1)
 
 pub send-spec : {M : Type 1} → statement M
 send-spec =

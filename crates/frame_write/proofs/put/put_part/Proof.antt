@@ -23,23 +23,17 @@ load-part-requires c κs = (c .before .before .before .before .pre .0, c .before
 put-component-requires : tie.Need-put-component-requires
 unfolding tilePart
 put-component-requires c κs =
-    let s = c .before .before .before .before .before .before .before .before .before in
+    let c4 = c .before .before .before .before in
+    let c9 = c4 .before .before .before .before .before in
+    let s = c9 in
     let a = s .args in
     let j = a .job in
-    let e = sym (c .before .before .before .before .load-part .ensures) in (
-      omega (arith, c .before .before .before .before .load-part .kept .1 .1 .1 .1 .0, s .pre .0 .first),
-      subst (λ (l : List ℤ). allInRange l ≡ true) e (part-range (j .mode) (quantFor (j .quants) (a .c) .v) (listIn j (now (a .pixels)) (a .k) (a .c)) (s .pre .2)),
+    let e = sym (c4 .load-part .ensures) in (
+      omega (arith, c4 .load-part .kept .1 .1 .1 .1 .0, s .pre .0 .first),
+      subst (λ (l : List ℤ). allInRange l ≡ true) e
+          (part-range (j .mode) (quantFor (j .quants) (a .c) .v) (listIn j (now (a .pixels)) (a .k) (a .c)) (s .pre .2)),
       subst (λ (l : List ℤ). a .at + length (bytesOf (j .mode) l) ≤ length (now (a .out))) e (s .pre .3),
     )
-
-same-length : tie.Need-same-length
-same-length c = search needs
-
-same-length-2 : tie.Need-same-length-2
-same-length-2 c = search needs
-
-same-length-3 : tie.Need-same-length-3
-same-length-3 c = search needs
 
 returns : tie.Need-returns
 unfolding tilePart
@@ -53,12 +47,4 @@ returns c =
     )
 
 pub put-part-spec : {M : Type 1} → statement M
-put-part-spec =
-    tie.close
-    (tie.spec
-    load-part-requires
-    put-component-requires
-    same-length
-    same-length-2
-    same-length-3
-    returns)
+put-part-spec = tie.close (tie.spec load-part-requires put-component-requires (λ c. search needs) (λ c. search needs) (λ c. search needs) returns)

@@ -32,9 +32,6 @@ put-head-requires c κs =
     let j = s .args .job in
     omega (arith, tile-long (now (s .args .pixels)) (j .width) (j .height) (j .mode) (j .quants) (s .args .k), s .pre .3)
 
-add-a : tie.Need-add-a
-add-a c = search needs
-
 put-part-requires : tie.Need-put-part-requires
 put-part-requires c κs =
     let s = c .before .before .before .before .before .before .before .before .before .before .before .before in
@@ -164,22 +161,6 @@ returns c =
 pub put-tile-spec : {M : Type 1} → statement M
 put-tile-spec =
     tie.close
-    (tie.spec
-    cols-of-requires
-    (λ c κs. search needs)
-    rem-put-head
-    div-put-head
-    put-head-requires
-    add-a
-    put-part-requires
-    put-part-requires-2
-    put-part-requires-3
-    sub-fill-tile
-    sub-fill-tile-2
-    sub-fill-tile-3
-    sub-fill-tile-4
-    fill-tile-requires
-    same-length
-    same-length-2
-    same-length-3
-    returns)
+    (tie.spec cols-of-requires (λ c κs. search needs) rem-put-head div-put-head put-head-requires (λ c. search needs) put-part-requires
+    put-part-requires-2 put-part-requires-3 sub-fill-tile sub-fill-tile-2 sub-fill-tile-3 sub-fill-tile-4 fill-tile-requires same-length same-length-2
+    same-length-3 returns)

@@ -7,12 +7,6 @@ use Rattle.frame_write.specs.laws.Picked.{sent-is, sent-past}
 use Rattle.frame_write.proofs.size.number_at.Statement.{statement}
 use Rattle.frame_write.proofs.size.number_at.Tie as tie
 
-mul-result : tie.Need-mul-result
-mul-result c = search needs
-
-shared-slice-read-result : tie.Need-shared-slice-read-result
-shared-slice-read-result c = search needs
-
 cast-result : tie.Need-cast-result
 cast-result c = omega (arith, c .shared-slice-known .given (c .before .before .args .i))
 
@@ -23,4 +17,4 @@ returns-2 : tie.Need-returns-2
 returns-2 c = let s = c .before in sym (sent-past (now (s .args .picks)) (s .args .i) (omega (arith, c .if1 .left)))
 
 pub number-at-spec : {M : Type 1} → statement M
-number-at-spec = tie.close (tie.spec mul-result shared-slice-read-result cast-result returns returns-2)
+number-at-spec = tie.close (tie.spec (λ c. search needs) (λ c. search needs) cast-result returns returns-2)

@@ -29,12 +29,6 @@ judge-requires c κs =
       subst (λ (q : Quant). QuantGood (q .v)) (sym (c .quant-for .ensures)) (for-good (s .args .job .quants) (s .args .c) (g .luma) (g .chroma)),
     )
 
-same-length : tie.Need-same-length
-same-length c = search needs
-
-same-length-2 : tie.Need-same-length-2
-same-length-2 c = search needs
-
 -- what the judge says is said of the list's own quantisers
 judged : (f : tie.After-judge) →
     let a = f .before .before .before .before .before .before .before .before .before .before .args in
@@ -52,15 +46,6 @@ returns c =
     let j = a .job in
     part-judged (j .mode) (quantFor (j .quants) (a .c) .v) (listIn j (now (a .pixels)) (a .k) (a .c)) (f .judge .result) (judged f) (c .if1 .taken)
 
-measure-component-requires : tie.Need-measure-component-requires
-measure-component-requires c κs = search needs
-
-same-length-3 : tie.Need-same-length-3
-same-length-3 c = search needs
-
-same-length-4 : tie.Need-same-length-4
-same-length-4 c = search needs
-
 returns-2 : tie.Need-returns-2
 unfolding tilePart
 returns-2 c =
@@ -77,12 +62,6 @@ returns-2 c =
     (subst (λ (x : List ℤ). Measures (codeFault (j .mode) x) (length (bytesOf (j .mode) x)) (m .result)) (c4 .load-part .ensures)
     (sized-measures _ _ _ (m .ensures)))
     (c .if2 .taken)
-
-same-length-5 : tie.Need-same-length-5
-same-length-5 c = search needs
-
-same-length-6 : tie.Need-same-length-6
-same-length-6 c = search needs
 
 returns-3 : tie.Need-returns-3
 unfolding tilePart
@@ -104,17 +83,5 @@ returns-3 c =
 pub part-size-spec : {M : Type 1} → statement M
 part-size-spec =
     tie.close
-    (tie.spec
-    load-part-requires
-    (λ c κs. search needs)
-    judge-requires
-    same-length
-    same-length-2
-    returns
-    measure-component-requires
-    same-length-3
-    same-length-4
-    returns-2
-    same-length-5
-    same-length-6
-    returns-3)
+    (tie.spec load-part-requires (λ c κs. search needs) judge-requires (λ c. search needs) (λ c. search needs) returns (λ c κs. search needs)
+    (λ c. search needs) (λ c. search needs) returns-2 (λ c. search needs) (λ c. search needs) returns-3)

@@ -14,12 +14,6 @@ use Rattle.frame_write.proofs.size.tile_size.Tie as tie
 part-size-requires : tie.Need-part-size-requires
 part-size-requires c κs = c .before .before .before .pre
 
-same-length : tie.Need-same-length
-same-length c = search needs
-
-same-length-2 : tie.Need-same-length-2
-same-length-2 c = search needs
-
 returns : tie.Need-returns
 unfolding tileRefusalOver
 returns c = let r = c .before .before .before .before .part-size in first-of _ _ _ _ 0 0 _ (r .result) (r .ensures) (c .if1 .taken)
@@ -30,12 +24,6 @@ part-size-requires-2 c κs =
     let s = c1 .before .before .before .before in
     let k = c1 .part-size .kept .1 .1 .1 .1 in
     (still-good (s .pre .0) (k .0) (k .1 .0), s .pre .1)
-
-same-length-3 : tie.Need-same-length-3
-same-length-3 c = search needs
-
-same-length-4 : tie.Need-same-length-4
-same-length-4 c = search needs
 
 returns-2 : tie.Need-returns-2
 unfolding tileRefusalOver
@@ -55,12 +43,6 @@ part-size-requires-3 c κs =
     let k = c2 .part-size .kept .1 .1 .1 .1 in
     let l = c1 .part-size2 .kept .1 .1 .1 .1 in
     (still-good (s .pre .0) (l .0 ∙ k .0) (l .1 .0 ∙ k .1 .0), s .pre .1)
-
-same-length-5 : tie.Need-same-length-5
-same-length-5 c = search needs
-
-same-length-6 : tie.Need-same-length-6
-same-length-6 c = search needs
 
 returns-3 : tie.Need-returns-3
 unfolding tileRefusalOver
@@ -110,12 +92,6 @@ add-t24 c =
     let b = part-sized _ _ _ (s .result) (s .ensures) (c3 .if2 .left) in
     omega (arith, a, b, part-sized _ _ _ (t .result) (t .ensures) (c1 .if3 .left))
 
-same-length-7 : tie.Need-same-length-7
-same-length-7 c = search needs
-
-same-length-8 : tie.Need-same-length-8
-same-length-8 c = search needs
-
 returns-4 : tie.Need-returns-4
 returns-4 c =
     let c1 = c .before .before .before in
@@ -136,22 +112,6 @@ returns-4 c =
 pub tile-size-spec : {M : Type 1} → statement M
 tile-size-spec =
     tie.close
-    (tie.spec
-    part-size-requires
-    same-length
-    same-length-2
-    returns
-    part-size-requires-2
-    same-length-3
-    same-length-4
-    returns-2
-    part-size-requires-3
-    same-length-5
-    same-length-6
-    returns-3
-    add-t22
-    add-t23
-    add-t24
-    same-length-7
-    same-length-8
+    (tie.spec part-size-requires (λ c. search needs) (λ c. search needs) returns part-size-requires-2 (λ c. search needs) (λ c. search needs)
+    returns-2 part-size-requires-3 (λ c. search needs) (λ c. search needs) returns-3 add-t22 add-t23 add-t24 (λ c. search needs) (λ c. search needs)
     returns-4)

@@ -4,30 +4,6 @@ use borrow.Author.Needs.{needs}
 use Rattle.panel.proofs.edge.frame_call.Statement.{statement}
 use Rattle.panel.proofs.edge.frame_call.Tie as tie
 
-read-frame-requires : tie.Need-read-frame-requires
-read-frame-requires c κs = search needs
-
-frame-tiles-requires : tie.Need-frame-tiles-requires
-frame-tiles-requires c κs = search needs
-
-frame-number-requires : tie.Need-frame-number-requires
-frame-number-requires c κs = search needs
-
-same-length : tie.Need-same-length
-same-length c = search needs
-
-same-length-2 : tie.Need-same-length-2
-same-length-2 c = search needs
-
-same-length-3 : tie.Need-same-length-3
-same-length-3 c = search needs
-
-same-length-4 : tie.Need-same-length-4
-same-length-4 c = search needs
-
-same-length-5 : tie.Need-same-length-5
-same-length-5 c = search needs
-
 returns : tie.Need-returns
 returns c =
     let p = c .before .before .before .before .before .before .before .before in
@@ -36,13 +12,5 @@ returns c =
 pub frame-call-spec : {M : Type 1} → statement M
 frame-call-spec =
     tie.close
-    (tie.spec
-    read-frame-requires
-    frame-tiles-requires
-    frame-number-requires
-    same-length
-    same-length-2
-    same-length-3
-    same-length-4
-    same-length-5
-    returns)
+    (tie.spec (λ c κs. search needs) (λ c κs. search needs) (λ c κs. search needs) (λ c. search needs) (λ c. search needs) (λ c. search needs)
+    (λ c. search needs) (λ c. search needs) returns)

@@ -4,24 +4,6 @@ use borrow.Author.Needs.{needs}
 use Rattle.panel.proofs.short.xurbalenz_write_frame_short.Statement.{statement}
 use Rattle.panel.proofs.short.xurbalenz_write_frame_short.Tie as tie
 
-write-frame-short-requires : tie.Need-write-frame-short-requires
-write-frame-short-requires c κs = search needs
-
-writing-length-requires : tie.Need-writing-length-requires
-writing-length-requires c κs = search needs
-
-writing-number-requires : tie.Need-writing-number-requires
-writing-number-requires c κs = search needs
-
-same-length : tie.Need-same-length
-same-length c = search needs
-
-same-length-2 : tie.Need-same-length-2
-same-length-2 c = search needs
-
-same-length-3 : tie.Need-same-length-3
-same-length-3 c = search needs
-
 returns : tie.Need-returns
 returns c =
     let w = c .before .before .before .before .before .before in
@@ -30,11 +12,4 @@ returns c =
 pub xurbalenz-write-frame-short-spec : {M : Type 1} → statement M
 xurbalenz-write-frame-short-spec =
     tie.close
-    (tie.spec
-    write-frame-short-requires
-    writing-length-requires
-    writing-number-requires
-    same-length
-    same-length-2
-    same-length-3
-    returns)
+    (tie.spec (λ c κs. search needs) (λ c κs. search needs) (λ c κs. search needs) (λ c. search needs) (λ c. search needs) (λ c. search needs) returns)

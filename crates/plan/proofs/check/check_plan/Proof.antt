@@ -7,9 +7,6 @@ use Rattle.plan.specs.laws.Changed.{pictures-are}
 use Rattle.plan.proofs.check.check_plan.Statement.{statement}
 use Rattle.plan.proofs.check.check_plan.Tie as tie
 
-pictures-judge-requires : tie.Need-pictures-judge-requires
-pictures-judge-requires c κs = search needs
-
 returns : tie.Need-returns
 unfolding planFault
 returns c = stops _ _ _ (λ e. c .if1 .taken (c .before .pictures-judge .ensures ∙ e)) (c .before .pictures-judge .ensures)
@@ -22,4 +19,4 @@ unfolding planFault
 returns-2 c = goes-on _ _ _ (sym (c .before .before .pictures-judge .ensures) ∙ c .before .if1 .left) (c .picks-judge .ensures)
 
 pub check-plan-spec : {M : Type 1} → statement M
-check-plan-spec = tie.close (tie.spec pictures-judge-requires returns picks-judge-requires returns-2)
+check-plan-spec = tie.close (tie.spec (λ c κs. search needs) returns picks-judge-requires returns-2)

@@ -8,12 +8,6 @@ use Rattle.plan.specs.Runs.{listedAt}
 use Rattle.plan.proofs.check.is_at.Statement.{statement}
 use Rattle.plan.proofs.check.is_at.Tie as tie
 
-mul-result : tie.Need-mul-result
-mul-result c = search needs
-
-shared-slice-read-result : tie.Need-shared-slice-read-result
-shared-slice-read-result c = search needs
-
 cast-result : tie.Need-cast-result
 cast-result c = omega (arith, c .shared-slice-known .given (c .before .before .args .i))
 
@@ -26,4 +20,4 @@ unfolding listedAt
 returns-2 c = fails _ _ _ _ (le-ltb _ _ (c .if1 .left)) refl
 
 pub is-at-spec : {M : Type 1} → statement M
-is-at-spec = tie.close (tie.spec mul-result shared-slice-read-result cast-result returns returns-2)
+is-at-spec = tie.close (tie.spec (λ c. search needs) (λ c. search needs) cast-result returns returns-2)

@@ -16,20 +16,11 @@ Inv-loop w h old new picks n finger₀ k₀ finger k = (k ≤ n) × Covering old
 abbrev μ-loop : tie.MeasureT-loop
 μ-loop w h old new picks n finger₀ k₀ finger k = n - k
 
-tiles-no-requires : tie.Need-tiles-no-requires Inv-loop μ-loop
-tiles-no-requires c κs = search needs
-
 loop-holds : tie.Need-loop-holds Inv-loop μ-loop
 loop-holds c = (omega arith, cover-none _ _ _ _ _)
 
-is-at-requires : tie.Need-is-at-requires Inv-loop μ-loop
-is-at-requires c κs = search needs
-
 add-finger : tie.Need-add-finger Inv-loop μ-loop
 add-finger c = omega (arith, c .before .before .before .loop .inv .1 .finger .within)
-
-is-changed-requires : tie.Need-is-changed-requires Inv-loop μ-loop
-is-changed-requires c κs = search needs
 
 returns : tie.Need-returns Inv-loop μ-loop
 returns c =
@@ -46,9 +37,6 @@ returns c =
 
 add-k : tie.Need-add-k Inv-loop μ-loop
 add-k c = omega (arith, c .before .before .before .before .tiles-no .ensures .1)
-
-loop-less : tie.Need-loop-less Inv-loop μ-loop
-loop-less c = omega arith
 
 loop-again : tie.Need-loop-again Inv-loop μ-loop
 loop-again c =
@@ -72,16 +60,5 @@ returns-2 c =
 pub is-covering-spec : {M : Type 1} → statement M
 is-covering-spec =
     tie.close
-    (tie.spec
-    Inv-loop
-    μ-loop
-    tiles-no-requires
-    loop-holds
-    is-at-requires
-    add-finger
-    is-changed-requires
-    returns
-    add-k
-    loop-less
-    loop-again
-    returns-2)
+    (tie.spec Inv-loop μ-loop (λ c κs. search needs) loop-holds (λ c κs. search needs) add-finger (λ c κs. search needs) returns add-k
+    (λ c. omega arith) loop-again returns-2)

@@ -8,18 +8,9 @@ use Rattle.plan.specs.Plan.{below, picksFault}
 use Rattle.plan.proofs.check.picks_judge.Statement.{statement}
 use Rattle.plan.proofs.check.picks_judge.Tie as tie
 
-is-rising-requires : tie.Need-is-rising-requires
-is-rising-requires c κs = search needs
-
 returns : tie.Need-returns
 unfolding picksFault
 returns c = fails _ _ _ _ (sym (c .before .is-rising .ensures) ∙ not-true (c .before .is-rising .result) (c .if1 .taken)) refl
-
-tiles-no-requires : tie.Need-tiles-no-requires
-tiles-no-requires c κs = search needs
-
-is-below-requires : tie.Need-is-below-requires
-is-below-requires c κs = search needs
 
 returns-2 : tie.Need-returns-2
 unfolding picksFault
@@ -73,12 +64,4 @@ returns-4 c =
 pub picks-judge-spec : {M : Type 1} → statement M
 picks-judge-spec =
     tie.close
-    (tie.spec
-    is-rising-requires
-    returns
-    tiles-no-requires
-    is-below-requires
-    returns-2
-    is-covering-requires
-    returns-3
-    returns-4)
+    (tie.spec (λ c κs. search needs) returns (λ c κs. search needs) (λ c κs. search needs) returns-2 is-covering-requires returns-3 returns-4)

@@ -8,9 +8,6 @@ use Rattle.plan.specs.laws.Changed.{size-allowed}
 use Rattle.plan.proofs.check.pictures_judge.Statement.{statement}
 use Rattle.plan.proofs.check.pictures_judge.Tie as tie
 
-is-size-requires : tie.Need-is-size-requires
-is-size-requires c κs = search needs
-
 returns : tie.Need-returns
 unfolding picturesFault
 returns c = fails _ _ _ _ (sym (c .before .is-size .ensures) ∙ not-true (c .before .is-size .result) (c .if1 .taken)) refl
@@ -60,13 +57,4 @@ returns-4 c =
     (passes _ _ _ _ (sym (is-pixels2 .ensures) ∙ not-false (is-pixels2 .result) (c .if3 .left)) refl))
 
 pub pictures-judge-spec : {M : Type 1} → statement M
-pictures-judge-spec =
-    tie.close
-    (tie.spec
-    is-size-requires
-    returns
-    is-pixels-requires
-    returns-2
-    is-pixels-requires-2
-    returns-3
-    returns-4)
+pictures-judge-spec = tie.close (tie.spec (λ c κs. search needs) returns is-pixels-requires returns-2 is-pixels-requires-2 returns-3 returns-4)

@@ -17,14 +17,8 @@ Inv-loop w h old new n count₀ k₀ count k = (k ≤ n) × (count ≡ length (t
 abbrev μ-loop : tie.MeasureT-loop
 μ-loop w h old new n count₀ k₀ count k = n - k
 
-tiles-no-requires : tie.Need-tiles-no-requires Inv-loop μ-loop
-tiles-no-requires c κs = search needs
-
 loop-holds : tie.Need-loop-holds Inv-loop μ-loop
 loop-holds c = (omega arith, count-none _)
-
-is-changed-requires : tie.Need-is-changed-requires Inv-loop μ-loop
-is-changed-requires c κs = search needs
 
 add-count : tie.Need-add-count Inv-loop μ-loop
 add-count c =
@@ -35,9 +29,6 @@ add-count c =
 
 add-k : tie.Need-add-k Inv-loop μ-loop
 add-k c = omega (arith, c .before .before .before .before .tiles-no .ensures .1)
-
-loop-less : tie.Need-loop-less Inv-loop μ-loop
-loop-less c = omega arith
 
 loop-again : tie.Need-loop-again Inv-loop μ-loop
 loop-again c =
@@ -60,14 +51,4 @@ returns c =
 pub count-changed-spec : {M : Type 1} → statement M
 count-changed-spec =
     tie.close
-    (tie.spec
-    Inv-loop
-    μ-loop
-    tiles-no-requires
-    loop-holds
-    is-changed-requires
-    add-count
-    add-k
-    loop-less
-    loop-again
-    returns)
+    (tie.spec Inv-loop μ-loop (λ c κs. search needs) loop-holds (λ c κs. search needs) add-count add-k (λ c. omega arith) loop-again returns)

@@ -11,9 +11,6 @@ use Rattle.plan.specs.laws.Changed.{changed-few}
 use Rattle.plan.proofs.make.has_room.Statement.{statement}
 use Rattle.plan.proofs.make.has_room.Tie as tie
 
-tiles-no-requires : tie.Need-tiles-no-requires
-tiles-no-requires c κs = search needs
-
 returns : tie.Need-returns
 returns c =
     let s = c .before .before .before .before .args in
@@ -21,11 +18,8 @@ returns c =
     let few = changed-few (now (s .old)) (now (s .new)) (s .w) (s .h) in
     sym (le-leb (length (changed (now (s .old)) (now (s .new)) (s .w) (s .h))) (s .room) (omega (arith, tiles-no .ensures .0, c .if1 .taken, few)))
 
-count-changed-requires : tie.Need-count-changed-requires
-count-changed-requires c κs = search needs
-
 returns-2 : tie.Need-returns-2
 returns-2 c = ap (λ n. leb n (c .before .before .before .before .before .args .room)) (c .count-changed .ensures)
 
 pub has-room-spec : {M : Type 1} → statement M
-has-room-spec = tie.close (tie.spec tiles-no-requires returns count-changed-requires returns-2)
+has-room-spec = tie.close (tie.spec (λ c κs. search needs) returns (λ c κs. search needs) returns-2)

@@ -17,14 +17,8 @@ Inv-loop w h old new out₀ n i₀ k₀ out i k = (k ≤ n) × Listing (changedT
 abbrev μ-loop : tie.MeasureT-loop
 μ-loop w h old new out₀ n i₀ k₀ out i k = n - k
 
-tiles-no-requires : tie.Need-tiles-no-requires Inv-loop μ-loop
-tiles-no-requires c κs = search needs
-
 loop-holds : tie.Need-loop-holds Inv-loop μ-loop
 loop-holds c = (omega arith, listing-none _ _)
-
-is-changed-requires : tie.Need-is-changed-requires Inv-loop μ-loop
-is-changed-requires c κs = search needs
 
 cast-out : tie.Need-cast-out Inv-loop μ-loop
 cast-out c = omega (arith, c .before .before .before .before .tiles-no .ensures .1)
@@ -50,9 +44,6 @@ add-i c = omega (arith, room-here c)
 
 add-k : tie.Need-add-k Inv-loop μ-loop
 add-k c = omega (arith, c .before .before .before .before .tiles-no .ensures .1)
-
-loop-less : tie.Need-loop-less Inv-loop μ-loop
-loop-less c = omega arith
 
 loop-again : tie.Need-loop-again Inv-loop μ-loop
 loop-again c =
@@ -85,18 +76,5 @@ returns c =
 pub list-changed-spec : {M : Type 1} → statement M
 list-changed-spec =
     tie.close
-    (tie.spec
-    Inv-loop
-    μ-loop
-    tiles-no-requires
-    loop-holds
-    is-changed-requires
-    cast-out
-    mul-out
-    slice-write-out
-    add-i
-    add-k
-    loop-less
-    loop-again
-    same-length
-    returns)
+    (tie.spec Inv-loop μ-loop (λ c κs. search needs) loop-holds (λ c κs. search needs) cast-out mul-out slice-write-out add-i add-k (λ c. omega arith)
+    loop-again same-length returns)

@@ -8,9 +8,6 @@ use Rattle.plan.specs.laws.Made.{pictures-refused, room-refused, plan-do
 use Rattle.plan.proofs.make.make_plan.Statement.{statement}
 use Rattle.plan.proofs.make.make_plan.Tie as tie
 
-pictures-judge-requires : tie.Need-pictures-judge-requires
-pictures-judge-requires c κs = search needs
-
 returns : tie.Need-returns
 returns c =
     let s = c .before .before .before .before .before .args in
@@ -43,9 +40,6 @@ list-changed-requires c κs =
       leb-true _ _ (sym (has-room .ensures) ∙ not-false (has-room .result) (if2 .left)),
     )
 
-same-length : tie.Need-same-length
-same-length c = search needs
-
 returns-3 : tie.Need-returns-3
 returns-3 c =
     let s = c .before .before .before .before .before .before .before .before .before .before .before .args in
@@ -58,13 +52,4 @@ returns-3 c =
     (sym (has-room .ensures) ∙ not-false (has-room .result) (if2 .left)) (list-changed .ensures .0) (list-changed .ensures .1)
 
 pub make-plan-spec : {M : Type 1} → statement M
-make-plan-spec =
-    tie.close
-    (tie.spec
-    pictures-judge-requires
-    returns
-    has-room-requires
-    returns-2
-    list-changed-requires
-    same-length
-    returns-3)
+make-plan-spec = tie.close (tie.spec (λ c κs. search needs) returns has-room-requires returns-2 list-changed-requires (λ c. search needs) returns-3)

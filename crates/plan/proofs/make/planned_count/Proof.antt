@@ -5,12 +5,6 @@ use Rattle.plan.specs.Made.{plannedCount}
 use Rattle.plan.proofs.make.planned_count.Statement.{statement}
 use Rattle.plan.proofs.make.planned_count.Tie as tie
 
-enum-known-p : tie.Need-enum-known-p
-enum-known-p c = search needs
-
-enum-known-p-2 : tie.Need-enum-known-p-2
-enum-known-p-2 c = search needs
-
 returns : tie.Need-returns
 unfolding plannedCount
 returns c = sym (ap plannedCount (c .before .p .given .1))
@@ -20,4 +14,4 @@ unfolding plannedCount
 returns-2 c = sym (ap plannedCount (c .before .p2 .given .1))
 
 pub planned-count-spec : {M : Type 1} → statement M
-planned-count-spec = tie.close (tie.spec enum-known-p enum-known-p-2 returns returns-2)
+planned-count-spec = tie.close (tie.spec (λ c. search needs) (λ c. search needs) returns returns-2)

@@ -5,12 +5,6 @@ use Rattle.plan.specs.Made.{plannedNumber}
 use Rattle.plan.proofs.make.planned_number.Statement.{statement}
 use Rattle.plan.proofs.make.planned_number.Tie as tie
 
-enum-known-p : tie.Need-enum-known-p
-enum-known-p c = search needs
-
-enum-known-p-2 : tie.Need-enum-known-p-2
-enum-known-p-2 c = search needs
-
 returns : tie.Need-returns
 unfolding plannedNumber
 returns c = sym (ap plannedNumber (c .before .p .given .1))
@@ -20,4 +14,4 @@ unfolding plannedNumber
 returns-2 c = sym (ap plannedNumber (c .before .p2 .given .1))
 
 pub planned-number-spec : {M : Type 1} → statement M
-planned-number-spec = tie.close (tie.spec enum-known-p enum-known-p-2 returns returns-2)
+planned-number-spec = tie.close (tie.spec (λ c. search needs) (λ c. search needs) returns returns-2)

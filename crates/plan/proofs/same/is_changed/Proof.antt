@@ -6,9 +6,6 @@ use Rattle.plan.specs.laws.Same.{Corner, corner, rows-there, tile-change
 use Rattle.plan.proofs.same.is_changed.Statement.{statement}
 use Rattle.plan.proofs.same.is_changed.Tie as tie
 
-cols-of-requires : tie.Need-cols-of-requires
-cols-of-requires c κs = search needs
-
 -- where the tile's first pixel is, once the columns are counted
 corner-at :
     (c : tie.After-cols-of) → let s = c .before .before .before .args in Corner (s .w) (s .h) (s .k) (c .cols-of .result)
@@ -32,17 +29,8 @@ mul-y c = omega (arith, corner-at c)
 sub-within : tie.Need-sub-within
 sub-within c = omega (arith, corner-at c)
 
-within-requires : tie.Need-within-requires
-within-requires c κs = search needs
-
-mul-wide : tie.Need-mul-wide
-mul-wide c = search needs
-
 sub-within-2 : tie.Need-sub-within-2
 sub-within-2 c = omega (arith, corner-at (c .before))
-
-within-requires-2 : tie.Need-within-requires-2
-within-requires-2 c κs = search needs
 
 mul-same-rows : tie.Need-mul-same-rows
 mul-same-rows c = omega (arith, corner-at (c .before .before))
@@ -52,9 +40,6 @@ add-same-rows c = omega (arith, corner-at (c .before .before))
 
 mul-same-rows-2 : tie.Need-mul-same-rows-2
 mul-same-rows-2 c = omega (arith, corner-at (c .before .before))
-
-mul-same-rows-3 : tie.Need-mul-same-rows-3
-mul-same-rows-3 c = search needs
 
 same-rows-requires : tie.Need-same-rows-requires
 same-rows-requires c κs =
@@ -79,20 +64,5 @@ returns c =
 pub is-changed-spec : {M : Type 1} → statement M
 is-changed-spec =
     tie.close
-    (tie.spec
-    cols-of-requires
-    rem-x
-    mul-x
-    div-y
-    mul-y
-    sub-within
-    within-requires
-    mul-wide
-    sub-within-2
-    within-requires-2
-    mul-same-rows
-    add-same-rows
-    mul-same-rows-2
-    mul-same-rows-3
-    same-rows-requires
-    returns)
+    (tie.spec (λ c κs. search needs) rem-x mul-x div-y mul-y sub-within (λ c κs. search needs) (λ c. search needs) sub-within-2 (λ c κs. search needs)
+    mul-same-rows add-same-rows mul-same-rows-2 (λ c. search needs) same-rows-requires returns)

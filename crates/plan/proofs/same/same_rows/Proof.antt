@@ -62,12 +62,6 @@ returns-2 c =
     let same-run2 = c .before .same-run2 in
     all-fails _ _ (l .r) (c .before .before .loop-test .taken) (sym (same-run2 .ensures) ∙ not-true (same-run2 .result) (c .if2 .taken))
 
-add-r : tie.Need-add-r Inv-loop μ-loop
-add-r c = omega arith
-
-loop-less : tie.Need-loop-less Inv-loop μ-loop
-loop-less c = omega arith
-
 loop-again : tie.Need-loop-again Inv-loop μ-loop
 loop-again c =
     let l = c .before .before .before .loop in
@@ -83,18 +77,5 @@ returns-3 c =
 pub same-rows-spec : {M : Type 1} → statement M
 same-rows-spec =
     tie.close
-    (tie.spec
-    Inv-loop
-    μ-loop
-    mul-same-run
-    same-run-requires
-    returns
-    loop-holds
-    mul-same-run-2
-    add-same-run
-    same-run-requires-2
-    returns-2
-    add-r
-    loop-less
-    loop-again
-    returns-3)
+    (tie.spec Inv-loop μ-loop mul-same-run same-run-requires returns loop-holds mul-same-run-2 add-same-run same-run-requires-2 returns-2
+    (λ c. omega arith) (λ c. omega arith) loop-again returns-3)

@@ -3,11 +3,5 @@ use native.Mathlib.Omega.{arith}
 use Rattle.plan.proofs.same.within.Statement.{statement}
 use Rattle.plan.proofs.same.within.Tie as tie
 
-returns : tie.Need-returns
-returns c = omega arith
-
-returns-2 : tie.Need-returns-2
-returns-2 c = omega arith
-
 pub within-spec : {M : Type 1} → statement M
-within-spec = tie.close (tie.spec returns returns-2)
+within-spec = tie.close (tie.spec (λ c. omega arith) (λ c. omega arith))

@@ -5,13 +5,27 @@ use Rattle.replay.proofs.caps_records.write_ack.Statement.{statement}
 use Rattle.replay.proofs.caps_records.write_ack.Tie as tie
 
 same-length : tie.Need-same-length
-same-length c = c .before .before .before .before .before .before .take-two .kept .0 ∙ (c .before .before .before .before .before .before .before .before .before .before .take-four2 .kept .0 ∙ c .before .before .before .before .before .before .before .before .before .before .before .before .before .before .take-four .kept .0)
+same-length c =
+    let c6 = c .before .before .before .before .before .before in
+    let c10 = c6 .before .before .before .before in
+    let c14 = c10 .before .before .before .before in
+    c6 .take-two .kept .0 ∙ (c10 .take-four2 .kept .0 ∙ c14 .take-four .kept .0)
 
 same-length-2 : tie.Need-same-length-2
-same-length-2 c = c .before .before .before .before .before .before .before .take-two .kept .0 ∙ (c .before .before .before .before .before .before .before .before .before .before .before .take-four2 .kept .0 ∙ c .before .before .before .before .before .before .before .before .before .before .before .before .before .before .before .take-four .kept .0)
+same-length-2 c =
+    let c7 = c .before .before .before .before .before .before .before in
+    let c11 = c7 .before .before .before .before in
+    let c15 = c11 .before .before .before .before in
+    c7 .take-two .kept .0 ∙ (c11 .take-four2 .kept .0 ∙ c15 .take-four .kept .0)
 
 same-length-3 : tie.Need-same-length-3
-same-length-3 c = c .before .before .before .before .before .before .before .before .before .before .before .before .before .before .before .before .before .before .before .before .take-two .kept .0 ∙ (c .before .before .before .before .before .before .before .before .before .before .before .before .before .before .before .before .before .before .before .before .before .before .before .before .take-four2 .kept .0 ∙ c .before .before .before .before .before .before .before .before .before .before .before .before .before .before .before .before .before .before .before .before .before .before .before .before .before .before .before .before .take-four .kept .0)
+same-length-3 c =
+    let c20 =
+    c .before .before .before .before .before .before .before .before .before .before .before .before .before .before .before .before .before .before
+    .before .before in
+    let c24 = c20 .before .before .before .before in
+    let c28 = c24 .before .before .before .before in
+    c20 .take-two .kept .0 ∙ (c24 .take-four2 .kept .0 ∙ c28 .take-four .kept .0)
 
 pub write-ack-spec : {M : Type 1} → statement M
 write-ack-spec =

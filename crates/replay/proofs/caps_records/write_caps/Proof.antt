@@ -5,7 +5,10 @@ use Rattle.replay.proofs.caps_records.write_caps.Statement.{statement}
 use Rattle.replay.proofs.caps_records.write_caps.Tie as tie
 
 same-length-3 : tie.Need-same-length-3
-same-length-3 c = c .before .before .before .before .before .before .before .before .before .before .before .before .before .before .before .take-entries .kept .0 ∙ c .before .before .before .before .before .before .before .before .before .before .before .before .before .before .before .before .before .before .before .take-three .kept .0
+same-length-3 c =
+    let c15 = c .before .before .before .before .before .before .before .before .before .before .before .before .before .before .before in
+    let c19 = c15 .before .before .before .before in
+    c15 .take-entries .kept .0 ∙ c19 .take-three .kept .0
 
 pub write-caps-spec : {M : Type 1} → statement M
 write-caps-spec =

@@ -5,7 +5,10 @@ use Rattle.replay.proofs.collector_records.take.Statement.{statement}
 use Rattle.replay.proofs.collector_records.take.Tie as tie
 
 same-length-5 : tie.Need-same-length-5
-same-length-5 c = c .before .before .before .before .before .before .before .before .before .before .before .before .before .before .take-limited .kept .0 ∙ c .before .before .before .before .before .before .before .before .before .before .before .before .before .before .before .before .before .before .before .number .kept .0
+same-length-5 c =
+    let c14 = c .before .before .before .before .before .before .before .before .before .before .before .before .before .before in
+    let c19 = c14 .before .before .before .before .before in
+    c14 .take-limited .kept .0 ∙ c19 .number .kept .0
 
 same-length-6 : tie.Need-same-length-6
 same-length-6 c = c .before .before .before .before .before .before .before .before .before .before .before .before .before .before .take-limited .kept .1 .1 .0

@@ -5,7 +5,10 @@ use Rattle.replay.proofs.frame_records.frame.Statement.{statement}
 use Rattle.replay.proofs.frame_records.frame.Tie as tie
 
 same-length-3 : tie.Need-same-length-3
-same-length-3 c = c .before .before .before .before .before .before .before .before .before .before .before .before .take-limited .kept .0 ∙ c .before .before .before .before .before .before .before .before .before .before .before .before .before .before .before .before .before .take-four .kept .0
+same-length-3 c =
+    let c12 = c .before .before .before .before .before .before .before .before .before .before .before .before in
+    let c17 = c12 .before .before .before .before .before in
+    c12 .take-limited .kept .0 ∙ c17 .take-four .kept .0
 
 pub frame-spec : {M : Type 1} → statement M
 frame-spec =

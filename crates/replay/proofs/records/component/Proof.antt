@@ -5,10 +5,16 @@ use Rattle.replay.proofs.records.component.Statement.{statement}
 use Rattle.replay.proofs.records.component.Tie as tie
 
 same-length-3 : tie.Need-same-length-3
-same-length-3 c = c .before .before .before .before .before .before .before .before .before .before .before .take-limited .kept .0 ∙ c .before .before .before .before .before .before .before .before .before .before .before .before .before .before .before .before .take-three .kept .0
+same-length-3 c =
+    let c11 = c .before .before .before .before .before .before .before .before .before .before .before in
+    let c16 = c11 .before .before .before .before .before in
+    c11 .take-limited .kept .0 ∙ c16 .take-three .kept .0
 
 same-length-5 : tie.Need-same-length-5
-same-length-5 c = c .before .before .before .before .before .before .before .before .before .before .before .take-limited .kept .0 ∙ c .before .before .before .before .before .before .before .before .before .before .before .before .before .before .before .before .take-three .kept .0
+same-length-5 c =
+    let c11 = c .before .before .before .before .before .before .before .before .before .before .before in
+    let c16 = c11 .before .before .before .before .before in
+    c11 .take-limited .kept .0 ∙ c16 .take-three .kept .0
 
 pub component-spec : {M : Type 1} → statement M
 component-spec =

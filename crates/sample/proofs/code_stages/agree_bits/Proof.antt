@@ -11,9 +11,6 @@ Inv-loop s t n same₀ i₀ same i = same ≤ i
 abbrev μ-loop : tie.MeasureT-loop
 μ-loop s t n same₀ i₀ same i = n - i
 
-loop-holds : tie.Need-loop-holds Inv-loop μ-loop
-loop-holds c = omega arith
-
 add-same : tie.Need-add-same Inv-loop μ-loop
 add-same c = omega (arith, c .before .before .before .before .loop .inv, one-most _ _ (c .one .ensures), c .before .before .before .loop-test .taken)
 
@@ -29,4 +26,4 @@ loop-again c = omega (arith, c .before .before .before .before .loop .inv, one-m
 pub agree-bits-spec : {M : Type 1} → statement M
 agree-bits-spec =
     tie.close
-    (tie.spec Inv-loop μ-loop loop-holds (λ c κs. tt) (λ c κs. tt) (λ c κs. tt) add-same add-i loop-less loop-again (λ c. tt))
+    (tie.spec Inv-loop μ-loop (λ c. omega arith) (λ c κs. tt) (λ c κs. tt) (λ c κs. tt) add-same add-i loop-less loop-again (λ c. tt))

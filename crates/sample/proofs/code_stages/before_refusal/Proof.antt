@@ -9,10 +9,7 @@ Inv-loop s c₀ left₀ c left = Unit {0}
 abbrev μ-loop : tie.MeasureT-loop
 μ-loop s c₀ left₀ c left = left
 
-loop-less : tie.Need-loop-less Inv-loop μ-loop
-loop-less c = omega arith
-
 pub before-refusal-spec : {M : Type 1} → statement M
 before-refusal-spec =
     tie.close
-    (tie.spec Inv-loop μ-loop (λ c. tt) (λ c κs. tt) (λ c κs. tt) (λ c. tt) (λ c. tt) (λ c κs. tt) loop-less (λ c. tt) (λ c. tt))
+    (tie.spec Inv-loop μ-loop (λ c. tt) (λ c κs. tt) (λ c κs. tt) (λ c. tt) (λ c. tt) (λ c κs. tt) (λ c. omega arith) (λ c. tt) (λ c. tt))

@@ -32,9 +32,6 @@ fits c =
 loop-holds : tie.Need-loop-holds Inv-loop μ-loop
 loop-holds c = (omega arith, turn-starts _ _ _ (c .start .ensures))
 
-record-fault-requires : tie.Need-record-fault-requires Inv-loop μ-loop
-record-fault-requires c κs = omega arith
-
 returns : tie.Need-returns Inv-loop μ-loop
 returns c =
     let r = c .before .before in
@@ -72,22 +69,5 @@ returns-2 c =
 pub read-settings-spec : {M : Type 1} → statement M
 read-settings-spec =
     tie.close
-    (tie.spec
-    Inv-loop
-    μ-loop
-    (λ c κs. search needs)
-    loop-holds
-    (λ c κs. omega arith)
-    (λ c. omega arith)
-    record-fault-requires
-    (λ c κs. search needs)
-    returns
-    (λ c. omega arith)
-    after-requires
-    (λ c. omega arith)
-    (λ c κs. search needs)
-    add-at-2
-    loop-less
-    loop-again
-    (λ c κs. search needs)
-    returns-2)
+    (tie.spec Inv-loop μ-loop (λ c κs. search needs) loop-holds (λ c κs. omega arith) (λ c. omega arith) (λ c κs. omega arith) (λ c κs. search needs)
+    returns (λ c. omega arith) after-requires (λ c. omega arith) (λ c κs. search needs) add-at-2 loop-less loop-again (λ c κs. search needs) returns-2)

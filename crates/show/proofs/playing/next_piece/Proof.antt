@@ -8,7 +8,11 @@ same-length : tie.Need-same-length
 same-length c = c .before .before .before .before .before .before .before .before .before .before .before .before .before .before .fill .kept .1 .1 .1 .0
 
 returns : tie.Need-returns
-returns c = next-is _ _ _ _ _ _ _ _ _ _ _ (c .before .before .before .before .before .before .before .before .before .before .before .before .before .before .fill .ensures) (c .before .before .before .before .before .before .before .before .before .before .before .pass-over .ensures) (c .before .before .before .before .before .give .ensures) (c .settle .ensures)
+returns c =
+    let c5 = c .before .before .before .before .before in
+    let c11 = c5 .before .before .before .before .before .before in
+    let c14 = c11 .before .before .before in
+    next-is _ _ _ _ _ _ _ _ _ _ _ (c14 .fill .ensures) (c11 .pass-over .ensures) (c5 .give .ensures) (c .settle .ensures)
 
 pub next-piece-spec : {M : Type 1} → statement M
 next-piece-spec =

@@ -5,7 +5,10 @@ use Rattle.show.proofs.playing.settle.Statement.{statement}
 use Rattle.show.proofs.playing.settle.Tie as tie
 
 returns : tie.Need-returns
-returns c = settle-anew _ _ _ (c .before .renewed .ensures) (c .before .before .before .before .before .before .foreign .ensures) (c .before .before .before .before .before .if1 .taken)
+returns c =
+    let c5 = c .before .before .before .before .before in
+    let c6 = c5 .before in
+    settle-anew _ _ _ (c .before .renewed .ensures) (c6 .foreign .ensures) (c5 .if1 .taken)
 
 returns-2 : tie.Need-returns-2
 returns-2 c = settle-same _ _ (c .before .before .foreign .ensures) (c .before .if1 .left)

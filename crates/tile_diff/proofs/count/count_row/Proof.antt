@@ -34,9 +34,6 @@ returns-2 c =
     let if2 = c .if2 in
     passes _ _ _ _ (le-leb _ _ (many _ (s .a .now) (if1 .left))) (fails _ _ _ _ (lt-leb _ _ (few _ (s .b .now) (if2 .taken))) refl)
 
-tiles-over-requires : tie.Need-tiles-over-requires Inv-loop μ-loop
-tiles-over-requires c κs = search needs
-
 mul-first : tie.Need-mul-first Inv-loop μ-loop
 mul-first c =
     let s = c .before .before .before .before .before .before .args in
@@ -56,12 +53,6 @@ add-count-word c =
 
 count-word-requires : tie.Need-count-word-requires Inv-loop μ-loop
 count-word-requires c κs = (omega arith, omega arith)
-
-add-x : tie.Need-add-x Inv-loop μ-loop
-add-x c = omega arith
-
-loop-less : tie.Need-loop-less Inv-loop μ-loop
-loop-less c = omega arith
 
 loop-again : tie.Need-loop-again Inv-loop μ-loop
 loop-again c =
@@ -94,18 +85,5 @@ returns-3 c =
 pub count-row-spec : {M : Type 1} → statement M
 count-row-spec =
     tie.close
-    (tie.spec
-    Inv-loop
-    μ-loop
-    returns
-    returns-2
-    tiles-over-requires
-    mul-first
-    loop-holds
-    add-count-word
-    count-word-requires
-    add-x
-    loop-less
-    loop-again
-    same-length
-    returns-3)
+    (tie.spec Inv-loop μ-loop returns returns-2 (λ c κs. search needs) mul-first loop-holds add-count-word count-word-requires (λ c. omega arith)
+    (λ c. omega arith) loop-again same-length returns-3)

@@ -7,24 +7,6 @@ use borrow.Author.Needs.{needs}
 use Rattle.tile_diff.proofs.count.count_word.Statement.{statement}
 use Rattle.tile_diff.proofs.count.count_word.Tie as tie
 
-mul-le16-at : tie.Need-mul-le16-at
-mul-le16-at c = search needs
-
-le16-at-requires : tie.Need-le16-at-requires
-le16-at-requires c κs = search needs
-
-mul-le16-at-2 : tie.Need-mul-le16-at-2
-mul-le16-at-2 c = search needs
-
-le16-at-requires-2 : tie.Need-le16-at-requires-2
-le16-at-requires-2 c κs = search needs
-
-add-one-requires : tie.Need-add-one-requires
-add-one-requires c κs = search needs
-
-same-length : tie.Need-same-length
-same-length c = search needs
-
 returns : tie.Need-returns
 unfolding countedIf
 returns c =
@@ -45,12 +27,5 @@ returns-2 c =
 pub count-word-spec : {M : Type 1} → statement M
 count-word-spec =
     tie.close
-    (tie.spec
-    mul-le16-at
-    le16-at-requires
-    mul-le16-at-2
-    le16-at-requires-2
-    add-one-requires
-    same-length
-    returns
+    (tie.spec (λ c. search needs) (λ c κs. search needs) (λ c. search needs) (λ c κs. search needs) (λ c κs. search needs) (λ c. search needs) returns
     returns-2)

@@ -14,20 +14,11 @@ Inv-loop counts width height from columns all k₀ k = nextOf counts columns (al
 abbrev μ-loop : tie.MeasureT-loop
 μ-loop counts width height from columns all k₀ k = all - k
 
-tiles-over-requires : tie.Need-tiles-over-requires Inv-loop μ-loop
-tiles-over-requires c κs = search needs
-
-tiles-over-requires-2 : tie.Need-tiles-over-requires-2 Inv-loop μ-loop
-tiles-over-requires-2 c κs = search needs
-
 mul-all : tie.Need-mul-all Inv-loop μ-loop
 mul-all c = omega (arith, small-product (c .before .tiles-over .ensures .1) (c .tiles-over2 .ensures .1))
 
 loop-holds : tie.Need-loop-holds Inv-loop μ-loop
 loop-holds c = next-from _ _ _ _ _ _ (c .before .tiles-over .ensures .0) (c .tiles-over2 .ensures .0)
-
-count-at-requires : tie.Need-count-at-requires Inv-loop μ-loop
-count-at-requires c κs = search needs
 
 line-of-requires : tie.Need-line-of-requires Inv-loop μ-loop
 line-of-requires c κs =
@@ -52,9 +43,6 @@ add-k c =
     let tiles-over2 = c .before .before .before .before .tiles-over2 in
     omega (arith, small-product (tiles-over .ensures .1) (tiles-over2 .ensures .1))
 
-loop-less : tie.Need-loop-less Inv-loop μ-loop
-loop-less c = omega arith
-
 loop-again : tie.Need-loop-again Inv-loop μ-loop
 loop-again c =
     let loop-test = c .before .before .loop-test in
@@ -69,17 +57,5 @@ returns-2 c = next-none _ _ _ _ (omega arith) ∙ c .before .loop .inv
 pub next-tile-spec : {M : Type 1} → statement M
 next-tile-spec =
     tie.close
-    (tie.spec
-    Inv-loop
-    μ-loop
-    tiles-over-requires
-    tiles-over-requires-2
-    mul-all
-    loop-holds
-    count-at-requires
-    line-of-requires
-    returns
-    add-k
-    loop-less
-    loop-again
-    returns-2)
+    (tie.spec Inv-loop μ-loop (λ c κs. search needs) (λ c κs. search needs) mul-all loop-holds (λ c κs. search needs) line-of-requires returns add-k
+    (λ c. omega arith) loop-again returns-2)

@@ -13,12 +13,9 @@ returns-2 : tie.Need-returns-2
 unfolding atEdge
 returns-2 c = search rows
 
-add-result : tie.Need-add-result
-add-result c = search needs
-
 returns-3 : tie.Need-returns-3
 unfolding atEdge
 returns-3 c = search rows
 
 pub at-edge-spec : {M : Type 1} → statement M
-at-edge-spec = tie.close (tie.spec returns returns-2 add-result returns-3)
+at-edge-spec = tie.close (tie.spec returns returns-2 (λ c. search needs) returns-3)

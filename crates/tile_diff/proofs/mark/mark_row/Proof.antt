@@ -39,26 +39,11 @@ loop-holds c =
     let s = c .before .before .before .before .before .args in
     (omega arith, marked-none (wordsOf (s .row .now)) (s .width) (s .height) (s .y) (s .counts .now) _)
 
-cast-i : tie.Need-cast-i Inv-loop μ-loop
-cast-i c = search needs
-
-shown-requires : tie.Need-shown-requires Inv-loop μ-loop
-shown-requires c κs = omega arith
-
-mul-out : tie.Need-mul-out Inv-loop μ-loop
-mul-out c = search needs
-
 slice-write-out : tie.Need-slice-write-out Inv-loop μ-loop
 slice-write-out c =
     let l = c .before .before .loop in
     let s = c .before .before .before .before .before .before .before .before .args in
     rw (l .inv .1) (omega (arith, marked-length (wordsOf (s .row .now)) (s .width) (s .height) (s .y) (s .counts .now) (l .x) (s .out .now)))
-
-add-x : tie.Need-add-x Inv-loop μ-loop
-add-x c = omega arith
-
-loop-less : tie.Need-loop-less Inv-loop μ-loop
-loop-less c = omega arith
 
 loop-again : tie.Need-loop-again Inv-loop μ-loop
 loop-again c =
@@ -87,18 +72,5 @@ returns-3 c =
 pub mark-row-spec : {M : Type 1} → statement M
 mark-row-spec =
     tie.close
-    (tie.spec
-    Inv-loop
-    μ-loop
-    returns
-    returns-2
-    loop-holds
-    cast-i
-    shown-requires
-    mul-out
-    slice-write-out
-    add-x
-    loop-less
-    loop-again
-    same-length
-    returns-3)
+    (tie.spec Inv-loop μ-loop returns returns-2 loop-holds (λ c. search needs) (λ c κs. omega arith) (λ c. search needs) slice-write-out
+    (λ c. omega arith) (λ c. omega arith) loop-again same-length returns-3)

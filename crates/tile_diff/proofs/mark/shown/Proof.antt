@@ -9,18 +9,6 @@ use borrow.Author.Needs.{needs}
 use Rattle.tile_diff.proofs.mark.shown.Statement.{statement}
 use Rattle.tile_diff.proofs.mark.shown.Tie as tie
 
-mul-le16-at : tie.Need-mul-le16-at
-mul-le16-at c = search needs
-
-le16-at-requires : tie.Need-le16-at-requires
-le16-at-requires c κs = search needs
-
-cast-word : tie.Need-cast-word
-cast-word c = search needs
-
-tiles-over-requires : tie.Need-tiles-over-requires
-tiles-over-requires c κs = search needs
-
 mul-k : tie.Need-mul-k
 mul-k c =
     let s = c .before .before .before .before .args in
@@ -32,12 +20,6 @@ add-k c =
     let s = c .before .before .before .before .args in
     let tiles-over = c .tiles-over in
     omega (arith, small-product {a = s .y / 64} (omega arith) (tiles-over .ensures .1))
-
-count-at-requires : tie.Need-count-at-requires
-count-at-requires c κs = search needs
-
-dim-requires : tie.Need-dim-requires
-dim-requires c κs = search needs
 
 returns : tie.Need-returns
 unfolding shownAt
@@ -51,9 +33,6 @@ returns c =
     case-yes _ _ _ _ (eq-is (count-over (s .counts .now) (s .width) (s .x) (s .y) _ (tiles-over .ensures .0) (count-at .ensures)) refl (if1 .taken))
     (dim .ensures ∙ ap dimmed (le16-at .ensures .0))
 
-at-edge-requires : tie.Need-at-edge-requires
-at-edge-requires c κs = search needs
-
 returns-2 : tie.Need-returns-2
 unfolding shownAt
 returns-2 c =
@@ -65,9 +44,6 @@ returns-2 c =
     let if2 = c .if2 in
     case-no _ _ _ _ (ne-is (count-over (s .counts .now) (s .width) (s .x) (s .y) _ (tiles-over .ensures .0) (count-at .ensures)) refl (if1 .left))
     (case-yes _ _ _ _ (sym (at-edge .ensures) ∙ if2 .taken) refl)
-
-at-edge-requires-2 : tie.Need-at-edge-requires-2
-at-edge-requires-2 c κs = search needs
 
 returns-3 : tie.Need-returns-3
 unfolding shownAt
@@ -82,9 +58,6 @@ returns-3 c =
     let if3 = c .if3 in
     case-no _ _ _ _ (ne-is (count-over (s .counts .now) (s .width) (s .x) (s .y) _ (tiles-over .ensures .0) (count-at .ensures)) refl (if1 .left))
     (case-no _ _ _ _ (sym (at-edge .ensures) ∙ if2 .left) (case-yes _ _ _ _ (sym (at-edge2 .ensures) ∙ if3 .taken) refl))
-
-dim-requires-2 : tie.Need-dim-requires-2
-dim-requires-2 c κs = search needs
 
 returns-4 : tie.Need-returns-4
 unfolding shownAt
@@ -106,19 +79,5 @@ returns-4 c =
 pub shown-spec : {M : Type 1} → statement M
 shown-spec =
     tie.close
-    (tie.spec
-    mul-le16-at
-    le16-at-requires
-    cast-word
-    tiles-over-requires
-    mul-k
-    add-k
-    count-at-requires
-    dim-requires
-    returns
-    at-edge-requires
-    returns-2
-    at-edge-requires-2
-    returns-3
-    dim-requires-2
-    returns-4)
+    (tie.spec (λ c. search needs) (λ c κs. search needs) (λ c. search needs) (λ c κs. search needs) mul-k add-k (λ c κs. search needs)
+    (λ c κs. search needs) returns (λ c κs. search needs) returns-2 (λ c κs. search needs) returns-3 (λ c κs. search needs) returns-4)

@@ -12,21 +12,6 @@ use Rattle.tile_diff.proofs.pic.is_whole.Tie as tie
 area : (w h : ℕ) → w < 65536 → h < 65536 → w * h ≤ 4294967296
 area w h p q = mul-le-mul {n₂ = 65536} {m₂ = 65536} (omega arith) (omega arith)
 
-cast-is-size : tie.Need-cast-is-size
-cast-is-size c = search needs
-
-cast-is-size-2 : tie.Need-cast-is-size-2
-cast-is-size-2 c = search needs
-
-is-size-requires : tie.Need-is-size-requires
-is-size-requires c κs = search needs
-
-cast-result : tie.Need-cast-result
-cast-result c = search needs
-
-cast-result-2 : tie.Need-cast-result-2
-cast-result-2 c = search needs
-
 mul-result : tie.Need-mul-result
 mul-result c =
     let s = c .before .before .before .before .before .before .args in
@@ -56,14 +41,5 @@ returns-2 c = fails _ _ _ _ (sym (c .before .is-size .ensures) ∙ c .if1 .left)
 pub is-whole-spec : {M : Type 1} → statement M
 is-whole-spec =
     tie.close
-    (tie.spec
-    cast-is-size
-    cast-is-size-2
-    is-size-requires
-    cast-result
-    cast-result-2
-    mul-result
-    mul-result-2
-    add-result
-    returns
-    returns-2)
+    (tie.spec (λ c. search needs) (λ c. search needs) (λ c κs. search needs) (λ c. search needs) (λ c. search needs) mul-result mul-result-2
+    add-result returns returns-2)

@@ -6,15 +6,6 @@ use borrow.Author.Needs.{needs}
 use Rattle.tile_diff.proofs.pic.judge.Statement.{statement}
 use Rattle.tile_diff.proofs.pic.judge.Tie as tie
 
-is-whole-requires : tie.Need-is-whole-requires
-is-whole-requires c κs = search needs
-
-is-whole-requires-2 : tie.Need-is-whole-requires-2
-is-whole-requires-2 c κs = search needs
-
-sizes-judge-requires : tie.Need-sizes-judge-requires
-sizes-judge-requires c κs = search needs
-
 returns : tie.Need-returns
 unfolding verdictOf
 returns c =
@@ -39,12 +30,4 @@ unfolding verdictOf
 returns-3 c = fails _ _ _ _ (sym (c .before .is-whole .ensures) ∙ c .if1 .left) refl
 
 pub judge-spec : {M : Type 1} → statement M
-judge-spec =
-    tie.close
-    (tie.spec
-    is-whole-requires
-    is-whole-requires-2
-    sizes-judge-requires
-    returns
-    returns-2
-    returns-3)
+judge-spec = tie.close (tie.spec (λ c κs. search needs) (λ c κs. search needs) (λ c κs. search needs) returns returns-2 returns-3)

@@ -16,5 +16,6 @@ whole c = add (mul (lit w32 (pos 2) tt) (arg w32 (c .pre .0) tt) tt) (mid c) tt
 pub odd-down-spec : {M : Type 1} → statement M
 odd-down-spec =
     tie.close
-    (tie.spec (λ c. fits (mul (lit w32 (pos 2) tt) (arg w32 (c .pre .0) tt) tt)) (λ c. (lit≤ tt, fits (cut (arg w32 (c .pre .1) tt) tt))) (λ c. (lit≤ tt, fits (cut (arg w32 (c .pre .2) tt) tt)))
+    (tie.spec (λ c. fits (mul (lit w32 (pos 2) tt) (arg w32 (c .pre .0) tt) tt)) (λ c. (lit≤ tt, fits (cut (arg w32 (c .pre .1) tt) tt)))
+    (λ c. (lit≤ tt, fits (cut (arg w32 (c .pre .2) tt) tt)))
     (λ c. fits (mid c)) (λ c. fits (whole c)) (λ c. val (whole c)))

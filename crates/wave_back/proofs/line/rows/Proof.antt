@@ -20,7 +20,11 @@ Inv-loop lo hi out₀ n r₀ out r =
 abbrev μ-loop : tie.MeasureT-loop
 μ-loop lo hi out₀ n r₀ out r = n - r
 
-room : (c : tie.In-loop Inv-loop μ-loop) → (c .before .loop .r * c .before .before .args .n + c .before .before .args .n ≤ c .before .before .args .n * c .before .before .args .n) × (c .before .loop .r * (2 * c .before .before .args .n) + 2 * c .before .before .args .n ≤ c .before .before .args .n * (2 * c .before .before .args .n))
+room :
+    (c : tie.In-loop Inv-loop μ-loop) →
+    (c .before .loop .r * c .before .before .args .n + c .before .before .args .n ≤ c .before .before .args .n * c .before .before .args .n)
+    × (c .before .loop .r * (2 * c .before .before .args .n) + 2 * c .before .before .args .n ≤ c .before .before .args .n
+    * (2 * c .before .before .args .n))
 room c = (row-in _ _ _ (c .loop-test .taken), row-in _ _ _ (c .loop-test .taken))
 
 line-requires : tie.Need-line-requires Inv-loop μ-loop
@@ -28,11 +32,18 @@ line-requires c κs =
     let s = c .before .before .before .before in
     let n = s .before .args .n in
     let r = s .loop .r in
-    let pl : length (take (r * n + n - r * n) (drop (r * n) (s .before .args .lo .now))) ≡ r * n + n - r * n = part-length (s .before .args .lo .now) (r * n) (r * n + n) (omega arith) (omega (arith, room (c .before .before .before))) in
-    let ph : length (take (r * n + n - r * n) (drop (r * n) (s .before .args .hi .now))) ≡ r * n + n - r * n = part-length (s .before .args .hi .now) (r * n) (r * n + n) (omega arith) (omega (arith, room (c .before .before .before))) in
-    let po : length (take (r * (2 * n) + 2 * n - r * (2 * n)) (drop (r * (2 * n)) (s .loop .out))) ≡ r * (2 * n) + 2 * n - r * (2 * n) = part-length (s .loop .out) (r * (2 * n)) (r * (2 * n) + 2 * n) (omega arith) (omega (arith, room (c .before .before .before))) in (
+    let pl : length (take (r * n + n - r * n) (drop (r * n) (s .before .args .lo .now))) ≡ r * n + n - r * n =
+    part-length (s .before .args .lo .now) (r * n) (r * n + n) (omega arith) (omega (arith, room (c .before .before .before))) in
+    let ph : length (take (r * n + n - r * n) (drop (r * n) (s .before .args .hi .now))) ≡ r * n + n - r * n =
+    part-length (s .before .args .hi .now) (r * n) (r * n + n) (omega arith) (omega (arith, room (c .before .before .before))) in
+    let po : length (take (r * (2 * n) + 2 * n - r * (2 * n)) (drop (r * (2 * n)) (s .loop .out))) ≡ r * (2 * n) + 2 * n - r * (2 * n) = part-length
+    (s .loop .out) (r * (2 * n)) (r * (2 * n) + 2 * n) (omega arith) (omega (arith, room (c .before .before .before))) in (
       (omega arith, ph ∙ sym pl, omega arith),
-      (part-near (s .before .args .lo .now) (r * n) (r * n + n - r * n) (s .before .pre .5), part-near (s .before .args .hi .now) (r * n) (r * n + n - r * n) (s .before .pre .6)),
+      (
+        part-near (s .before .args .lo .now) (r * n) (r * n + n - r * n) (s .before .pre .5),
+        part-near (s .before .args .hi .now) (r * n)
+            (r * n + n - r * n) (s .before .pre .6),
+      ),
     )
 
 loop-again : tie.Need-loop-again Inv-loop μ-loop
@@ -41,7 +52,8 @@ loop-again c =
       omega arith,
       omega (arith, c .out .given),
       turn (s .before .args .n) (s .loop .r) (s .before .args .lo .now) (s .before .args .hi .now) (s .loop .out) (c .before .line .last .1 .1 .0)
-          (c .before .before .before .before .before .loop-test .taken) (s .before .pre .2) (s .before .pre .3) (omega arith) (c .before .line .ensures) (s .loop .inv .2),
+          (c .before .before .before .before .before .loop-test .taken) (s .before .pre .2) (s .before .pre .3) (omega arith) (c .before .line .ensures)
+          (s .loop .inv .2),
     )
 
 returns : tie.Need-returns Inv-loop μ-loop
@@ -52,8 +64,11 @@ returns c =
 pub rows-spec : {M : Type 1} → statement M
 rows-spec =
     tie.close
-    (tie.spec Inv-loop μ-loop (λ c. (omega arith, refl, λ y h. absurd (not-suc-le-zero h))) (λ c. omega (arith, room c)) (λ c. omega (arith, room c)) (λ c. omega (arith, room c))
-    (λ c. omega (arith, room c)) (λ c. omega (arith, room c)) (λ c. omega (arith, room c)) (λ c. omega (arith, room c)) (λ c. omega (arith, room c)) (λ c. omega (arith, room c))
+    (tie.spec Inv-loop μ-loop (λ c. (omega arith, refl, λ y h. absurd (not-suc-le-zero h))) (λ c. omega (arith, room c)) (λ c. omega (arith, room c))
+    (λ c. omega (arith, room c))
+    (λ c. omega (arith, room c)) (λ c. omega (arith, room c)) (λ c. omega (arith, room c)) (λ c. omega (arith, room c)) (λ c. omega (arith, room c))
+    (λ c. omega (arith, room c))
     (λ c. omega (arith, room c)) (λ c. omega (arith, room (c .before))) (λ c. omega (arith, room (c .before))) (λ c. omega (arith, room (c .before)))
-    (λ c. omega (arith, room (c .before))) (λ c. omega (arith, room (c .before .before))) (λ c. omega (arith, room (c .before .before))) (λ c. omega (arith, room (c .before .before)))
+    (λ c. omega (arith, room (c .before))) (λ c. omega (arith, room (c .before .before))) (λ c. omega (arith, room (c .before .before)))
+    (λ c. omega (arith, room (c .before .before)))
     (λ c. omega (arith, room (c .before .before))) line-requires (λ c. omega arith) (λ c. omega arith) loop-again (λ c. omega arith) returns)

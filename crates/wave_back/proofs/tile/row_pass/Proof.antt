@@ -33,7 +33,8 @@ rows-requires-2 c κs =
       omega arith,
       quarter q q (2 * q - q) (s .args .region .now) (s .pre .2) (omega arith) (omega arith),
       quarter q (2 * q) (3 * q - 2 * q) (s .args .region .now) (s .pre .2) (omega arith) (omega arith),
-      second-half (s .args .n) (c .before .before .before .before .rows .last .1 .1 .0) (s .args .tmp .now) (ap length (c .before .before .before .before .rows .ensures) ∙ length-grid _ _ _) (s .pre .3),
+      second-half (s .args .n) (c .before .before .before .before .rows .last .1 .1 .0) (s .args .tmp .now)
+          (ap length (c .before .before .before .before .rows .ensures) ∙ length-grid _ _ _) (s .pre .3),
       part-near (s .args .region .now) q (2 * q - q) (s .pre .4),
       part-near (s .args .region .now) (2 * q) (3 * q - 2 * q) (s .pre .4),
     )
@@ -43,8 +44,10 @@ returns c =
     let s = c .before .before .before .before .before .before .before .before .before .before in
     let f = c .before .before .before .before .before .before .rows in
     let g = c .before .rows2 in
-    halves (s .args .n) (s .args .tmp .now) (f .last .1 .1 .0) (g .last .1 .1 .0) (s .pre .3) (ap length (f .ensures) ∙ length-grid _ _ _) (ap length (g .ensures) ∙ length-grid _ _ _)
-    ∙ ap2 (f .ensures ∙ low-rows (s .args .n) (s .args .region .now) (s .pre .0) (s .pre .2)) (g .ensures ∙ high-rows (s .args .n) (s .args .region .now) (s .pre .0) (s .pre .2))
+    halves (s .args .n) (s .args .tmp .now) (f .last .1 .1 .0) (g .last .1 .1 .0) (s .pre .3) (ap length (f .ensures) ∙ length-grid _ _ _)
+    (ap length (g .ensures) ∙ length-grid _ _ _)
+    ∙ ap2 (f .ensures ∙ low-rows (s .args .n) (s .args .region .now) (s .pre .0) (s .pre .2))
+    (g .ensures ∙ high-rows (s .args .n) (s .args .region .now) (s .pre .0) (s .pre .2))
   where
     ap2 : {a b x y : List ℤ} → a ≡ x → b ≡ y → a ++ b ≡ x ++ y
     ap2 u v = cc

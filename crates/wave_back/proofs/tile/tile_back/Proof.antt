@@ -16,9 +16,19 @@ level-from-requires c κs =
 
 level-from-requires-2 : tie.Need-level-from-requires-2
 level-from-requires-2 c κs =
-    let s = c .before .before .before .before .before .before .before in
-    let f = c .before .before .before .before .level-from in
-    (lit≤ tt, lit≤ tt, f .kept .0 ∙ s .pre .0, f .kept .0 ∙ s .pre .0, f .kept .1 .0 ∙ s .pre .1, subst (AllNear 67108863) (sym (f .ensures)) (halves-all (lit≤ tt) (lit≤ tt) (third (s .args .work .now) (s .pre .0) (s .pre .2))), refl)
+    let c4 = c .before .before .before .before in
+    let c7 = c4 .before .before .before in
+    let s = c7 in
+    let f = c4 .level-from in (
+      lit≤ tt,
+      lit≤ tt,
+      f .kept .0 ∙ s .pre .0,
+      f .kept .0 ∙ s .pre .0,
+      f .kept .1 .0
+          ∙ s .pre .1,
+      subst (AllNear 67108863) (sym (f .ensures)) (halves-all (lit≤ tt) (lit≤ tt) (third (s .args .work .now) (s .pre .0) (s .pre .2))),
+      refl,
+    )
 
 level-from-requires-3 : tie.Need-level-from-requires-3
 level-from-requires-3 c κs =

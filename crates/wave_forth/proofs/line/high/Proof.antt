@@ -11,4 +11,5 @@ sum c = add (arg w32 (c .pre .1) tt) (arg w32 (c .pre .2) tt) tt
 pub high-spec : {M : Type 1} → statement M
 high-spec =
     tie.close
-    (tie.spec (λ c. fits (sum c)) (λ c. fits (sub (arg w32 (c .pre .0) tt) (half (sum c) tt) tt)) (λ c. val (half (sub (arg w32 (c .pre .0) tt) (half (sum c) tt) tt) tt)))
+    (tie.spec (λ c. fits (sum c)) (λ c. fits (sub (arg w32 (c .pre .0) tt) (half (sum c) tt) tt))
+    (λ c. val (half (sub (arg w32 (c .pre .0) tt) (half (sum c) tt) tt) tt)))

@@ -30,14 +30,19 @@ holds c =
       refl,
       omega arith,
       back-ok w32 (c .high .result) (c .high .ok)
-          ∙ high-step (s .args .n) x 0 (c .high .ensures) (back w32 (p .all _) tt) (back w32 (p .all _) tt ∙ ap (at (s .args .src .now)) z) (back w32 (p .all _) tt ∙ ap x t),
+          ∙ high-step (s .args .n) x 0 (c .high .ensures) (back w32 (p .all _) tt) (back w32 (p .all _) tt ∙ ap (at (s .args .src .now)) z)
+          (back w32 (p .all _) tt ∙ ap x t),
       split-start _ _ _ _ _,
     )
 
 g-near : (s : tie.At-loop Inv-loop μ-loop) → Near 268435456 (toZ w32 (s .loop .g))
 g-near s = let p = s .before .before .before .before .before .pre .1 .1 in subst (Near 268435456) (sym (s .loop .inv .2)) (high-near _ _ (λ k. p .all _) _)
 
-v-is : (c : tie.After-high2 Inv-loop μ-loop) → c .high2 .result ≡ lineHigh (c .before .before .before .before .before .before .before .before .before .before .args .n) (from (c .before .before .before .before .before .before .before .before .before .before .args .src .now) (c .before .before .before .before .before .before .before .before .before .before .args .s)) (c .before .before .before .before .before .loop .j)
+v-is :
+    (c : tie.After-high2 Inv-loop μ-loop) →
+    c .high2 .result ≡ lineHigh (c .before .before .before .before .before .before .before .before .before .before .args .n)
+    (from (c .before .before .before .before .before .before .before .before .before .before .args .src .now)
+    (c .before .before .before .before .before .before .before .before .before .before .args .s)) (c .before .before .before .before .before .loop .j)
 v-is c =
     let s = c .before .before .before .before .before .before .before .before .before .before in
     let j = c .before .before .before .before .before .loop .j in
@@ -47,9 +52,15 @@ v-is c =
     high-step (s .args .n) x j (c .high2 .ensures) (back w32 (p .all _) tt) (back w32 (p .all _) tt) (back w32 (p .all _) tt ∙ ap x t)
 
 v-near : (c : tie.After-high2 Inv-loop μ-loop) → Near 268435456 (c .high2 .result)
-v-near c = let p = c .before .before .before .before .before .before .before .before .before .before .pre .1 .1 in subst (Near 268435456) (sym (v-is c)) (high-near _ _ (λ k. p .all _) _)
+v-near c =
+    let c10 = c .before .before .before .before .before .before .before .before .before .before in
+    let p = c10 .pre .1 .1 in subst (Near 268435456) (sym (v-is c)) (high-near _ _ (λ k. p .all _) _)
 
-w-is : (c : tie.After-high3 Inv-loop μ-loop) → c .high3 .result ≡ lineHigh (c .before .before .before .before .before .before .before .before .before .before .args .n) (from (c .before .before .before .before .before .before .before .before .before .before .args .src .now) (c .before .before .before .before .before .before .before .before .before .before .args .s)) (c .before .before .before .before .before .loop .j)
+w-is :
+    (c : tie.After-high3 Inv-loop μ-loop) →
+    c .high3 .result ≡ lineHigh (c .before .before .before .before .before .before .before .before .before .before .args .n)
+    (from (c .before .before .before .before .before .before .before .before .before .before .args .src .now)
+    (c .before .before .before .before .before .before .before .before .before .before .args .s)) (c .before .before .before .before .before .loop .j)
 w-is c =
     let s = c .before .before .before .before .before .before .before .before .before .before in
     let j = c .before .before .before .before .before .loop .j in
@@ -59,7 +70,9 @@ w-is c =
     high-step (s .args .n) x j (c .high3 .ensures) (back w32 (p .all _) tt) (back w32 (p .all _) tt) (back w32 (p .all _) tt ∙ ap x t)
 
 w-near : (c : tie.After-high3 Inv-loop μ-loop) → Near 268435456 (c .high3 .result)
-w-near c = let p = c .before .before .before .before .before .before .before .before .before .before .pre .1 .1 in subst (Near 268435456) (sym (w-is c)) (high-near _ _ (λ k. p .all _) _)
+w-near c =
+    let c10 = c .before .before .before .before .before .before .before .before .before .before in
+    let p = c10 .pre .1 .1 in subst (Near 268435456) (sym (w-is c)) (high-near _ _ (λ k. p .all _) _)
 
 again : tie.Need-loop-again Inv-loop μ-loop
 again c =
@@ -71,8 +84,12 @@ again c =
       refl,
       omega arith,
       v ∙ ap (lineHigh (s .args .n) x) e,
-      split-put (s .args .n) x (s .args .l) (s .args .h) j _ (c .before .before .before .before .before .before .before .loop .dst) _ _ (s .pre .1 .0) (omega arith) (omega arith) (omega arith)
-          (back-ok w32 (c .low .result) (c .low .ok) ∙ low-step (s .args .n) x j (c .low .ensures) (back w32 (s .pre .1 .1 .all _) tt) (c .before .before .before .before .before .before .before .loop .inv .2) v) v (c .before .before .before .before .before .before .before .loop .inv .3),
+      split-put (s .args .n) x (s .args .l) (s .args .h) j _ (c .before .before .before .before .before .before .before .loop .dst) _ _ (s .pre .1 .0)
+          (omega arith) (omega arith) (omega arith)
+          (back-ok w32 (c .low .result) (c .low .ok)
+          ∙ low-step (s .args .n) x j (c .low .ensures) (back w32 (s .pre .1 .1 .all _) tt)
+          (c .before .before .before .before .before .before .before .loop .inv .2) v) v
+          (c .before .before .before .before .before .before .before .loop .inv .3),
     )
 
 returns : tie.Need-returns Inv-loop μ-loop
@@ -82,24 +99,45 @@ returns c =
     let x = from (s .args .src .now) (s .args .s) in
     let v = back-ok w32 (c .before .before .high3 .result) (c .before .before .high3 .ok) ∙ w-is (c .before .before) in
     split-whole (omega arith)
-    (split-put (s .args .n) x (s .args .l) (s .args .h) j _ (c .before .before .before .before .before .before .before .loop .dst) _ _ (s .pre .1 .0) (omega arith) (omega arith) (omega arith)
-    (back-ok w32 (c .low2 .result) (c .low2 .ok) ∙ low-step (s .args .n) x j (c .low2 .ensures) (back w32 (s .pre .1 .1 .all _) tt) (c .before .before .before .before .before .before .before .loop .inv .2) v) v (c .before .before .before .before .before .before .before .loop .inv .3))
+    (split-put (s .args .n) x (s .args .l) (s .args .h) j _ (c .before .before .before .before .before .before .before .loop .dst) _ _ (s .pre .1 .0)
+    (omega arith) (omega arith) (omega arith)
+    (back-ok w32 (c .low2 .result) (c .low2 .ok) ∙ low-step (s .args .n) x j (c .low2 .ensures) (back w32 (s .pre .1 .1 .all _) tt)
+    (c .before .before .before .before .before .before .before .loop .inv .2) v) v
+    (c .before .before .before .before .before .before .before .loop .inv .3))
 
 pub row-spec : {M : Type 1} → statement M
 row-spec =
     tie.close
     (tie.spec Inv-loop μ-loop
-    (λ c. omega arith) (λ c. omega arith) (λ c. omega arith) (λ c. omega arith) (λ c. omega arith) (λ c. omega arith) (λ c. omega arith) (λ c. omega arith) (λ c. omega arith)
-    (λ c κs. let p = c .before .before .before .pre .1 .1 in (back-near w32 (p .all _) tt, back-near w32 (p .all _) tt, back-near w32 (p .all _) tt)) holds (λ c. omega arith)
-    (λ c. omega arith) (λ c. omega arith) (λ c. omega arith) (λ c. omega arith) (λ c. omega arith) (λ c. omega arith) (λ c. omega arith) (λ c. omega arith) (λ c. omega arith)
+    (λ c. omega arith) (λ c. omega arith) (λ c. omega arith) (λ c. omega arith) (λ c. omega arith) (λ c. omega arith) (λ c. omega arith) (λ c. omega arith)
+    (λ c. omega arith)
+    (λ c κs. let p = c .before .before .before .pre .1 .1 in (back-near w32 (p .all _) tt, back-near w32 (p .all _) tt, back-near w32 (p .all _) tt)) holds
+    (λ c. omega arith)
+    (λ c. omega arith) (λ c. omega arith) (λ c. omega arith) (λ c. omega arith) (λ c. omega arith) (λ c. omega arith) (λ c. omega arith) (λ c. omega arith)
+    (λ c. omega arith)
     (λ c. omega arith) (λ c. omega arith) (λ c. omega arith) (λ c. omega arith)
-    (λ c κs. let p = c .before .before .before .before .before .before .before .before .before .pre .1 .1 in (back-near w32 (p .all _) tt, back-near w32 (p .all _) tt, back-near w32 (p .all _) tt))
+    (λ c κs.
+    let p = c .before .before .before .before .before .before .before .before .before .pre .1 .1 in
+    (back-near w32 (p .all _) tt, back-near w32 (p .all _) tt, back-near w32 (p .all _) tt))
     (λ c. omega arith) (λ c. omega arith) (λ c. omega arith) (λ c. omega arith)
-    (λ c κs. (back-near w32 (c .before .before .before .before .before .before .before .before .before .before .before .pre .1 .1 .all _) tt, g-near (c .before .before .before .before .before .before), back-near w32 (v-near (c .before)) tt))
-    (λ c. omega arith) (λ c. omega arith) (λ c. omega arith) (λ c. omega arith) (λ c. omega arith) (λ c. simp length-set (omega arith)) (λ c. omega arith) (λ c. omega arith) again
-    (λ c. omega arith) (λ c. omega arith) (λ c. omega arith) (λ c. omega arith) (λ c. omega arith) (λ c. omega arith) (λ c. omega arith) (λ c. omega arith) (λ c. omega arith)
+    (λ c κs. (
+      back-near w32 (c .before .before .before .before .before .before .before .before .before .before .before .pre .1 .1 .all _) tt,
+      g-near (c .before .before .before .before .before .before),
+      back-near w32 (v-near (c .before)) tt,
+    ))
+    (λ c. omega arith) (λ c. omega arith) (λ c. omega arith) (λ c. omega arith) (λ c. omega arith) (λ c. simp length-set (omega arith)) (λ c. omega arith)
+    (λ c. omega arith) again
+    (λ c. omega arith) (λ c. omega arith) (λ c. omega arith) (λ c. omega arith) (λ c. omega arith) (λ c. omega arith) (λ c. omega arith) (λ c. omega arith)
+    (λ c. omega arith)
     (λ c. omega arith) (λ c. omega arith) (λ c. omega arith) (λ c. omega arith)
-    (λ c κs. let p = c .before .before .before .before .before .before .before .before .before .pre .1 .1 in (back-near w32 (p .all _) tt, back-near w32 (p .all _) tt, back-near w32 (p .all _) tt))
+    (λ c κs.
+    let p = c .before .before .before .before .before .before .before .before .before .pre .1 .1 in
+    (back-near w32 (p .all _) tt, back-near w32 (p .all _) tt, back-near w32 (p .all _) tt))
     (λ c. omega arith) (λ c. omega arith) (λ c. omega arith) (λ c. omega arith)
-    (λ c κs. (back-near w32 (c .before .before .before .before .before .before .before .before .before .before .before .pre .1 .1 .all _) tt, g-near (c .before .before .before .before .before .before), back-near w32 (w-near (c .before)) tt))
-    (λ c. omega arith) (λ c. omega arith) (λ c. omega arith) (λ c. omega arith) (λ c. omega arith) (λ c. simp length-set (omega arith)) (λ c. simp length-set (omega arith)) returns)
+    (λ c κs. (
+      back-near w32 (c .before .before .before .before .before .before .before .before .before .before .before .pre .1 .1 .all _) tt,
+      g-near (c .before .before .before .before .before .before),
+      back-near w32 (w-near (c .before)) tt,
+    ))
+    (λ c. omega arith) (λ c. omega arith) (λ c. omega arith) (λ c. omega arith) (λ c. omega arith) (λ c. simp length-set (omega arith))
+    (λ c. simp length-set (omega arith)) returns)

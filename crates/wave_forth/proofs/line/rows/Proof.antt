@@ -33,12 +33,14 @@ again c =
     let s = c .before .before .before .before .before in
     let l = c .before .before .before .before .loop in (
       omega arith,
-      bands-turn (s .args .n) (l .r) (s .args .l) (s .args .h) (c .before .before .before .loop-test .taken) (s .pre .1 .0) (s .args .w) (s .args .s) (s .args .src .now) _ (l .dst) _ (c .before .row .ensures) (l .inv .1),
+      bands-turn (s .args .n) (l .r) (s .args .l) (s .args .h) (c .before .before .before .loop-test .taken) (s .pre .1 .0) (s .args .w) (s .args .s)
+          (s .args .src .now) _ (l .dst) _ (c .before .row .ensures) (l .inv .1),
     )
 
 pub rows-spec : {M : Type 1} → statement M
 rows-spec =
     tie.close
-    (tie.spec Inv-loop μ-loop (λ c. (omega arith, bands-start _ _ _ _ _ _ _)) (λ c. omega (arith, room c)) (λ c. omega (arith, room c)) (λ c. omega (arith, room c))
+    (tie.spec Inv-loop μ-loop (λ c. (omega arith, bands-start _ _ _ _ _ _ _)) (λ c. omega (arith, room c)) (λ c. omega (arith, room c))
+    (λ c. omega (arith, room c))
     (λ c. omega (arith, room c)) (λ c. omega (arith, room c)) (λ c. omega (arith, room c)) asks (λ c. omega arith) (λ c. omega arith) again
     (λ c. c .before .loop .inv .1 .same) (λ c. bands-whole (omega arith) (c .before .loop .inv .1)))

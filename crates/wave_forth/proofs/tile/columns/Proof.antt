@@ -21,7 +21,9 @@ first c κs =
     ((p .1, omega arith, in-width n (p .5) (p .2), in-width n (p .5) (p .3), p .4), (omega arith, refl, omega arith, omega arith))
 
 holds : tie.Need-loop-holds Inv-loop μ-loop
-holds c = let s = c .before .before .before in first-turn (s .args .n) (s .args .w) _ _ _ _ (own (s .args .n)) (s .args .dst .now) _ (s .pre .0) (s .pre .3) (c .before .pair .ensures)
+holds c =
+    let c3 = c .before .before .before in
+    let s = c3 in first-turn (s .args .n) (s .args .w) _ _ _ _ (own (s .args .n)) (s .args .dst .now) _ (s .pre .0) (s .pre .3) (c .before .pair .ensures)
 
 middle : tie.Need-pair-requires-2 Inv-loop μ-loop
 middle c κs =

@@ -18,8 +18,21 @@ first : tie.Need-rows-requires
 first c κs =
     let s = c .before .before .before .before .before .before in
     let k = c .before .before .before .columns in (
-      (s .pre .0, s .pre .1, s .pre .5, omega (arith, sizes s, k .kept), omega (arith, sizes s, k .kept), omega (arith, sizes s), omega (arith, sizes s), omega (arith, sizes s)),
-      (record { apart = λ i j p q. omega arith }, all-wide (lit≤ tt) (subst (AllNear (2 * 134217728)) (sym (k .ensures)) (passed-near (s .args .n) (s .args .region .now) (s .pre .4)))),
+      (
+        s .pre .0,
+        s .pre .1,
+        s .pre .5,
+        omega (arith, sizes s, k .kept),
+        omega (arith, sizes s, k .kept),
+        omega (arith, sizes s),
+        omega (arith, sizes s),
+        omega (arith, sizes s),
+      ),
+      (
+        record { apart = λ i j p q. omega arith },
+        all-wide (lit≤ tt) (subst (AllNear (2 * 134217728)) (sym (k .ensures))
+            (passed-near (s .args .n) (s .args .region .now) (s .pre .4))),
+      ),
     )
 
 second : tie.Need-rows-requires-2
@@ -27,8 +40,22 @@ second c κs =
     let s = c .before .before .before .before .before .before .before .before .before .before in
     let k = c .before .before .before .before .before .before .before .columns in
     let m = c .before .before .before .rows .kept in (
-      (s .pre .0, s .pre .1, s .pre .5, omega (arith, sizes s, k .kept), omega (arith, sizes s, k .kept), omega (arith, sizes s, m), omega (arith, sizes s, m), omega (arith, sizes s, m)),
-      (record { apart = λ i j p q. omega arith }, all-wide (lit≤ tt) (subst (AllNear (2 * 134217728)) (sym (k .ensures)) (passed-near (s .args .n) (s .args .region .now) (s .pre .4)))),
+      (
+        s .pre .0,
+        s .pre .1,
+        s .pre .5,
+        omega (arith, sizes s, k .kept),
+        omega (arith, sizes s, k .kept),
+        omega (arith, sizes s, m),
+        omega
+            (arith, sizes s, m),
+        omega (arith, sizes s, m),
+      ),
+      (
+        record { apart = λ i j p q. omega arith },
+        all-wide (lit≤ tt) (subst (AllNear (2 * 134217728)) (sym (k .ensures))
+            (passed-near (s .args .n) (s .args .region .now) (s .pre .4))),
+      ),
     )
 
 returns : tie.Need-returns
@@ -48,4 +75,5 @@ level-forth-spec =
     (λ c. omega (arith, sizes (c .before .before .before .before .before .before))) first
     (λ c. omega (arith, sizes (c .before .before .before .before .before .before .before .before .before .before)))
     (λ c. omega (arith, sizes (c .before .before .before .before .before .before .before .before .before .before))) second
-    (λ c. omega (arith, c .before .rows2 .kept, c .before .before .before .before .before .rows .kept)) (λ c. omega (arith, c .before .before .before .before .before .before .before .before .before .columns .kept)) returns)
+    (λ c. omega (arith, c .before .rows2 .kept, c .before .before .before .before .before .rows .kept))
+    (λ c. omega (arith, c .before .before .before .before .before .before .before .before .before .columns .kept)) returns)

@@ -12,22 +12,36 @@ use Rattle.wave_forth.proofs.tile.tile_forth.Tie as tie
 
 second : tie.Need-level-from-requires-2
 second c κs =
-    let s = c .before .before .before .before .before .before .before in
-    let f = c .before .before .before .before .level-from in
-    (lit≤ tt, lit≤ tt, f .kept .0 ∙ s .pre .0, f .kept .0 ∙ s .pre .0, f .kept .1 .0 ∙ s .pre .1, all-wide (lit≤ tt) (subst (AllNear _) (sym (f .ensures)) (from-near 0 32 (s .args .work .now) (s .pre .2))), refl)
+    let c4 = c .before .before .before .before in
+    let c7 = c4 .before .before .before in
+    let s = c7 in
+    let f = c4 .level-from in (
+      lit≤ tt,
+      lit≤ tt,
+      f .kept .0 ∙ s .pre .0,
+      f .kept .0 ∙ s .pre .0,
+      f .kept .1 .0
+          ∙ s .pre .1,
+      all-wide (lit≤ tt) (subst (AllNear _) (sym (f .ensures)) (from-near 0 32 (s .args .work .now) (s .pre .2))),
+      refl,
+    )
 
 third : tie.Need-level-from-requires-3
 third c κs =
-    let s = c .before .before .before .before .before .before .before .before .before .before .before .before in
-    let f = c .before .before .before .before .before .before .before .before .before .level-from in
-    let g = c .before .before .before .before .level-from2 in
+    let c4 = c .before .before .before .before in
+    let c9 = c4 .before .before .before .before .before in
+    let c12 = c9 .before .before .before in
+    let s = c12 in
+    let f = c9 .level-from in
+    let g = c4 .level-from2 in
     let e = g .ensures ∙ ap (forthFrom 3072 16) (f .ensures) in (
       lit≤ tt,
       lit≤ tt,
       g .kept .0 ∙ f .kept .0 ∙ s .pre .0,
       g .kept .0 ∙ f .kept .0 ∙ s .pre .0,
       g .kept .1 .0 ∙ f .kept .1 .0 ∙ s .pre .1,
-      all-wide (lit≤ tt) (subst (AllNear _) (sym e) (from-near 3072 16 (forthFrom 0 32 (s .args .work .now)) (from-near 0 32 (s .args .work .now) (s .pre .2)))),
+      all-wide (lit≤ tt)
+          (subst (AllNear _) (sym e) (from-near 3072 16 (forthFrom 0 32 (s .args .work .now)) (from-near 0 32 (s .args .work .now) (s .pre .2)))),
       refl,
     )
 
