@@ -27,8 +27,8 @@ anewDesk d = record { s = d .s; c = fresh; at = d .at; width = d .width; height 
 abbrev pub settledDesk : Desk → Desk
 settledDesk e = foreignOf (e .c) ⇒ anewDesk e ∣ e
 
--- any number of pieces, one after the other, and the collector anew where a block was passed over; on a picture of that word size (0 is 16 bits, 1 is 32)
-pub data Shown : ℕ → Scene → Scene → Type 0 where
-  none : (w : ℕ) (s : Scene) → Shown w s s
-  more : (w : ℕ) (s t : Scene) (piece : List ℕ) → Shown w s t → Shown w s (givenTo w full piece t)
-  anew : (w : ℕ) (s t : Scene) → Shown w s t → Shown w s (scene (anewDesk (t .desk)) (t .store) (t .picture))
+-- any number of pieces, one after the other, and the collector anew where a block was passed over
+pub data Shown : Scene → Scene → Type 0 where
+  none : (s : Scene) → Shown s s
+  more : (s t : Scene) (piece : List ℕ) → Shown s t → Shown s (givenTo full piece t)
+  anew : (s t : Scene) → Shown s t → Shown s (scene (anewDesk (t .desk)) (t .store) (t .picture))

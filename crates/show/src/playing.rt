@@ -18,7 +18,7 @@ pub struct Turn {
     pub go: bool,
 }
 
-pub fn begin(d: Desk) -> Turn
+fn begin(d: Desk) -> Turn
     ensures { λ r. ⌜ r .d ≡ d ⌝ }
 {
     Turn {
@@ -41,7 +41,7 @@ fn read_piece(fd: i32, piece: &mut [u8], size: usize) -> usize {
 }
 
 // The next piece, where this one is at its end.
-pub fn fill(t: Turn, fd: i32, size: usize, piece: &mut [u8]) -> Turn
+fn fill(t: Turn, fd: i32, size: usize, piece: &mut [u8]) -> Turn
     ensures { λ r. ⌜ r .d ≡ t .d ⌝ }
 {
     if t.at < t.n {
@@ -59,7 +59,7 @@ pub fn fill(t: Turn, fd: i32, size: usize, piece: &mut [u8]) -> Turn
 }
 
 // Past the bytes that are to be passed over, as far as they are there.
-pub fn pass_over(t: Turn) -> Turn
+fn pass_over(t: Turn) -> Turn
     ensures { λ r. ⌜ r .d ≡ t .d ⌝ }
 {
     if t.n < t.at {
@@ -128,7 +128,7 @@ fn on_with(refused: u8, go: bool) -> bool {
 }
 
 // After a piece that was given: a foreign block is said and passed over, any other refusal ends it.
-pub fn settle(t: Turn, e: Desk) -> Turn
+fn settle(t: Turn, e: Desk) -> Turn
     ensures { λ r. ⌜ r .d ≡ settledDesk e ⌝ }
 {
     let c = e.c;
@@ -163,7 +163,7 @@ fn next_piece(
     store: &mut [u8],
     picture: &mut [u16],
 ) -> Turn
-    ensures { λ r. ⌜ Shown 0 (scene (t .d) (now (store .entry)) (now (picture .entry))) (scene (r .d) (now (store .exit)) (now (picture .exit))) ⌝ }
+    ensures { λ r. ⌜ Shown (scene (t .d) (now (store .entry)) (now (picture .entry))) (scene (r .d) (now (store .exit)) (now (picture .exit))) ⌝ }
 {
     let a = fill(t, fd, size, piece);
     let b = pass_over(a);
@@ -186,7 +186,7 @@ pub fn run(
     store: &mut [u8],
     picture: &mut [u16],
 ) -> Desk
-    ensures { λ r. ⌜ Shown 0 (scene d (now (store .entry)) (now (picture .entry))) (scene r (now (store .exit)) (now (picture .exit))) ⌝ }
+    ensures { λ r. ⌜ Shown (scene d (now (store .entry)) (now (picture .entry))) (scene r (now (store .exit)) (now (picture .exit))) ⌝ }
 {
     let mut t = begin(d);
     let mut turns = u64::MAX;

@@ -12,33 +12,33 @@ use Rattle.app_calls.specs.declared.given.Desk.{Desk}
 use Rattle.app_calls.specs.Given.{Scene, scene, givenTo}
 use Rattle.show.specs.Play.{full, foreignOf, anewDesk, settledDesk, Shown, none, more, anew}
 
-pub shown-on : (w : ℕ) (s t u : Scene) → Shown w s t → Shown w t u → Shown w s u
-shown-on w s t _ p (none _ _) = p
-shown-on w s t _ p (more _ _ u piece q) = more w s u piece (shown-on w s t u p q)
-shown-on w s t _ p (anew _ _ u q) = anew w s u (shown-on w s t u p q)
+pub shown-on : (s t u : Scene) → Shown s t → Shown t u → Shown s u
+shown-on s t _ p (none _) = p
+shown-on s t _ p (more _ u piece q) = more s u piece (shown-on s t u p q)
+shown-on s t _ p (anew _ u q) = anew s u (shown-on s t u p q)
 
 -- a piece that is given, and then settled
 pub next-is :
-    (w : ℕ) (bytes store store′ pic pic′ : List ℕ) (d a b e r : Desk)
+    (bytes store store′ pic pic′ : List ℕ) (d a b e r : Desk)
     → a ≡ d
     → b ≡ a
-    → scene e store′ pic′ ≡ givenTo w full bytes (scene b store pic)
+    → scene e store′ pic′ ≡ givenTo full bytes (scene b store pic)
     → r ≡ settledDesk e
-    → Shown w (scene d store pic) (scene r store′ pic′)
+    → Shown (scene d store pic) (scene r store′ pic′)
 unfolding _⇒_∣_
-next-is w bytes store store′ pic pic′ d a b e r p q g f = go (foreignOf (e .c)) f
+next-is bytes store store′ pic pic′ d a b e r p q g f = go (foreignOf (e .c)) f
   where
-    given : Shown w (scene d store pic) (scene e store′ pic′)
+    given : Shown (scene d store pic) (scene e store′ pic′)
     given =
-        subst (Shown w (scene d store pic)) (sym (g ∙ ap (λ (x : Desk). givenTo w full bytes (scene x store pic)) (q ∙ p)))
-        (more w (scene d store pic) (scene d store pic) bytes (none w (scene d store pic)))
+        subst (Shown (scene d store pic)) (sym (g ∙ ap (λ (x : Desk). givenTo full bytes (scene x store pic)) (q ∙ p)))
+        (more (scene d store pic) (scene d store pic) bytes (none (scene d store pic)))
 
-    go : (t : Bool) → r ≡ (t ⇒ anewDesk e ∣ e) → Shown w (scene d store pic) (scene r store′ pic′)
-    go true h = subst (λ (x : Desk). Shown w (scene d store pic) (scene x store′ pic′)) (sym h) (anew w (scene d store pic) (scene e store′ pic′) given)
-    go false h = subst (λ (x : Desk). Shown w (scene d store pic) (scene x store′ pic′)) (sym h) given
+    go : (t : Bool) → r ≡ (t ⇒ anewDesk e ∣ e) → Shown (scene d store pic) (scene r store′ pic′)
+    go true h = subst (λ (x : Desk). Shown (scene d store pic) (scene x store′ pic′)) (sym h) (anew (scene d store pic) (scene e store′ pic′) given)
+    go false h = subst (λ (x : Desk). Shown (scene d store pic) (scene x store′ pic′)) (sym h) given
 
-pub shown-start : (w : ℕ) (store pic : List ℕ) (d e : Desk) → e ≡ d → Shown w (scene d store pic) (scene e store pic)
-shown-start w store pic d e h = subst (λ (x : Desk). Shown w (scene d store pic) (scene x store pic)) (sym h) (none w (scene d store pic))
+pub shown-start : (store pic : List ℕ) (d e : Desk) → e ≡ d → Shown (scene d store pic) (scene e store pic)
+shown-start store pic d e h = subst (λ (x : Desk). Shown (scene d store pic) (scene x store pic)) (sym h) (none (scene d store pic))
 
 -- a head that can be passed over, and the desk behind it
 pub foreign-not : (c : Collector) → (c .refused ≡ 3 → ⊥) → false ≡ foreignOf c

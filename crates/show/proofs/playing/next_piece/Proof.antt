@@ -12,7 +12,7 @@ returns c =
     let c5 = c .before .before .before .before .before in
     let c11 = c5 .before .before .before .before .before .before in
     let c14 = c11 .before .before .before in
-    next-is _ _ _ _ _ _ _ _ _ _ _ (c14 .fill .ensures) (c11 .pass-over .ensures) (c5 .give .ensures) (c .settle .ensures)
+    next-is _ _ _ _ _ _ _ _ _ _ (c14 .fill .ensures) (c11 .pass-over .ensures) (c5 .give .ensures) (c .settle .ensures)
 
 pub next-piece-spec : {M : Type 1} → statement M
 next-piece-spec =

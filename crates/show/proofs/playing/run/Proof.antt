@@ -14,13 +14,13 @@ Inv-loop fd size piece₀ store₀ picture₀ t₀ turns₀ piece store picture 
     (length piece ≡ length piece₀)
     × (length store ≡ length store₀)
     × (length picture ≡ length picture₀)
-    × Shown 0 (scene (t₀ .d) store₀ picture₀) (scene (t .d) store picture)
+    × Shown (scene (t₀ .d) store₀ picture₀) (scene (t .d) store picture)
 
 abbrev μ-loop : tie.MeasureT-loop
 μ-loop fd size piece₀ store₀ picture₀ t₀ turns₀ piece store picture t turns = turns
 
 loop-holds : tie.Need-loop-holds Inv-loop μ-loop
-loop-holds c = (refl, refl, refl, none _ _)
+loop-holds c = (refl, refl, refl, none _)
 
 loop-again : tie.Need-loop-again Inv-loop μ-loop
 loop-again c =
@@ -29,7 +29,7 @@ loop-again c =
       c6 .next-piece .kept .1 .1 .1 .0 ∙ c12 .loop .inv .0,
       c6 .next-piece .kept .1 .1 .1 .1 .0 ∙ c12 .loop .inv .1,
       c6 .next-piece .kept .1 .1 .1 .1 .1 .0 ∙ c12 .loop .inv .2,
-      shown-on _ _ _ _ (c12 .loop .inv .3) (c6 .next-piece .ensures),
+      shown-on _ _ _ (c12 .loop .inv .3) (c6 .next-piece .ensures),
     )
 
 same-length : tie.Need-same-length Inv-loop μ-loop
@@ -42,7 +42,7 @@ same-length-3 : tie.Need-same-length-3 Inv-loop μ-loop
 same-length-3 c = c .before .before .loop .inv .2
 
 returns : tie.Need-returns Inv-loop μ-loop
-returns c = shown-on _ _ _ _ (shown-start _ _ _ _ _ (c .before .before .before .begin .ensures)) (c .before .before .loop .inv .3)
+returns c = shown-on _ _ _ (shown-start _ _ _ _ (c .before .before .before .begin .ensures)) (c .before .before .loop .inv .3)
 
 pub run-spec : {M : Type 1} → statement M
 run-spec =
