@@ -1,14 +1,12 @@
-// The frame writer of document 01 (last paragraph of "Colour", "Numbers the fitter sees", and what is left of output and work lists):
-// "Frame writer's refusals in order: size or mode 5, quantiser 7, pixel or work list length 2, then per component in order 9 .. then 6, then 13."
+// What the frame writer of document 01 refuses, in order ("Frame writer's refusals in order: size or mode 5, quantiser 7, pixel or work list length 2, then per component
+// in order 9 .. then 6, then 13."), and the frame measured and then written, whatever room there is. The call itself is `frame_send`'s.
 use crate::size::Job;
-use bands::Quant;
 use quants::Quants;
 use wire::Writing;
 ghost use mathlib.Core.Path.{_≡_};
 ghost use lib.ListN.{length};
 ghost use Rattle.wire.specs.Wrote.{Wrote};
-ghost use Rattle.frame_write.specs.FrameWrite.{FrameWritten};
-ghost use Rattle.frame_write.specs.Sets.{goodSets, argFaultOver, FrameWrittenOver};
+ghost use Rattle.frame_write.specs.Sets.{goodSets, argFaultOver};
 ghost use Rattle.frame_write.specs.Job.{frameSent, faultSent, JobReady, JobSends};
 
 // Are luma's quantisers good, and chroma's?
@@ -82,62 +80,4 @@ pub fn send(
     }
     let end = crate::put::put_frame(out, list, scratch, pixels, picks, job, n);
     Writing::Done(end)
-}
-
-// The frame writer, for any input: three bytes a pixel, ten quantisers for luma and ten for chroma, two work lists.
-pub fn write_frame_sets(
-    width: usize,
-    height: usize,
-    mode: u8,
-    q: Quants,
-    index: u32,
-    pixels: &[u8],
-    list: &mut [i32],
-    scratch: &mut [i32],
-    out: &mut [u8],
-) -> Writing
-    ensures { λ r. ⌜ FrameWrittenOver width height mode q index (now (pixels .entry)) (now (list .entry)) (now (list .exit)) (now (scratch .entry)) (now (scratch .exit)) (now (out .entry)) (now (out .exit)) r ⌝ }
-{
-    let fault = arg_judge(
-        width,
-        height,
-        mode,
-        q,
-        pixels.len(),
-        list.len(),
-        scratch.len(),
-    );
-    if fault != 0 {
-        return Writing::Refused(fault);
-    }
-    let job = Job {
-        width: width,
-        height: height,
-        mode: mode,
-        index: index as usize,
-        quants: q,
-    };
-    let n = frame_pieces::tiles_no(width, height);
-    let r = send(out, list, scratch, pixels, &[], job, n);
-    whole::clear(list);
-    whole::clear(scratch);
-    r
-}
-
-// The same with one quantiser set of ten values.
-pub fn write_frame(
-    width: usize,
-    height: usize,
-    mode: u8,
-    q: Quant,
-    index: u32,
-    pixels: &[u8],
-    list: &mut [i32],
-    scratch: &mut [i32],
-    out: &mut [u8],
-) -> Writing
-    ensures { λ r. ⌜ FrameWritten width height mode (q .v) index (now (pixels .entry)) (now (list .entry)) (now (list .exit)) (now (scratch .entry)) (now (scratch .exit)) (now (out .entry)) (now (out .exit)) r ⌝ }
-{
-    let both = Quants { luma: q, chroma: q };
-    write_frame_sets(width, height, mode, both, index, pixels, list, scratch, out)
 }

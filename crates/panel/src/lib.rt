@@ -94,7 +94,7 @@ pub fn write_frame(
 ) -> Writing
     ensures { λ r. ⌜ FrameWritten width height mode (q .v) index (now (pixels .entry)) (now (list .entry)) (now (list .exit)) (now (scratch .entry)) (now (scratch .exit)) (now (out .entry)) (now (out .exit)) r ⌝ }
 {
-    frame_write::call::write_frame(width, height, mode, q, index, pixels, list, scratch, out)
+    frame_send::write_frame(width, height, mode, q, index, pixels, list, scratch, out)
 }
 
 // The same with luma's and chroma's quantisers; where they are equal it writes what `write_frame` writes.
@@ -111,5 +111,5 @@ pub fn write_frame_sets(
 ) -> Writing
     ensures { λ r. ⌜ FrameWrittenOver width height mode q index (now (pixels .entry)) (now (list .entry)) (now (list .exit)) (now (scratch .entry)) (now (scratch .exit)) (now (out .entry)) (now (out .exit)) r ⌝ }
 {
-    frame_write::call::write_frame_sets(width, height, mode, q, index, pixels, list, scratch, out)
+    frame_send::write_frame_sets(width, height, mode, q, index, pixels, list, scratch, out)
 }

@@ -1,5 +1,5 @@
 // The short frame's writer (document 02, request Eleven): "The short frame's writer makes this check itself, after its own 5, 7 and 2; then 9, 6 and 13 as
-// before, over the listed tiles." It is the frame writer's passes (`frame_write`) over a list of tiles that the checker (`plan`) accepts.
+// before, over the listed tiles." It is the frame writer (`frame_send`) over a list of tiles that the checker (`plan`) accepts.
 ghost use mathlib.Core.Path.{_≡_};
 ghost use lib.ListN.{length};
 ghost use Rattle.whole.specs.Row.{_⨟_};
@@ -44,7 +44,7 @@ fn send_listed(
     if fault != 0 {
         return Writing::Refused(fault);
     }
-    frame_write::call::send(out, list, scratch, new, picks, job, picks.len())
+    frame_send::send(out, list, scratch, new, picks, job, picks.len())
 }
 
 // The short frame's writer, for any input: what the frame writer is asked (`job`), the old and the new picture of three bytes a pixel, the numbers of the

@@ -199,7 +199,7 @@ module _ (tile : ℕ → Tile) (stop : ℕ → ℕ) where
 
   -- the bytes of tiles that are not refused
   module _ (most : (i : ℕ) → 0 ≡ stop i → tileLen (tile i) ≤ 196624) where
-    stops-small : (n i : ℕ) → 0 ≡ stopsOf stop n i → length (tilesOf tile n i) ≤ n * 196624
+    pub stops-small : (n i : ℕ) → 0 ≡ stopsOf stop n i → length (tilesOf tile n i) ≤ n * 196624
     unfolding stopsOf tilesOf
     stops-small zero i e = omega arith
     stops-small (suc n) i e =

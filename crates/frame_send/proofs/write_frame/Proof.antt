@@ -1,8 +1,8 @@
 -- `write_frame` meets its contract: the writer over both sets, with one set for both, is the writer over one set (`as-one`). Assumes nothing.
 use borrow.Author.Needs.{needs}
 use Rattle.frame_write.specs.laws.OneSet.{as-one}
-use Rattle.frame_write.proofs.call.write_frame.Statement.{statement}
-use Rattle.frame_write.proofs.call.write_frame.Tie as tie
+use Rattle.frame_send.proofs.write_frame.Statement.{statement}
+use Rattle.frame_send.proofs.write_frame.Tie as tie
 
 returns : tie.Need-returns
 returns c = as-one _ _ _ _ _ _ _ _ _ _ _ _ _ (c .before .before .before .before .write-frame-sets .ensures)

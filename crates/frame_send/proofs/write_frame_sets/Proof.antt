@@ -5,12 +5,12 @@ use mathlib.Core.Path.{ap, sym, _∙_}
 use lib.IntN.{pos}
 use lib.ListN.{length, replicate}
 use denote.Ref.{now}
 use Rattle.frame_write.specs.Job.{ArgsGood}
 use Rattle.frame_write.specs.laws.FrameWrite.{args-good, all-refused, all-sent}
 use Rattle.frame_write.specs.laws.Picked.{all-there, as-all}
 use borrow.Author.Needs.{needs}
-use Rattle.frame_write.proofs.call.write_frame_sets.Statement.{statement}
-use Rattle.frame_write.proofs.call.write_frame_sets.Tie as tie
+use Rattle.frame_send.proofs.write_frame_sets.Statement.{statement}
+use Rattle.frame_send.proofs.write_frame_sets.Tie as tie
 
 -- what the arguments are once they were judged
 good : (e : tie.Else1) →
