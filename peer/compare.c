@@ -39,7 +39,7 @@ typedef struct Row {
 
 static Row rows[KINDS][SETS];
 static Picture picture;
-static Stream stream, tidied, meant;
+static Stream stream, ordered, by_hand, tidied, meant;
 static uint16_t our_words[WIDEST * HIGHEST], their_words[WIDEST * HIGHEST], meant_words[WIDEST * HIGHEST];
 static int failures;
 
@@ -103,6 +103,8 @@ static void ours_to_theirs(void)
 
 /* ---- theirs to ours */
 
+static int same_stream(const Stream *a, const Stream *b) { return a->size == b->size && !memcmp(a->bytes, b->bytes, a->size); }
+
 static int has_one, has_cut_off; /* in this frame */
 static int32_t list[XURBALENZ_LIST], code_list[XURBALENZ_LIST];
 
@@ -133,7 +135,15 @@ static void judge(size_t code, size_t size, uint8_t number)
     }
 }
 
-/* The code cut as tidy does, and judged. */
+/* The code as it came. */
+static size_t as_it_came(uint8_t mode, size_t code, const uint8_t *bytes, size_t size, uint8_t *out)
+{
+    (void)mode, (void)code;
+    memcpy(out, bytes, size);
+    return size;
+}
+
+/* The code cut by hand as tidy does, and judged. */
 static size_t cut_and_judge(uint8_t mode, size_t code, const uint8_t *bytes, size_t size, uint8_t *out)
 {
     size_t fresh = cut_tail(mode, code, bytes, size, out), bits;
@@ -151,18 +161,32 @@ static size_t as_meant(uint8_t mode, size_t code, const uint8_t *bytes, size_t s
     return fresh;
 }
 
+/* The frame behind ordered headers through the library's tidy. Where we accept it then, it is what was cut by hand; else it is as it came. */
+static void tidy_frame(void)
+{
+    int accepted;
+    if (!ours_tidy(&ordered, &picture, with->mode, &tidied)) {
+        fail("tidy refuses a stream of so many bytes", ordered.size);
+        return;
+    }
+    accepted = ours_read(&tidied, &picture, our_words) == XURBALENZ_DONE;
+    if (!same_stream(&tidied, accepted ? &by_hand : &ordered)) fail("its stream is tidied otherwise than by hand, to bytes", tidied.size);
+}
+
 /* FreeRDP's stream, tidied and as meant. */
 static int their_streams(void)
 {
     has_one = has_cut_off = 0;
     tails_cut = 0;
     memset(tile_apart, 0, sizeof tile_apart);
-    if (!theirs_write(side, &picture, with, &stream) || !tidy(&stream, cut_and_judge, &tidied) || !tidy(&stream, as_meant, &meant)) {
+    if (!theirs_write(side, &picture, with, &stream) || !standin(&stream, as_it_came, &ordered) ||
+        !standin(&stream, cut_and_judge, &by_hand) || !standin(&stream, as_meant, &meant)) {
         fail("its stream is not laid out as expected, bytes", stream.size);
         return 0;
     }
     row->from_them++;
     row->tails += tails_cut;
+    tidy_frame();
     return 1;
 }
 
@@ -302,12 +326,16 @@ static void tables(void)
 int compare_all(int quick)
 {
     make_room(&stream);
+    make_room(&ordered);
+    make_room(&by_hand);
     make_room(&tidied);
     make_room(&meant);
     for (int kind = 0; kind < KINDS; kind++)
         for (size_t i = 0; i + (quick ? 1 : 0) < SIZES; i++) one_picture(kind, sizes[i][0], sizes[i][1]);
     tables();
     free(stream.bytes);
+    free(ordered.bytes);
+    free(by_hand.bytes);
     free(tidied.bytes);
     free(meant.bytes);
     return failures;

@@ -3,6 +3,8 @@
  */
 #include "peer.h"
 
+#include <string.h>
+
 static XurbalenzWork work;
 
 uint8_t ours_write(const Picture *p, const Setting *with, Stream *out)
@@ -28,6 +30,18 @@ uint8_t ours_read(const Stream *in, const Picture *p, uint16_t *words)
         at += length;
     }
     return xurbalenz_read_frame_with(&session, in->bytes + at, in->size - at, words, p->width * p->height, &work, &tiles);
+}
+
+int ours_tidy(const Stream *in, const Picture *p, uint8_t mode, Stream *out)
+{
+    size_t head = XURBALENZ_HEADERS_SIZE, size = 0, cut = 0;
+    uint8_t number;
+    if (in->size < head || out->room < head) return 0;
+    memcpy(out->bytes, in->bytes, head);
+    number = xurbalenz_tidy_frame((uint16_t)p->width, (uint16_t)p->height, mode, in->bytes + head, in->size - head, work.y, XURBALENZ_LIST,
+                                  out->bytes + head, out->room - head, &size, &cut);
+    out->size = head + size;
+    return number == XURBALENZ_DONE;
 }
 
 /* ---- steps */

@@ -1,5 +1,5 @@
 /*
- * peer.h - what the files of the peer share: pictures, streams, FreeRDP behind a few functions, the stand-in for tidy, the count of steps.
+ * peer.h - what the files of the peer share: pictures, streams, FreeRDP behind a few functions, tidy by hand, the count of steps.
  */
 #ifndef PEER_H
 #define PEER_H
@@ -47,6 +47,9 @@ typedef struct Setting {
 uint8_t ours_write(const Picture *p, const Setting *with, Stream *out);
 uint8_t ours_read(const Stream *in, const Picture *p, uint16_t *words);
 
+/* Headers as they are, the frame behind them through xurbalenz_tidy_frame; 0 where that refuses. */
+int ours_tidy(const Stream *in, const Picture *p, uint8_t mode, Stream *out);
+
 /* ---- FreeRDP (theirs.c) ---- */
 
 enum { PORTABLE, SIMD, SIDES };
@@ -74,15 +77,15 @@ int theirs_write(int side, const Picture *p, const Setting *with, Stream *out);
 /* The list that FreeRDP quantised for a code of the last stream. */
 const int16_t *theirs_list(size_t code);
 
-/* ---- the stand-in for tidy (tidy.c) ---- */
+/* ---- tidy by hand (tidy.c) ---- */
 
 /* Makes one component's code anew: its bytes go to out (at most 65,535), its length is the answer. `code` counts from 0 through the frame. */
 typedef size_t Recode(uint8_t mode, size_t code, const uint8_t *bytes, size_t size, uint8_t *out);
 
 /* Puts the headers into our order and every code through `recode`, and fills lengths in again; 0 where the stream is not laid out as FreeRDP does. */
-int tidy(const Stream *in, Recode *recode, Stream *out);
+int standin(const Stream *in, Recode *recode, Stream *out);
 
-/* The recoding of tidy itself: what follows a complete code is cut off. It counts the codes that it has cut. */
+/* The recoding that tidy does: what follows a complete code is cut off. It counts the codes that it has cut. */
 Recode cut_tail;
 extern size_t tails_cut;
 

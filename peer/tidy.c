@@ -1,5 +1,5 @@
 /*
- * ONLY THE PEER'S: a stand-in for `tidy` (issue 29), which is to be built and proved; it gives way to tidy when that is there. It takes the streams that
+ * ONLY THE PEER'S: what the library's tidy does, by hand, to hold the two together, and the same walk with other codes put in. It takes the streams that
  * FreeRDP's own encoder makes, one frame behind four headers, and no others; nothing about it is proved, and a plant must not use it.
  *
  * FreeRDP sends sync, context, versions, channels; 01 has them as sync, versions, channels, context. And in about a third of FreeRDP's codes a zero byte
@@ -115,7 +115,7 @@ static int tileset(const Stream *in, size_t at, uint8_t mode, Recode *recode, St
     return at == end;
 }
 
-int tidy(const Stream *in, Recode *recode, Stream *out)
+int standin(const Stream *in, Recode *recode, Stream *out)
 {
     uint8_t mode;
     size_t at, length;
