@@ -137,14 +137,7 @@ fn rows_same(ys: &[i32], cbs: &[i32], crs: &[i32], row: &mut [u16], words: &[u16
 }
 
 // The pixels of six planes, three of the product's and three of the plain decoder's, on a glass of 16 bits.
-fn pixels_same(
-    ys: &[i32],
-    cbs: &[i32],
-    crs: &[i32],
-    py: &[i32],
-    pb: &[i32],
-    pr: &[i32],
-) -> bool
+fn pixels_same(ys: &[i32], cbs: &[i32], crs: &[i32], py: &[i32], pb: &[i32], pr: &[i32]) -> bool
     requires { ⌜ Plane (now ys) × Plane (now cbs) × Plane (now crs) × Plane (now py) × Plane (now pb) × Plane (now pr) ⌝ }
 {
     let mut row = [0u16; 64];
@@ -154,7 +147,14 @@ fn pixels_same(
 }
 
 // The pixels of row y on a glass of 32 bits.
-fn row_same_32(ys: &[i32], cbs: &[i32], crs: &[i32], y: usize, row: &mut [u32], words: &[u32]) -> bool
+fn row_same_32(
+    ys: &[i32],
+    cbs: &[i32],
+    crs: &[i32],
+    y: usize,
+    row: &mut [u32],
+    words: &[u32],
+) -> bool
     requires { ⌜ Plane (now ys) × Plane (now cbs) × Plane (now crs) ⌝ }
 {
     if row.len() != 64 {
@@ -186,14 +186,7 @@ fn rows_same_32(ys: &[i32], cbs: &[i32], crs: &[i32], row: &mut [u32], words: &[
 }
 
 // The pixels of six planes, three of the product's and three of the plain decoder's on a glass of 32 bits.
-fn pixels_same_32(
-    ys: &[i32],
-    cbs: &[i32],
-    crs: &[i32],
-    py: &[i32],
-    pb: &[i32],
-    pr: &[i32],
-) -> bool
+fn pixels_same_32(ys: &[i32], cbs: &[i32], crs: &[i32], py: &[i32], pb: &[i32], pr: &[i32]) -> bool
     requires { ⌜ Plane (now ys) × Plane (now cbs) × Plane (now crs) × Plane (now py) × Plane (now pb) × Plane (now pr) ⌝ }
 {
     let mut row = [0u32; 64];
@@ -203,14 +196,7 @@ fn pixels_same_32(
 }
 
 // On both.
-fn both_same(
-    ys: &[i32],
-    cbs: &[i32],
-    crs: &[i32],
-    py: &[i32],
-    pb: &[i32],
-    pr: &[i32],
-) -> bool
+fn both_same(ys: &[i32], cbs: &[i32], crs: &[i32], py: &[i32], pb: &[i32], pr: &[i32]) -> bool
     requires { ⌜ Plane (now ys) × Plane (now cbs) × Plane (now crs) × Plane (now py) × Plane (now pb) × Plane (now pr) ⌝ }
 {
     if pixels_same(ys, cbs, crs, py, pb, pr) {
