@@ -55,7 +55,7 @@ fn start(d: Desk) -> Desk
 }
 
 // After a hand-over that took so many bytes.
-fn advance(d: Desk, c: Collector, taken: usize) -> Desk
+pub fn advance(d: Desk, c: Collector, taken: usize) -> Desk
     ensures { λ r. ⌜ r ≡ moved d c taken ⌝ }
 {
     let s = d.s;
@@ -97,7 +97,7 @@ fn after_header(d: Desk, s: Session) -> Desk
     }
 }
 
-fn after_frame(d: Desk) -> Desk
+pub fn after_frame(d: Desk) -> Desk
     ensures { λ r. ⌜ r ≡ frameDesk d ⌝ }
 {
     let s = d.s;
@@ -128,7 +128,7 @@ fn say_header(d: Desk, number: u8, told: bool) {
 }
 
 // One header call; a refused one leaves the record as it was.
-fn header(d: Desk, message: &[u8], told: bool) -> Desk
+pub fn header(d: Desk, message: &[u8], told: bool) -> Desk
     ensures { λ r. ⌜ r ≡ headerDesk d (headerLeft (d .s) (now (message .entry))) ⌝ }
 {
     let s = d.s;

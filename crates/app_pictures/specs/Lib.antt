@@ -1,3 +1,4 @@
 pub mod Bmp
+pub mod Png
 pub mod Ppm
 pub mod laws

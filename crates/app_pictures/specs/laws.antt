@@ -1,2 +1,3 @@
 pub mod Bmp
+pub mod Png
 pub mod Ppm

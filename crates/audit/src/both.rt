@@ -32,6 +32,20 @@ fn same_words(a: &[u16], b: &[u16]) -> bool {
     true
 }
 
+fn same_words_32(a: &[u32], b: &[u32]) -> bool {
+    if a.len() != b.len() {
+        return false;
+    }
+    let mut i: usize = 0;
+    while i < a.len() {
+        if a[i] != b[i] {
+            return false;
+        }
+        i += 1;
+    }
+    true
+}
+
 // The component calls: number, bits and list.
 pub fn component_same(mode: u8, code: &[u8], ours: &mut [i32], plain: &mut [i32]) -> bool
     ensures { λ _. ⌜ Unit ⌝ }
@@ -90,7 +104,7 @@ fn plane(
     DIFFER
 }
 
-// The pixels of row y.
+// The pixels of row y, on a glass of 16 bits.
 fn row_same(ys: &[i32], cbs: &[i32], crs: &[i32], y: usize, row: &mut [u16], words: &[u16]) -> bool
     requires { ⌜ Plane (now ys) × Plane (now cbs) × Plane (now crs) ⌝ }
 {
@@ -122,27 +136,76 @@ fn rows_same(ys: &[i32], cbs: &[i32], crs: &[i32], row: &mut [u16], words: &[u16
     true
 }
 
-// The pixels of six planes, three of the product's and three of the plain decoder's.
-fn pixels_same(
+// The pixels of six planes, three of the product's and three of the plain decoder's, on a glass of 16 bits.
+fn pixels_same(ys: &[i32], cbs: &[i32], crs: &[i32], py: &[i32], pb: &[i32], pr: &[i32]) -> bool
+    requires { ⌜ Plane (now ys) × Plane (now cbs) × Plane (now crs) × Plane (now py) × Plane (now pb) × Plane (now pr) ⌝ }
+{
+    let mut row = [0u16; 64];
+    let mut words = [0u16; 4096];
+    plain::pixels(py, pb, pr, &mut words);
+    rows_same(ys, cbs, crs, &mut row, &words)
+}
+
+// The pixels of row y on a glass of 32 bits.
+fn row_same_32(
     ys: &[i32],
     cbs: &[i32],
     crs: &[i32],
-    py: &[i32],
-    pb: &[i32],
-    pr: &[i32],
-    row: &mut [u16],
-    words: &mut [u16],
+    y: usize,
+    row: &mut [u32],
+    words: &[u32],
 ) -> bool
-    requires { ⌜ Plane (now ys) × Plane (now cbs) × Plane (now crs) × Plane (now py) × Plane (now pb) × Plane (now pr) ⌝ }
+    requires { ⌜ Plane (now ys) × Plane (now cbs) × Plane (now crs) ⌝ }
 {
+    if row.len() != 64 {
+        return false;
+    }
     if words.len() != 4096 {
         return false;
     }
-    plain::pixels(py, pb, pr, words);
-    rows_same(ys, cbs, crs, row, words)
+    if 64 <= y {
+        return false;
+    }
+    tile_back::words_row_32(ys, cbs, crs, y, row);
+    let a = 64 * y;
+    let b = a + 64;
+    same_words_32(row, &words[a..b])
 }
 
-// One tile: 0 where samples and pixels are the same, the first refusal's number where both refuse with that, else DIFFER.
+fn rows_same_32(ys: &[i32], cbs: &[i32], crs: &[i32], row: &mut [u32], words: &[u32]) -> bool
+    requires { ⌜ Plane (now ys) × Plane (now cbs) × Plane (now crs) ⌝ }
+{
+    let mut y: usize = 0;
+    while y < 64 {
+        if !row_same_32(ys, cbs, crs, y, row, words) {
+            return false;
+        }
+        y += 1;
+    }
+    true
+}
+
+// The pixels of six planes, three of the product's and three of the plain decoder's on a glass of 32 bits.
+fn pixels_same_32(ys: &[i32], cbs: &[i32], crs: &[i32], py: &[i32], pb: &[i32], pr: &[i32]) -> bool
+    requires { ⌜ Plane (now ys) × Plane (now cbs) × Plane (now crs) × Plane (now py) × Plane (now pb) × Plane (now pr) ⌝ }
+{
+    let mut row = [0u32; 64];
+    let mut words = [0u32; 4096];
+    plain::pixels_32(py, pb, pr, &mut words);
+    rows_same_32(ys, cbs, crs, &mut row, &words)
+}
+
+// On both.
+fn both_same(ys: &[i32], cbs: &[i32], crs: &[i32], py: &[i32], pb: &[i32], pr: &[i32]) -> bool
+    requires { ⌜ Plane (now ys) × Plane (now cbs) × Plane (now crs) × Plane (now py) × Plane (now pb) × Plane (now pr) ⌝ }
+{
+    if pixels_same(ys, cbs, crs, py, pb, pr) {
+        return pixels_same_32(ys, cbs, crs, py, pb, pr);
+    }
+    false
+}
+
+// One tile: 0 where samples and pixels are the same, these on either glass, the first refusal's number where both refuse with that, else DIFFER.
 pub fn tile_same(mode: u8, y: Quant, cb: Quant, cr: Quant, a: &[u8], b: &[u8], c: &[u8]) -> u8
     ensures { λ _. ⌜ Unit ⌝ }
 {
@@ -153,8 +216,6 @@ pub fn tile_same(mode: u8, y: Quant, cb: Quant, cr: Quant, a: &[u8], b: &[u8], c
     let mut pb = [0i32; 4096];
     let mut pr = [0i32; 4096];
     let mut tmp = [0i32; 4096];
-    let mut row = [0u16; 64];
-    let mut words = [0u16; 4096];
     let n = plane(mode, y, a, &mut ys, &mut py, &mut tmp);
     if n != 0 {
         return n;
@@ -167,7 +228,7 @@ pub fn tile_same(mode: u8, y: Quant, cb: Quant, cr: Quant, a: &[u8], b: &[u8], c
     if k != 0 {
         return k;
     }
-    if pixels_same(&ys, &cbs, &crs, &py, &pb, &pr, &mut row, &mut words) {
+    if both_same(&ys, &cbs, &crs, &py, &pb, &pr) {
         return 0;
     }
     DIFFER

@@ -1,4 +1,5 @@
 pub mod Fit
 pub mod Lines
+pub mod Making
 pub mod Parts
 pub mod Same

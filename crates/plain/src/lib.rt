@@ -12,7 +12,7 @@ ghost use Rattle.bands.specs.Bands.{QuantGood, bandOf, quantAt, inRange};
 ghost use Rattle.wave_back.specs.Line.{evenZ, oddZ, evenAt};
 ghost use Rattle.wave_back.specs.Tile.{tileBack};
 ghost use Rattle.wave_back.specs.laws.Level.{levelFrom};
-ghost use Rattle.colour.specs.Colour.{clampByte, redOf, greenOf, blueOf, pack565, wordOf};
+ghost use Rattle.colour.specs.Colour.{clampByte, redOf, greenOf, blueOf, pack565, pack888, wordOf};
 ghost use Rattle.tile_back.specs.Word.{Plane, wordAt};
 ghost use Rattle.plain.specs.Plain.{Component, Sampled, Words};
 ghost use Rattle.plain.specs.laws.Fit.{Sums, Scales};
@@ -284,11 +284,25 @@ fn pack(r: u8, g: u8, b: u8) -> u16
     (r as u16) / 8 * 2048 + (g as u16) / 4 * 32 + (b as u16) / 8
 }
 
+// 02, request Thirteen: "words of 32 bits: R x 65536 + G x 256 + B."
+fn pack_32(r: u8, g: u8, b: u8) -> u32
+    ensures { λ w. ⌜ w ≡ pack888 r g b ⌝ }
+{
+    (r as u32) * 65536 + (g as u32) * 256 + (b as u32)
+}
+
 fn word(y: i32, cb: i32, cr: i32) -> u16
     requires { ⌜ Near 268435456 y × Near 268435456 cb × Near 268435456 cr ⌝ }
     ensures { λ w. ⌜ w ≡ wordOf 0 y cb cr ⌝ }
 {
     pack(red(y, cr), green(y, cb, cr), blue(y, cb))
+}
+
+fn word_32(y: i32, cb: i32, cr: i32) -> u32
+    requires { ⌜ Near 268435456 y × Near 268435456 cb × Near 268435456 cr ⌝ }
+    ensures { λ w. ⌜ w ≡ wordOf 1 y cb cr ⌝ }
+{
+    pack_32(red(y, cr), green(y, cb, cr), blue(y, cb))
 }
 
 // The word at place i of a tile.
@@ -299,12 +313,29 @@ fn pixel(ys: &[i32], cbs: &[i32], crs: &[i32], i: usize) -> u16
     word(ys[i], cbs[i], crs[i])
 }
 
-// A tile's 4,096 pixels.
+fn pixel_32(ys: &[i32], cbs: &[i32], crs: &[i32], i: usize) -> u32
+    requires { ⌜ (i < 4096) × Plane (now ys) × Plane (now cbs) × Plane (now crs) ⌝ }
+    ensures { λ r. ⌜ r ≡ wordAt 1 (now (ys .entry)) (now (cbs .entry)) (now (crs .entry)) i ⌝ }
+{
+    word_32(ys[i], cbs[i], crs[i])
+}
+
+// A tile's 4,096 pixels, on a glass of 16 bits.
 pub fn pixels(ys: &[i32], cbs: &[i32], crs: &[i32], words: &mut [u16])
     requires { ⌜ (length (now words) ≡ 4096) × Plane (now ys) × Plane (now cbs) × Plane (now crs) ⌝ }
     ensures { λ _. ⌜ Words 0 (now (ys .entry)) (now (cbs .entry)) (now (crs .entry)) (now (words .exit)) ⌝ }
 {
     for i in 0..4096 {
         words[i] = pixel(ys, cbs, crs, i);
+    }
+}
+
+// The same on a glass of 32 bits.
+pub fn pixels_32(ys: &[i32], cbs: &[i32], crs: &[i32], words: &mut [u32])
+    requires { ⌜ (length (now words) ≡ 4096) × Plane (now ys) × Plane (now cbs) × Plane (now crs) ⌝ }
+    ensures { λ _. ⌜ Words 1 (now (ys .entry)) (now (cbs .entry)) (now (crs .entry)) (now (words .exit)) ⌝ }
+{
+    for i in 0..4096 {
+        words[i] = pixel_32(ys, cbs, crs, i);
     }
 }

@@ -1,32 +1,48 @@
 // Reads a stream piece by piece and gives each to the collector; the parts that it hands on go to their calls, each with a line on standard error. Document 02,
 // request One. A block of a foreign type is said, and passed over by its blockLen; at any other refusal the stream ends. specs/Play says what the picture shows
-// then, whatever pieces the input gave.
+// then, whatever pieces the input gave, on either glass. What lends no picture is here; `drawing` and `drawing_32` have the rest.
 ghost use mathlib.Core.Path.{_≡_};
-ghost use Rattle.app_calls.specs.Given.{scene};
-ghost use Rattle.show.specs.Play.{foreignOf, anewDesk, settledDesk, Shown};
-use app_calls::calls::Lengths;
+ghost use Rattle.app_text.specs.First.{firstOf};
+ghost use Rattle.app_calls.specs.Given.{deskPart};
+ghost use Rattle.show.specs.Play.{foreignOf, behindOf, placed, anewDesk, settledDesk, Filled, Given, Handed};
 use app_calls::given::Desk;
 use app_text::lines::ERR;
+use collect::Collected;
 use collect::Collector;
 
-// Where the desk stands, the place in the piece that was read and how many bytes it has, how many bytes are to be passed over, and whether it goes on.
+// Where the desk stands, how many bytes the piece has that was read last, what the last hand-over came to, and whether it goes on.
 pub struct Turn {
     pub d: Desk,
-    pub at: usize,
     pub n: usize,
-    pub skip: usize,
+    pub answer: Collected,
     pub go: bool,
 }
 
-fn begin(d: Desk) -> Turn
-    ensures { λ r. ⌜ r .d ≡ d ⌝ }
+pub fn begin(d: Desk) -> Turn
+    ensures { λ r. ⌜ (r .d ≡ d) × (r .n ≡ 0) ⌝ }
 {
     Turn {
         d: d,
-        at: 0,
         n: 0,
-        skip: 0,
+        answer: Collected::More,
         go: true,
+    }
+}
+
+// The desk at a place of the piece.
+fn at_place(d: Desk, at: usize) -> Desk
+    ensures { λ r. ⌜ r ≡ placed d at ⌝ }
+{
+    let s = d.s;
+    let c = d.c;
+    Desk {
+        s: s,
+        c: c,
+        at: at,
+        width: d.width,
+        height: d.height,
+        headers: d.headers,
+        frames: d.frames,
     }
 }
 
@@ -40,48 +56,21 @@ fn read_piece(fd: i32, piece: &mut [u8], size: usize) -> usize {
     io::count(got, part)
 }
 
-// The next piece, where this one is at its end.
+// The next piece, where this one is at its end; what was passed over beyond it is passed over in the next.
 fn fill(t: Turn, fd: i32, size: usize, piece: &mut [u8]) -> Turn
-    ensures { λ r. ⌜ r .d ≡ t .d ⌝ }
+    ensures { λ r. ⌜ Filled (t .d) (firstOf (now (piece .entry)) (t .n)) (r .d) (firstOf (now (piece .exit)) (r .n)) ⌝ }
 {
-    if t.at < t.n {
+    let d = t.d;
+    let end = app_text::loading::first(piece, t.n).len();
+    if d.at < end {
         return t;
     }
-    let d = t.d;
     let n = read_piece(fd, piece, size);
     Turn {
-        d: d,
-        at: 0,
+        d: at_place(d, d.at - end),
         n: n,
-        skip: t.skip,
+        answer: Collected::More,
         go: n != 0,
-    }
-}
-
-// Past the bytes that are to be passed over, as far as they are there.
-fn pass_over(t: Turn) -> Turn
-    ensures { λ r. ⌜ r .d ≡ t .d ⌝ }
-{
-    if t.n < t.at {
-        return t;
-    }
-    let d = t.d;
-    let left = t.n - t.at;
-    if left < t.skip {
-        return Turn {
-            d: d,
-            at: t.n,
-            n: t.n,
-            skip: t.skip - left,
-            go: t.go,
-        };
-    }
-    Turn {
-        d: d,
-        at: t.at + t.skip,
-        n: t.n,
-        skip: 0,
-        go: t.go,
     }
 }
 
@@ -95,7 +84,7 @@ fn foreign(c: Collector) -> bool
     6 <= c.head / 65536
 }
 
-// The collector anew.
+// The collector anew, behind the block whose head was refused.
 fn renewed(d: Desk) -> Desk
     ensures { λ r. ⌜ r ≡ anewDesk d ⌝ }
 {
@@ -103,7 +92,7 @@ fn renewed(d: Desk) -> Desk
     Desk {
         s: s,
         c: collect::reset(),
-        at: d.at,
+        at: std::num::wrapping_add_usize(d.at, behind(d.c)),
         width: d.width,
         height: d.height,
         headers: d.headers,
@@ -112,7 +101,9 @@ fn renewed(d: Desk) -> Desk
 }
 
 // How many bytes of a block stand behind its head.
-fn behind(c: Collector) -> usize {
+fn behind(c: Collector) -> usize
+    ensures { λ r. ⌜ r ≡ behindOf c ⌝ }
+{
     let size = c.head / 65536;
     if size < 6 {
         return 0;
@@ -120,79 +111,63 @@ fn behind(c: Collector) -> usize {
     size - 6
 }
 
-fn on_with(refused: u8, go: bool) -> bool {
-    if refused == 0 {
+// After a hand-over: a foreign block is said and passed over.
+fn settle(d: Desk) -> Desk
+    ensures { λ r. ⌜ r ≡ settledDesk d ⌝ }
+{
+    let c = d.c;
+    if foreign(c) {
+        app_text::lines::say(ERR, b"block: ");
+        app_text::lines::say_refused(c.refused);
+        return renewed(d);
+    }
+    d
+}
+
+// Any other refusal ends the stream.
+fn on_with(c: Collector, go: bool) -> bool {
+    if c.refused == 0 {
         return go;
     }
     false
 }
 
-// After a piece that was given: a foreign block is said and passed over, any other refusal ends it.
-fn settle(t: Turn, e: Desk) -> Turn
-    ensures { λ r. ⌜ r .d ≡ settledDesk e ⌝ }
+// A part that is handed on: a header goes to its call, a frame is counted.
+fn part(d: Desk, answer: Collected, store: &[u8]) -> Desk
+    ensures { λ r. ⌜ r ≡ deskPart (now (store .entry)) d answer ⌝ }
 {
-    let c = e.c;
-    let at = std::num::wrapping_add_usize(t.at, e.at);
-    if foreign(c) {
-        app_text::lines::say(ERR, b"block: ");
-        app_text::lines::say_refused(c.refused);
-        let d = renewed(e);
-        return Turn {
-            d: d,
-            at: at,
-            n: t.n,
-            skip: behind(c),
-            go: t.go,
-        };
+    match answer {
+        Collected::More => d,
+        Collected::Header(size) => {
+            app_calls::given::header(d, app_text::loading::first(store, size), true)
+        }
+        Collected::Frame(size) => app_calls::given::after_frame(d),
+        Collected::Refused(number) => d,
     }
+}
+
+// One hand-over of what is left of a piece.
+fn hand_over(t: Turn, bytes: &[u8], store: &mut [u8]) -> Turn
+    ensures { λ r. ⌜ Given (t .d) (now (bytes .entry)) (now (store .entry)) (now (store .exit)) (r .d) (r .answer) × (r .n ≡ t .n) ⌝ }
+{
+    let d = t.d;
+    let k = collect::collect(d.c, bytes, store);
+    let c = k.collector;
+    let answer = k.answer;
+    let e = settle(part(app_calls::given::advance(d, c, k.taken), answer, store));
     Turn {
         d: e,
-        at: at,
         n: t.n,
-        skip: t.skip,
-        go: on_with(c.refused, t.go),
+        answer: answer,
+        go: on_with(e.c, t.go),
     }
 }
 
-// The next bytes of the input, given to the collector.
-fn next_piece(
-    t: Turn,
-    fd: i32,
-    size: usize,
-    piece: &mut [u8],
-    store: &mut [u8],
-    picture: &mut [u16],
-) -> Turn
-    ensures { λ r. ⌜ Shown (scene (t .d) (now (store .entry)) (now (picture .entry))) (scene (r .d) (now (store .exit)) (now (picture .exit))) ⌝ }
+// The next hand-over, of what is left or of what is read.
+pub fn next(t: Turn, fd: i32, size: usize, piece: &mut [u8], store: &mut [u8]) -> Turn
+    ensures { λ r. ⌜ Handed (t .d) (firstOf (now (piece .entry)) (t .n)) (now (store .entry)) (firstOf (now (piece .exit)) (r .n)) (now (store .exit)) (r .d) (r .answer) ⌝ }
 {
     let a = fill(t, fd, size, piece);
-    let b = pass_over(a);
-    let lists = Lengths {
-        one: 4096,
-        two: 4096,
-        three: 4096,
-    };
-    let bytes = app_calls::given::rest(app_text::loading::first(piece, b.n), b.at);
-    let e = app_calls::given::give(b.d, bytes, store, picture, lists, true);
-    settle(b, e)
-}
-
-// The whole input. A proved loop ends, and nothing says that an input does: the turns are counted down from a number that no run uses up.
-pub fn run(
-    d: Desk,
-    fd: i32,
-    size: usize,
-    piece: &mut [u8],
-    store: &mut [u8],
-    picture: &mut [u16],
-) -> Desk
-    ensures { λ r. ⌜ Shown (scene d (now (store .entry)) (now (picture .entry))) (scene r (now (store .exit)) (now (picture .exit))) ⌝ }
-{
-    let mut t = begin(d);
-    let mut turns = u64::MAX;
-    while 0 < turns && t.go {
-        t = next_piece(t, fd, size, piece, store, picture);
-        turns -= 1;
-    }
-    t.d
+    let bytes = app_calls::given::rest(app_text::loading::first(piece, a.n), a.d.at);
+    hand_over(a, bytes, store)
 }

@@ -5,15 +5,15 @@ use native.Mathlib.Omega.{arith}
 use lib.ListN.{length, take}
 use borrow.Author.Needs.{needs}
 use borrow.Author.Tests.{lt-leb, le-leb}
-use Rattle.wire.specs.Le.{written}
+use Rattle.wire.specs.Le.{bytes16, written}
 use Rattle.whole.specs.laws.Row.{fails, passes}
 use Rattle.app_pictures.specs.Bmp.{wordBytes, putWords}
-use Rattle.app_pictures.specs.laws.Bmp.{words-none, words-all, word-next}
+use Rattle.app_pictures.specs.laws.Bmp.{words-none, words-all, word-next, each16}
 use Rattle.app_pictures.proofs.bmp.put_words.Statement.{statement}
 use Rattle.app_pictures.proofs.bmp.put_words.Tie as tie
 
 abbrev Inv-loop : tie.InvT-loop
-Inv-loop words out₀ i₀ out i = (i ≤ length words) × (length out ≡ length out₀) × (out ≡ written (wordBytes (take i words)) out₀)
+Inv-loop words out₀ i₀ out i = (i ≤ length words) × (length out ≡ length out₀) × (out ≡ written (wordBytes bytes16 (take i words)) out₀)
 
 abbrev μ-loop : tie.MeasureT-loop
 μ-loop words out₀ i₀ out i = length words - i
@@ -23,7 +23,7 @@ unfolding putWords
 returns c = fails _ _ _ _ (lt-leb _ _ (c .if1 .taken)) refl
 
 loop-holds : tie.Need-loop-holds Inv-loop μ-loop
-loop-holds c = (omega arith, refl, words-none (c .before .before .before .args .words .now) _)
+loop-holds c = (omega arith, refl, words-none 2 bytes16 each16 (c .before .before .before .args .words .now) _)
 
 loop-again : tie.Need-loop-again Inv-loop μ-loop
 loop-again c =
@@ -31,14 +31,14 @@ loop-again c =
     let t = s .before in
     let u = t .before .before .before in
     let v = u .before in
-    (omega arith, search needs, word-next _ _ _ _ _ _ (s .put16-at .ensures) (v .loop .inv .2) (t .wide .ensures) (u .loop-test .taken))
+    (omega arith, search needs, word-next 2 bytes16 each16 _ _ _ _ _ _ (s .put16-at .ensures) (v .loop .inv .2) (t .wide .ensures) (u .loop-test .taken))
 
 same-length : tie.Need-same-length Inv-loop μ-loop
 same-length c = c .before .loop .inv .1
 
 returns-2 : tie.Need-returns-2 Inv-loop μ-loop
 unfolding putWords
-returns-2 c = passes _ _ _ _ (le-leb _ _ (c .before .before .if1 .left)) (words-all _ _ _ _ (c .loop-test .left) (c .before .loop .inv .2))
+returns-2 c = passes _ _ _ _ (le-leb _ _ (c .before .before .if1 .left)) (words-all 2 bytes16 each16 _ _ _ _ (c .loop-test .left) (c .before .loop .inv .2))
 
 pub put-words-spec : {M : Type 1} → statement M
 put-words-spec =

@@ -6,15 +6,11 @@ use Rattle.show.proofs.playing.settle.Tie as tie
 
 returns : tie.Need-returns
 returns c =
-    let c5 = c .before .before .before .before .before in
-    let c6 = c5 .before in
-    settle-anew _ _ _ (c .before .renewed .ensures) (c6 .foreign .ensures) (c5 .if1 .taken)
+    let s = c .before .before .before .before in
+    settle-anew _ _ _ (c .renewed .ensures) (s .before .foreign .ensures) (s .if1 .taken)
 
 returns-2 : tie.Need-returns-2
-returns-2 c = settle-same _ _ (c .before .before .foreign .ensures) (c .before .if1 .left)
+returns-2 c = settle-same _ _ (c .before .foreign .ensures) (c .if1 .left)
 
 pub settle-spec : {M : Type 1} → statement M
-settle-spec =
-    tie.close
-    (tie.spec (λ c κs. search needs) (λ c κs. search needs) (λ c. search needs) (λ c κs. search needs) (λ c κs. search needs) (λ c κs. search needs)
-    (λ c κs. search needs) returns (λ c κs. search needs) returns-2)
+settle-spec = tie.close (tie.spec (λ c κs. search needs) (λ c. search needs) (λ c κs. search needs) (λ c κs. search needs) (λ c κs. search needs) returns returns-2)
