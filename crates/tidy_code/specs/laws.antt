@@ -1,2 +1,5 @@
+pub mod Copy
 pub mod Element
+pub mod Fill
+pub mod Meant
 pub mod Walk

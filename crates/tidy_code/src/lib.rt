@@ -34,7 +34,7 @@ fn past(n: usize, i: usize, z: usize) -> usize
 
 // Stores a folded value at place i, if there is such a place.
 fn store(list: &mut [i32], i: usize, v: usize)
-    requires { ⌜ v ≤ 65534 ⌝ }
+    requires { ⌜ (i < length (now list) → v ≤ 65534) ⌝ }
     ensures { λ _. ⌜ now (list .exit) ≡ set (now (list .entry)) i (unfoldZ v) ⌝ }
 {
     if i < list.len() {

@@ -1,19 +1,20 @@
+-- The rows of `placesFor`, one for each way out.
+use Rattle.whole.specs.laws.Row.{rows}
+use Rattle.tidy_code.specs.Loose.{placesFor}
 use Rattle.tidy_code.proofs.places.Statement.{statement}
 use Rattle.tidy_code.proofs.places.Tie as tie
-use Rattle.tidy_code.proofs.places.Reads as reads
-use Rattle.tidy_code.proofs.places.Lts as lts
 
--- src/lib.rt:21:13
 returns : tie.Need-returns
-returns c = ?
+unfolding placesFor
+returns c = search rows
 
--- src/lib.rt:16:1
 returns-2 : tie.Need-returns-2
-returns-2 c = ?
+unfolding placesFor
+returns-2 c = search rows
 
--- src/lib.rt:16:1
 returns-3 : tie.Need-returns-3
-returns-3 c = ?
+unfolding placesFor
+returns-3 c = search rows
 
 pub places-spec : {M : Type 1} → statement M
 places-spec = tie.close (tie.spec returns returns-2 returns-3)

@@ -1,34 +1,25 @@
+-- A place of the list takes the value as it is (`same-bits`); a store past its end changes nothing (`set-out`).
+use mathlib.Core.Path.{sym, ap}
+use native.Mathlib.Omega.{arith}
+use lib.IntN.{ℤ}
+use lib.ListN.{set}
+use lib.Seq.{set-out}
+use Rattle.code.specs.Fold.{unfoldZ}
+use Rattle.code.specs.laws.Place.{same-bits}
 use borrow.Author.Needs.{needs}
 use Rattle.tidy_code.proofs.store.Statement.{statement}
 use Rattle.tidy_code.proofs.store.Tie as tie
-use Rattle.tidy_code.proofs.store.Reads as reads
-use Rattle.tidy_code.proofs.store.Lts as lts
-use Rattle.code.proofs.element.unfolded.Reads as unfolded-reads
 
--- src/lib.rt:41:19
 unfolded-requires : tie.Need-unfolded-requires
-unfolded-requires c κs = search needs
+unfolded-requires c κs = c .before .pre (c .if1 .taken)
 
--- src/lib.rt:41:9
-mul-t7 : tie.Need-mul-t7
-mul-t7 c = search needs
-
--- src/lib.rt:41:9
-slice-set-from-list : tie.Need-slice-set-from-list
-slice-set-from-list c = search needs
-
--- src/lib.rt:36:1
-same-length : tie.Need-same-length
-same-length c = search needs
-
--- src/lib.rt:36:1
 returns : tie.Need-returns
-returns c = ?
+returns c =
+    let a = c .before .before .args in
+    ap (λ (x : ℤ). set (a .list .now) (a .i) x) (same-bits (c .unfolded .result) (a .v) (record { sfits = c .unfolded .ok }) (c .unfolded .ensures))
 
--- src/lib.rt:36:1
 returns-2 : tie.Need-returns-2
-returns-2 c = ?
+returns-2 c = let a = c .before .args in sym (set-out (a .list .now) (a .i) (unfoldZ (a .v)) (omega arith))
 
 pub store-spec : {M : Type 1} → statement M
-store-spec =
-    tie.close (tie.spec unfolded-requires mul-t7 slice-set-from-list same-length returns returns-2)
+store-spec = tie.close (tie.spec unfolded-requires (λ c. search needs) (λ c. search needs) (λ c. search needs) returns returns-2)
