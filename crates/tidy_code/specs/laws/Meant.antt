@@ -134,3 +134,12 @@ module _ (mode : ℕ) (s : List ℕ) (zs : List ℤ) (m : meantBy mode s ≡ mea
 pub others-kept : (mode : ℕ) (s : List ℕ) → meantBy mode s ≡ unclear → tidyCode mode s ≡ s
 unfolding tidyCode tidiedBy
 others-kept mode s e = ap (tidiedBy mode s) e
+
+-- where loose reading says no
+is-unclear : (m : Meant) → isMeant m ≡ false → m ≡ unclear
+unfolding isMeant
+is-unclear unclear e = refl
+is-unclear (means zs) e = let z : _≡_ {A = ℕ} 0 1 = cc in absurd (omega arith)
+
+pub no-kept : (mode : ℕ) (s : List ℕ) (after : List ℤ) (r : Bool) → LooselyRead mode s after r → r ≡ false → s ≡ tidyCode mode s
+no-kept mode s after r a e = sym (others-kept mode s (is-unclear (meantBy mode s) (sym (a .answer) ∙ e)))
