@@ -2,4 +2,5 @@ pub mod Copy
 pub mod Element
 pub mod Fill
 pub mod Meant
+pub mod Request
 pub mod Walk

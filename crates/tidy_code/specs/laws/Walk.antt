@@ -136,3 +136,8 @@ loose rlgr3 n B ys next e =
     flat xs ea el r i p =
         let c : codeF n rlgr3 8 8 xs ≡ codeF (length ys) rlgr3 8 8 ys = rw (ea, el) in
         record { len = ap length ea ∙ el; range = rw ea r; inside = i; few = omega (arith, ap length c, p) }
+
+-- what 01 reads whole is read so loosely
+pub strict-loose :
+    (rlgr3 : Bool) (n : ℕ) (B : List Bool) (xs : List ℕ) (at : ℕ) → readList rlgr3 n B ≡ whole xs at → looseList rlgr3 n B ≡ whole xs at
+strict-loose rlgr3 n B xs at e = ⊎-elim (λ b. let z : _≡_ {A = ℕ} 0 1 = cc in absurd (omega arith)) (λ s. s ∙ e) (list-same rlgr3 n B)
