@@ -1,11 +1,11 @@
--- A component's code as a filter in front of the panel takes it. Two habits of encoders are mended: bits behind a code that is complete (11), "if fewer than 32 bits
--- follow it", and "a last pair whose second value has no place" (10), "written again with that value zero, as 001's decoder drops it". Both are read by 01's
--- elements, and what comes out is 01's own code of the list that was read.
+-- A component's code as a filter in front of the panel takes it. Two habits of encoders are mended: bits behind a code that is complete (11), "if fewer than 32
+-- bits follow it", and "a last pair whose second value has no place" (10), "written again with that value zero, as 001's decoder drops it". Both are read by
+-- 01's elements, and what comes out is 01's own code of the list that was read.
 -- (01 is this project's scope document, 02 its change requests, 001 is MS-RDPRFX: README, "What 01 is".)
 use Prim.Native.Nat.{ℕ, zero, suc, _-_}
 use mathlib.Core.Path.{_≡_}
 use mathlib.Core.Bool.{Bool, true, false}
-use mathlib.Core.List.{List, [], _∷_, map}
+use mathlib.Core.List.{List, [], map}
 use lib.Dec.{ltb, leb, eqb}
 use lib.IntN.{ℤ}
 use lib.ListN.{length}

@@ -3,20 +3,20 @@
 use Prim.Native.Nat.{ℕ, zero, suc, _+_, _-_, _/_, _^_, _≤_, _<_, min}
 use mathlib.Core.Path.{_≡_, refl, sym, ap, _∙_}
 use mathlib.Core.Bool.{Bool, true, false}
-use mathlib.Core.Logic.{_⊎_, inl, inr, ⊎-elim}
+use mathlib.Core.Logic.{_⊎_, inl, inr}
 use mathlib.Core.List.{List, [], _∷_, _++_, append-nil}
 use native.Mathlib.Omega.{arith}
 use native.Mathlib.Nat.{div-lt-iff-lt-mul, lt-suc-self, lt-of-le-of-lt, le-of-suc-le-suc}
 use borrow.Author.Tests.{lt-ltb, le-ltb, ltb-true, ltb-false}
 use lib.Dec.{ltb}
-use lib.ListN.{length, drop, take, getD, replicate, length-append, length-replicate, length-take, length-drop}
+use lib.ListN.{length, drop, take, getD, replicate, length-append, length-drop}
 use lib.Pow.{pow-pos}
 use Rattle.whole.specs.Row.{_⇒_∣_}
 use Rattle.bits.specs.Bits.{numOf, grOf}
 use Rattle.bits.specs.declared.Num.{Num}
 use Rattle.bits.specs.declared.Num.the-variants.{Got, Cut}
 use Rattle.code.specs.Code.{size, sizeF, pairBits, codeF, InRange, kpTwo, krAfter}
-use Rattle.code.specs.ReadList.{stateAt, elemOf, twoElem, twoSecond, oneElem, judgeTwo, wide}
+use Rattle.code.specs.ReadList.{stateAt, elemOf, twoElem, twoSecond, oneElem, wide}
 use Rattle.code.specs.laws.Code.{codeF-twin}
 use Rattle.code.specs.laws.Taken.{Took, Told, elem-told}
 use Rattle.code.specs.declared.element.State.{State}

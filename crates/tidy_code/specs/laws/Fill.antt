@@ -6,7 +6,7 @@ use mathlib.Core.List.{List, [], _∷_, _++_, map, append-assoc, append-nil}
 use native.Mathlib.Omega.{arith}
 use lib.Dec.{ltb}
 use lib.IntN.{ℤ, pos}
-use lib.ListN.{length, take, set, replicate, getD, length-append, length-replicate, length-map, length-take, length-set, replicate-append-replicate}
+use lib.ListN.{length, take, set, replicate, length-append, length-replicate, length-map, length-take, length-set, replicate-append-replicate}
 use lib.Seq.{getD-at, set-at, set-out, take-all, append-snoc}
 use Rattle.whole.specs.Row.{_⇒_∣_}
 use Rattle.bits.specs.Bits.{bitsOf}
@@ -18,7 +18,7 @@ use Rattle.code.specs.declared.element.State.{State}
 use Rattle.code.specs.declared.element.Refusal.{Refusal}
 use Rattle.code.specs.declared.element.Element.{Element}
 use Rattle.code.specs.declared.element.Element.the-variants.{Zeros, One, Two, Refused}
-use Rattle.tidy_code.specs.Loose.{placesFor, looseWalk, looseList, means, unclear, meantEnd, isMeant, Answers}
+use Rattle.tidy_code.specs.Loose.{placesFor, looseWalk, looseList, meantEnd, isMeant, Answers}
 use Rattle.tidy_code.specs.laws.Element.{Loosed, Loosely, elem-loosely}
 
 -- ---- a list of n numbers that begins with the folded values xs; zeros stand behind them

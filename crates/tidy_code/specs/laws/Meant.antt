@@ -1,15 +1,15 @@
--- What it is that some bytes mean a list: they were read whole with few bits behind, the list is 4,096 numbers in range, and its code has no more bytes than there
--- were.
-use Prim.Native.Nat.{ℕ, zero, suc, _+_, _*_, _-_, _/_, _≤_, _<_}
+-- What it is that some bytes mean a list: they were read whole with few bits behind, the list is 4,096 numbers in range, and its code has no more bytes than
+-- there were.
+use Prim.Native.Nat.{ℕ, _-_, _≤_, _<_}
 use mathlib.Core.Path.{_≡_, refl, sym, ap, subst, _∙_}
 use mathlib.Core.Bool.{Bool, true, false}
 use mathlib.Core.List.{List, map}
 use native.Mathlib.Omega.{arith}
 use borrow.Author.Tests.{le-leb, lt-leb, lt-ltb, ltb-true, eq-eqb, ne-eqb, eqb-true}
-use lib.Dec.{ltb, leb, eqb}
+use lib.Dec.{ltb, eqb}
 use lib.IntN.{ℤ}
 use lib.ListN.{length, length-map}
-use Rattle.whole.specs.Row.{_!_⨾_, _⇒_∣_}
+use Rattle.whole.specs.Row.{_⇒_∣_}
 use Rattle.whole.specs.laws.Row.{held, passes, fails}
 use Rattle.wire.specs.Mode.{isMode}
 use Rattle.bits.specs.Bits.{bitsOf}
@@ -123,8 +123,8 @@ module _ (mode : ℕ) (s : List ℕ) (zs : List ℤ) (m : meantBy mode s ≡ mea
   -- every bit of the list's code was read
   pub meant-few : length (bytesOf mode zs) ≤ length s
   meant-few =
-      let c : length (code mode zs) ≤ meaning mode s zs m .at = subst (λ (x : List ℕ). length (codeOf (eqb mode 4) x) ≤ meaning mode s zs m .at) (sym folded-back)
-      (read-loosely .few) in
+      let c : length (code mode zs) ≤ meaning mode s zs m .at =
+      subst (λ (x : List ℕ). length (codeOf (eqb mode 4) x) ≤ meaning mode s zs m .at) (sym folded-back) (read-loosely .few) in
       omega (arith, c, read-loosely .inside, length-bitsOf s, bytes-length mode zs)
 
   pub is-code : tidyCode mode s ≡ bytesOf mode zs

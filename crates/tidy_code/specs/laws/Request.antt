@@ -6,17 +6,17 @@ use mathlib.Core.Bool.{Bool, true, false, true≢false}
 use mathlib.Core.Logic.{⊎-elim}
 use mathlib.Core.List.{List, [], _∷_, _++_, map}
 use native.Mathlib.Omega.{arith}
-use borrow.Author.Tests.{ltb-true, eq-eqb, le-leb}
+use borrow.Author.Tests.{ltb-true, le-leb}
 use lib.Dec.{ltb, eqb}
 use lib.IntN.{ℤ}
 use lib.ListN.{length, drop, length-append, length-map, length-drop}
 use Rattle.whole.specs.Row.{_!_⨾_}
 use Rattle.whole.specs.Among.{among, Among}
-use Rattle.whole.specs.laws.Among.{said, among-row}
+use Rattle.whole.specs.laws.Among.{said}
 use Rattle.whole.specs.laws.Row.{held, passes}
 use Rattle.bits.specs.Bits.{bitsOf}
 use Rattle.bits.specs.laws.Bytes.{Bytes}
-use Rattle.code.specs.Fold.{foldZ, unfoldZ}
+use Rattle.code.specs.Fold.{foldZ}
 use Rattle.code.specs.laws.Fold.{map-unfold, range-fold}
 use Rattle.code.specs.ReadList.{Walked, whole, bad, readList, refusalNumber}
 use Rattle.code.specs.declared.element.Refusal.the-variants.{Overrun}
@@ -105,7 +105,8 @@ of-these-kinds : (mode : ℕ) (s : List ℕ) (zs : List ℤ) → meantBy mode s 
 of-these-kinds mode s zs m =
     let a = meaning mode s zs m in
     ⊎-elim (λ b. subst (Among (0 ∷ 10 ∷ 11 ∷ [])) (sym (number-by mode s (bad Overrun) (a .shell) b)) (kind-over (bitsOf s)))
-    (λ e. subst (Among (0 ∷ 10 ∷ 11 ∷ [])) (sym (number-by mode s (whole (a .xs) (a .at)) (a .shell) (sym e ∙ a .walked))) (kind-whole (bitsOf s) (a .xs) (a .at)))
+    (λ e. subst (Among (0 ∷ 10 ∷ 11 ∷ [])) (sym (number-by mode s (whole (a .xs) (a .at)) (a .shell) (sym e ∙ a .walked)))
+    (kind-whole (bitsOf s) (a .xs) (a .at)))
     (list-same (eqb mode 4) 4096 (bitsOf s))
 
 -- ---- all bytes

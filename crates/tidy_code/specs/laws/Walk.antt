@@ -1,5 +1,5 @@
--- The loose walk over a code: it is 01's own walk, except where 01 refuses with 10; and the list that it gives is in range, as long as it should be, and its code has
--- no more bits than were read.
+-- The loose walk over a code: it is 01's own walk, except where 01 refuses with 10; and the list that it gives is in range, as long as it should be, and its
+-- code has no more bits than were read.
 use Prim.Native.Nat.{ℕ, zero, suc, _+_, _-_, _≤_, _<_, min}
 use mathlib.Core.Path.{_≡_, refl, sym, ap, _∙_}
 use mathlib.Core.Bool.{Bool}
