@@ -4,14 +4,15 @@
 -- (01 is this project's scope document, 02 its change requests, 001 is MS-RDPRFX: README, "What 01 is".)
 use Prim.Native.Nat.{ℕ, zero, suc, _-_}
 use mathlib.Core.Path.{_≡_}
-use mathlib.Core.Bool.{Bool, true, false}
-use mathlib.Core.List.{List, [], map}
+use mathlib.Core.Bool.{Bool, true, false, _&&_}
+use mathlib.Core.List.{List, [], _∷_, map}
 use lib.Dec.{ltb, leb, eqb}
 use lib.IntN.{ℤ}
-use lib.ListN.{length}
+use lib.ListN.{length, drop}
 use Rattle.whole.specs.Row.{_!_⨾_, _⇒_∣_}
 use Rattle.bits.specs.Bits.{bitsOf}
-use Rattle.code.specs.Fold.{unfoldZ}
+use Rattle.code.specs.Fold.{foldZ, unfoldZ}
+use Rattle.code.specs.Code.{itemOf, itemUsed, itemKp, itemKrp}
 use Rattle.code.specs.ReadList.{Walked, whole, bad, elemOf, step}
 use Rattle.code.specs.Read.{shellFault}
 use Rattle.code_write.specs.Write.{bytesOf}
@@ -61,6 +62,21 @@ tidiedBy mode s (means zs) = leb (length (bytesOf mode zs)) (length s) ! s ⨾ b
 -- "each component's code cut to the length that the component reader reports, if fewer than 32 bits follow it"; what is unclear stays as it is
 unfoldable pub tidyCode : ℕ → List ℕ → List ℕ
 tidyCode mode s = tidiedBy mode s (meantBy mode s)
+
+-- ---- the second habit, said of a list
+
+-- does the RLGR3 code of some folded values end with a pair of which both stand in the list? An encoder that codes one value more than there are places for
+-- writes "a last pair whose second value has no place" exactly there; f bounds the list's length
+unfoldable pub pairLastF : ℕ → ℕ → ℕ → List ℕ → Bool
+pairLastF zero kp krp xs = false
+pairLastF (suc f) kp krp [] = false
+pairLastF (suc f) kp krp (x ∷ xs) =
+    (ltb kp 8 && eqb (length xs) 1) ⇒ true ∣
+    pairLastF f (itemKp kp (itemOf true kp (x ∷ xs))) (itemKrp krp (itemOf true kp (x ∷ xs))) (drop (itemUsed kp (itemOf true kp (x ∷ xs))) (x ∷ xs))
+
+unfoldable pub pairLast : List ℤ → Bool
+unfolding pairLastF
+pairLast zs = pairLastF (length zs) 8 8 (map foldZ zs)
 
 -- ---- what the functions promise
 

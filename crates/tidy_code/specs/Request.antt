@@ -1,9 +1,9 @@
 -- What is promised of a tidied code, for every mode and all bytes, on one page. Proved by `tidyCodes` (laws/Request).
 use Prim.Native.Nat.{ℕ, _≤_, _<_}
 use mathlib.Core.Path.{_≡_}
-use mathlib.Core.Bool.{Bool}
+use mathlib.Core.Bool.{Bool, true}
 use mathlib.Core.List.{List, [], _∷_, _++_}
-use lib.IntN.{ℤ}
+use lib.IntN.{ℤ, natAbs}
 use lib.ListN.{length}
 use Rattle.whole.specs.Among.{Among}
 use Rattle.bits.specs.Bits.{bitsOf}
@@ -11,7 +11,7 @@ use Rattle.bits.specs.laws.Bytes.{Bytes}
 use Rattle.code.specs.OneCode.{code, Listed, Call}
 use Rattle.code.specs.Read.{readFault, readBits, decoded}
 use Rattle.code_write.specs.Write.{bytesOf}
-use Rattle.tidy_code.specs.Loose.{means, unclear, meantBy, tidyCode}
+use Rattle.tidy_code.specs.Loose.{means, unclear, meantBy, tidyCode, pairLast}
 
 pub record TidyCodes : Type 1 where
   -- a code that the panel takes is kept byte for byte
@@ -22,6 +22,10 @@ pub record TidyCodes : Type 1 where
   pub tail-means :
       (mode : ℕ) (s : List ℕ) (before zs : List ℤ) (rest : List Bool) → Call mode s before → Listed zs → bitsOf s ≡ code mode zs ++ rest → length rest < 32 →
       (meantBy mode s ≡ means zs) × (readBits mode 4096 s ≡ length (code mode zs))
+  -- one number more than the 4,096, the second of the code's last pair, and fewer than 32 bits behind it: the bytes mean the 4,096
+  pub pair-means :
+      (s : List ℕ) (before zs : List ℤ) (b : ℤ) (rest : List Bool) → Call 4 s before → Listed zs → natAbs b ≤ 32767 → pairLast (zs ++ (b ∷ [])) ≡ true →
+      bitsOf s ≡ code 4 (zs ++ (b ∷ [])) ++ rest → length rest < 32 → meantBy 4 s ≡ means zs
   -- whatever is meant is 4,096 numbers in range
   pub meant-listed : (mode : ℕ) (s : List ℕ) (zs : List ℤ) → meantBy mode s ≡ means zs → Listed zs
   -- what is meant is what the panel reads of the tidied code: it is accepted, and its list is the one meant

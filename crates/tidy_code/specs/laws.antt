@@ -2,5 +2,6 @@ pub mod Copy
 pub mod Element
 pub mod Fill
 pub mod Meant
+pub mod Pair
 pub mod Request
 pub mod Walk

@@ -192,7 +192,7 @@ code-none (suc f) rlgr3 kp krp = refl
 
 -- the last pair, of which one value is taken
 module _ (kp krp at : ℕ) (B : List Bool) (h : kp < 8) where
-  twin-bits : (f a : ℕ) (xs : List ℕ) → drop 1 xs ≡ [] → (b : ℕ) → getD xs 0 0 ≡ b → codeF (suc f) true kp krp (a ∷ xs) ≡ pairBits krp a b
+  pub twin-bits : (f a : ℕ) (xs : List ℕ) → drop 1 xs ≡ [] → (b : ℕ) → getD xs 0 0 ≡ b → codeF (suc f) true kp krp (a ∷ xs) ≡ pairBits krp a b
   twin-bits f a xs e b g =
       codeF-twin f kp krp a xs h
       ∙ rw (e, g, code-none f true (kpTwo kp a b) (krAfter krp (a + b))) (append-nil (pairBits krp a b))

@@ -118,7 +118,7 @@ module _ (rlgr3 : Bool) (n : ℕ) (B : List Bool) where
   pub filling-length : (out : List ℤ) (c : State) (i : ℕ) → Filling rlgr3 n B out c i → length out ≡ n
   filling-length out c i w = holds-length n out (w .xs) (w .holds) (omega (arith, w .long, w .room))
 
-  walk-none : (f kp krp at : ℕ) (done : List ℕ) → looseWalk f rlgr3 kp krp at 0 done B ≡ whole done at
+  pub walk-none : (f kp krp at : ℕ) (done : List ℕ) → looseWalk f rlgr3 kp krp at 0 done B ≡ whole done at
   unfolding looseWalk
   walk-none zero kp krp at done = refl
   walk-none (suc f) kp krp at done = refl

@@ -54,7 +54,7 @@ pub record Gone (f : ℕ) (rlgr3 : Bool) (kp krp at left : ℕ) (done : List ℕ
   pub inside : next ≤ length B
   pub few : at + length (codeF f rlgr3 kp krp xs) ≤ next
 
-range-append : (a b : List ℕ) → InRange a → InRange b → InRange (a ++ b)
+pub range-append : (a b : List ℕ) → InRange a → InRange b → InRange (a ++ b)
 range-append [] b p q i = q i
 range-append (x ∷ a) b p q zero = p 0
 range-append (x ∷ a) b p q (suc i) = range-append a b (λ j. p (suc j)) q i
