@@ -1,4 +1,3 @@
-pub mod Copy
 pub mod Element
 pub mod Fill
 pub mod Meant

@@ -96,18 +96,6 @@ pub fn read_loose(mode: u8, s: &[u8], list: &mut [i32]) -> bool
     fill(s, mode == 4, list)
 }
 
-// Some bytes into the output at a place.
-pub fn copy(out: &mut [u8], at: usize, s: &[u8])
-    requires { ⌜ at + length (now s) ≤ length (now out) ⌝ }
-    ensures { λ _. ⌜ now (out .exit) ≡ patch (now (out .entry)) at (now (s .entry)) ⌝ }
-{
-    let mut i: usize = 0;
-    while i < s.len() {
-        out[at + i] = s[i];
-        i += 1;
-    }
-}
-
 // Writes a component's tidied code at a place of the output; `list` is lent to work in. The answer is the place past it. The code is not measured: it is never
 // longer than what came (law `never-longer`).
 pub fn put_tidied(mode: u8, s: &[u8], list: &mut [i32], out: &mut [u8], at: usize) -> usize
@@ -117,6 +105,6 @@ pub fn put_tidied(mode: u8, s: &[u8], list: &mut [i32], out: &mut [u8], at: usiz
     if read_loose(mode, s, list) {
         return code_write::call::put_component(mode, list, out, at);
     }
-    copy(out, at, s);
+    collect::copy(out, at, s, 0, s.len());
     at + s.len()
 }

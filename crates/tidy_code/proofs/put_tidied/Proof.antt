@@ -1,11 +1,11 @@
 -- Where a list is meant its own code is the tidied one, and has room (`is-code`, `meant-few`); else the bytes are (`no-kept`).
-use Prim.Native.Nat.{_+_}
+use Prim.Native.Nat.{ℕ, _+_}
 use mathlib.Core.Path.{sym, ap, _∙_}
+use mathlib.Core.List.{List}
 use native.Mathlib.Omega.{arith}
 use borrow.Author.Needs.{needs}
-use mathlib.Core.List.{List}
-use Prim.Native.Nat.{ℕ}
 use lib.ListN.{length}
+use lib.Seq.{take-length}
 use Rattle.wire.specs.Le.{patch}
 use Rattle.tidy_code.specs.laws.Meant.{meant-range, meant-few, is-code, no-kept}
 use Rattle.tidy_code.proofs.put_tidied.Statement.{statement}
@@ -37,7 +37,7 @@ returns-2 c =
     let r = t .before .before in
     let a = r .before .before .before .before .args in
     let e = no-kept (a .mode) (a .s .now) (r .read-loose .last .1 .1 .0) (r .read-loose .result) (r .read-loose .ensures) (t .if1 .left) in
-    (c .before .before .copy .ensures ∙ ap (patch (a .out .now) (a .at)) e, ap (λ (x : List ℕ). a .at + length x) e)
+    (c .before .before .copy .ensures ∙ ap (patch (a .out .now) (a .at)) (take-length (a .s .now) ∙ e), ap (λ (x : List ℕ). a .at + length x) e)
 
 pub put-tidied-spec : {M : Type 1} → statement M
 put-tidied-spec =
