@@ -1,3 +1,4 @@
+pub mod Cases
 pub mod Element
 pub mod Fill
 pub mod Meant
