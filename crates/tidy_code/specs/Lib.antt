@@ -1,0 +1,3 @@
+pub mod Loose
+pub mod Request
+pub mod laws
