@@ -86,11 +86,10 @@ static void short_frame(void)
 static void tidied(void)
 {
     static uint8_t bent[sizeof frame], sent[sizeof frame];
-    size_t cut, all = size;
-    memcpy(bent, frame, all);
-    bent[all - 9] |= 1;
-    judge(xurbalenz_tidy_frame(70, 40, XURBALENZ_RLGR3, bent, all, work.y, XURBALENZ_LIST, sent, sizeof sent, &size, &cut));
-    size = all;
+    size_t cut;
+    memcpy(bent, frame, frame_size);
+    bent[frame_size - 9] |= 1;
+    judge(xurbalenz_tidy_frame(70, 40, XURBALENZ_RLGR3, bent, frame_size, work.y, XURBALENZ_LIST, sent, sizeof sent, &size, &cut));
 }
 
 static void settings(void)
