@@ -18,7 +18,7 @@ pub extern "C" fn xurbalenz_tidy_frame(
     ensures { λ n. ⌜ TidyFrameCall width height mode (now (message .entry)) (now (list .entry)) (now (list .exit)) (now (out .entry)) (now (out .exit)) (now (size .exit)) (now (cut .exit)) n ⌝ }
 {
     let s = session::of_numbers(4, width, height, mode);
-    let t = tidy::frame::tidy_frame(s, message, list, out);
+    let t = tidy::frames::tidy_frame(s, message, list, out);
     *size = t.size;
     *cut = t.cut;
     t.number

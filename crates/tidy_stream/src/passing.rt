@@ -5,7 +5,7 @@ use app_text::lines::OUT;
 use collect::Collected;
 use collect::Collector;
 use session::Session;
-use tidy::frame::Tidied;
+use tidy::frames::Tidied;
 use tidy::headers::Gave;
 use tidy::headers::Waiting;
 
@@ -159,7 +159,7 @@ fn frame_on(d: Desk, t: Tidied, message: &[u8], out: &[u8]) -> Desk {
 // A frame, behind the headers that still wait.
 fn frame(from: Desk, message: &[u8], held: &[u8], list: &mut [i32], out: &mut [u8]) -> Desk {
     let d = let_go(from, held, out);
-    let t = tidy::frame::tidy_frame(d.s, message, list, out);
+    let t = tidy::frames::tidy_frame(d.s, message, list, out);
     frame_on(d, t, message, out)
 }
 
