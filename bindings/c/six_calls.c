@@ -246,6 +246,63 @@ static void changes(uint8_t mode)
           size == 72);
 }
 
+static size_t number_at(const uint8_t *at, int bytes)
+{
+    size_t n = 0;
+    while (bytes--) n = n << 8 | at[bytes];
+    return n;
+}
+
+static void put_number(uint8_t *at, size_t n, int bytes)
+{
+    for (; bytes--; n >>= 8) *at++ = (uint8_t)n;
+}
+
+/* A frame of our own with a zero byte behind each code, as FreeRDP leaves them: the panel refuses it, and tidied it is what our writer wrote. */
+static void surplus(uint8_t mode)
+{
+    static const uint8_t quant[10] = XURBALENZ_DEFAULT_QUANT;
+    static uint8_t bent[sizeof out], tidied[sizeof out];
+    size_t size = 9, cut = 9, tiles = 9, from = 64, to = 64;
+    frames(mode);
+    memset(pixels + 3 * 65, 100, 9);
+    CHECK(xurbalenz_write_frame(70, 40, mode, quant, 5, pixels, sizeof pixels, y, XURBALENZ_LIST, scratch, XURBALENZ_LIST, out, sizeof out, &size) ==
+          XURBALENZ_DONE);
+    memcpy(bent, out, 64);
+    for (int tile = 0; tile < 2; tile++) {
+        size_t head = to, code = from + 19;
+        memcpy(bent + to, out + from, 19);
+        to += 19;
+        for (int k = 0; k < 3; k++) {
+            size_t length = number_at(out + from + 13 + 2 * k, 2);
+            memcpy(bent + to, out + code, length);
+            bent[to + length] = 0;
+            put_number(bent + head + 13 + 2 * k, length + 1, 2);
+            to += length + 1;
+            code += length;
+        }
+        put_number(bent + head + 2, to - head, 4);
+        from = code;
+    }
+    put_number(bent + 39, to - 37, 4);
+    put_number(bent + 55, to - 64, 4);
+    memcpy(bent + to, out + from, 8);
+    CHECK(from + 8 == size && to + 8 == size + 6);
+    CHECK(xurbalenz_read_frame(&session, bent, to + 8, picture, 70 * 40, y, XURBALENZ_LIST, cb, XURBALENZ_LIST, cr, XURBALENZ_LIST, scratch, XURBALENZ_LIST,
+                               &tiles) == XURBALENZ_TAIL);
+    size_t done = 9;
+    CHECK(xurbalenz_tidy_frame(70, 40, mode, bent, to + 8, y, XURBALENZ_LIST - 1, tidied, sizeof tidied, &done, &cut) == XURBALENZ_BUFFER && done == 0 &&
+          cut == 0);
+    CHECK(xurbalenz_tidy_frame(70, 40, mode, bent, to + 8, y, XURBALENZ_LIST, tidied, to + 7, &done, &cut) == XURBALENZ_ROOM && done == 0 && cut == 0);
+    CHECK(xurbalenz_tidy_frame(70, 40, mode, bent, to + 8, y, XURBALENZ_LIST, tidied, sizeof tidied, &done, &cut) == XURBALENZ_DONE && done == size && cut == 6);
+    CHECK(memcmp(tidied, out, size) == 0 && all(y, 0));
+    CHECK(xurbalenz_tidy_frame(70, 40, mode, out, size, y, XURBALENZ_LIST, tidied, sizeof tidied, &done, &cut) == XURBALENZ_DONE && done == size && cut == 0);
+    CHECK(memcmp(tidied, out, size) == 0);
+    bent[12] = 2; /* two regions: as it came */
+    CHECK(xurbalenz_tidy_frame(70, 40, mode, bent, to + 8, y, XURBALENZ_LIST, tidied, sizeof tidied, &done, &cut) == XURBALENZ_DONE && done == to + 8 &&
+          cut == 0 && memcmp(tidied, bent, done) == 0);
+}
+
 int main(void)
 {
     constants();
@@ -255,10 +312,12 @@ int main(void)
     records(XURBALENZ_RLGR1);
     works(XURBALENZ_RLGR1);
     changes(XURBALENZ_RLGR1);
+    surplus(XURBALENZ_RLGR1);
     frames(XURBALENZ_RLGR3);
     records(XURBALENZ_RLGR3);
     works(XURBALENZ_RLGR3);
     changes(XURBALENZ_RLGR3);
+    surplus(XURBALENZ_RLGR3);
     printf("six_calls: %d checks, %d faults\n", checks, faults);
     return faults != 0;
 }

@@ -82,6 +82,16 @@ static void short_frame(void)
                                       XURBALENZ_LIST, work.scratch, XURBALENZ_LIST, sent, sizeof sent, &size));
 }
 
+/* The frame passed on with a 1 behind its last code, where that has room for one. */
+static void tidied(void)
+{
+    static uint8_t bent[sizeof frame], sent[sizeof frame];
+    size_t cut;
+    memcpy(bent, frame, frame_size);
+    bent[frame_size - 9] |= 1;
+    judge(xurbalenz_tidy_frame(70, 40, XURBALENZ_RLGR3, bent, frame_size, work.y, XURBALENZ_LIST, sent, sizeof sent, &size, &cut));
+}
+
 static void settings(void)
 {
     static uint8_t luma[10] = XURBALENZ_DEFAULT_QUANT, chroma[10] = {7, 7, 7, 7, 8, 8, 9, 9, 9, 10}, bytes[XURBALENZ_SETTINGS_SIZE], mode;
@@ -109,8 +119,8 @@ static size_t depth(void (*call)(void))
 int main(void)
 {
     static void (*const calls[])(void) = {write_headers, read_header,     read_header,    read_header, read_header,
-                                          write_frame,   write_component, read_component, read_frame,  collect,
-                                          collect_reset, capabilities,    short_frame,     settings};
+                                          write_frame,   tidied,          write_component, read_component, read_frame,
+                                          collect,       collect_reset,   capabilities,    short_frame,    settings};
     size_t i, deepest = 0, bare = depth(nothing);
     for (i = 0; i < sizeof pixels; i++) pixels[i] = (uint8_t)(i * i >> 5);
     for (i = 0; i < XURBALENZ_LIST; i++) work.cb[i] = (int32_t)(i % 7) - 3;

@@ -4,6 +4,7 @@
  * Link target/staticlib/libxurbalenz.a (made by `tools/archive`, x86-64). Its functions read four header blocks and whole frames into a
  * lent picture of 16-bit or 32-bit words, and write headers, components and frames; and they gather header blocks and frames from a network card's
  * bytes, however these are cut;
+ * they make frames of other senders acceptable;
  * and they read and write what a client says of its capabilities and the frames that it acknowledges, and the settings that a cabinet keeps.
  *
  * WHAT YOU CAN RELY ON
@@ -382,6 +383,23 @@ uint8_t xurbalenz_write_frame_short(size_t width, size_t height, uint8_t mode, c
                                     const uint8_t *old, size_t old_len, const uint8_t *next, size_t next_len,
                                     const uint32_t *picks, size_t picks_len, int32_t *list, size_t list_len, int32_t *scratch, size_t scratch_len,
                                     uint8_t *out, size_t out_len, size_t *size);
+
+/* ---- what other senders write, made acceptable ---- */
+
+/*
+ * Passes one frame on to a panel behind it, for senders whose codes this library's reader refuses (11, 10) although their meaning is plain: surplus bits, fewer
+ * than 32, behind a code that is complete (FreeRDP leaves a zero byte), and a last value that has no place (a habit of MS-RDPRFX's own encoder). message is the
+ * frame; width, height and mode are those of the session's headers. list: a work list of 4,096 numbers.
+ *
+ * A frame that the panel accepts goes on byte for byte. One whose only faults are these goes on with such codes written again as the panel reads them, and
+ * shows the decoding of the same numbers. Every other frame goes on as it came, to be refused by its number. Never does a frame become longer.
+ *
+ * Judged in this order: list_len (2), out_len below message_len (13).
+ * Afterwards: done - *size bytes of out are the frame to hand on, bytes past them are untouched, *cut is how many of its codes were changed (0: it is as it came), and
+ * list holds only zeros; refused - out and list are untouched, *size and *cut are 0.
+ */
+uint8_t xurbalenz_tidy_frame(uint16_t width, uint16_t height, uint8_t mode, const uint8_t *message, size_t message_len, int32_t *list, size_t list_len,
+                             uint8_t *out, size_t out_len, size_t *size, size_t *cut);
 
 /* ---- capabilities and acknowledgements ---- */
 

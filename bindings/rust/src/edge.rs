@@ -124,6 +124,19 @@ mod archive {
             out_len: usize,
             size: *mut usize,
         ) -> u8;
+        pub fn xurbalenz_tidy_frame(
+            width: u16,
+            height: u16,
+            mode: u8,
+            message: *const u8,
+            message_len: usize,
+            list: *mut i32,
+            list_len: usize,
+            out: *mut u8,
+            out_len: usize,
+            size: *mut usize,
+            cut: *mut usize,
+        ) -> u8;
         pub fn xurbalenz_read_caps(message: *const u8, message_len: usize, flags: *mut u32, n: *mut u8, entries: *mut [u8; 4]) -> u8;
         pub fn xurbalenz_write_caps(flags: u32, n: u8, entries: *const [u8; 4], out: *mut u8, out_len: usize, size: *mut usize) -> u8;
         pub fn xurbalenz_read_ack_cap(message: *const u8, message_len: usize, count: *mut u32) -> u8;
@@ -422,6 +435,38 @@ pub fn write_frame_short(
         )
     };
     (number, size)
+}
+
+/// Passes one frame of another sender on: the number, the bytes to hand on and how many of its codes were changed (both 0 when refused). A frame that the panel
+/// accepts goes on byte for byte; one whose only faults are surplus bits behind its codes (11) or a last value without a place (10) goes on mended; any other as it
+/// came.
+///
+/// ```
+/// use xurbalenz::edge::tidy_frame;
+/// let (mut list, mut out) = ([7; 4096], [0; 3]);
+/// assert_eq!((tidy_frame(64, 64, 4, &[1, 2, 3], &mut list, &mut out), out), ((0, 3, 0), [1, 2, 3])); // no frame: as it came
+/// assert_eq!(tidy_frame(64, 64, 4, &[1, 2, 3], &mut list, &mut out[..2]), (13, 0, 0));
+/// ```
+#[inline]
+pub fn tidy_frame(width: u16, height: u16, mode: u8, message: &[u8], list: &mut [i32], out: &mut [u8]) -> (u8, usize, usize) {
+    let mut size = 0;
+    let mut cut = 0;
+    let number = unsafe {
+        archive::xurbalenz_tidy_frame(
+            width,
+            height,
+            mode,
+            message.as_ptr(),
+            message.len(),
+            list.as_mut_ptr(),
+            list.len(),
+            out.as_mut_ptr(),
+            out.len(),
+            &mut size,
+            &mut cut,
+        )
+    };
+    (number, size, cut)
 }
 
 /// Takes bytes of the stream, up to the end of the first message that is whole: the number; to which call the message goes (1 to the header call,

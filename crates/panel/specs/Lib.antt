@@ -3,4 +3,5 @@ pub mod Capabilities
 pub mod Collector
 pub mod Edge
 pub mod Short
+pub mod Tidy
 pub mod laws

@@ -21,6 +21,7 @@ pub mod capabilities;
 pub mod collector;
 pub mod edge;
 pub mod short;
+pub mod tidy;
 
 // Reads one header block, which is the whole message.
 pub fn read_header(s: Session, message: &[u8]) -> HeaderReading

@@ -1,0 +1,323 @@
+// A stream given to the collector, some bytes at a time; each part that it hands on goes on tidied: header blocks by `tidy::headers`, frames by `tidy::frame`. The
+// filter keeps a session record of its own, by the headers that it passed on, as the panel behind it will.
+use app_text::lines::ERR;
+use app_text::lines::OUT;
+use collect::Collected;
+use collect::Collector;
+use session::Session;
+use tidy::frames::Tidied;
+use tidy::headers::Gave;
+use tidy::headers::Waiting;
+
+// What goes on from part to part: the session's record, the collector's, the headers that wait, the place in the bytes that are given; how many frames went on and
+// how many of them changed; whether all goes on as it came, whether it could be written, and whether more is to come.
+pub struct Desk {
+    pub s: Session,
+    pub c: Collector,
+    pub w: Waiting,
+    pub at: usize,
+    pub frames: u64,
+    pub changed: u64,
+    pub plain: bool,
+    pub good: bool,
+    pub go: bool,
+}
+
+// Nothing waits.
+fn none() -> Waiting {
+    Waiting {
+        on: 0,
+        first: 0,
+        second: 0,
+    }
+}
+
+pub fn fresh() -> Desk {
+    Desk {
+        s: session::open(0),
+        c: collect::reset(),
+        w: none(),
+        at: 0,
+        frames: 0,
+        changed: 0,
+        plain: false,
+        good: true,
+        go: true,
+    }
+}
+
+// Writes the first of some bytes to the output.
+fn put(bytes: &[u8], n: usize) -> bool {
+    io::write_all(OUT, app_text::loading::first(bytes, n))
+}
+
+// The block at a place, by its blockLen; nothing where it is not whole.
+fn block_at(m: &[u8], at: usize) -> &[u8] {
+    let left = rest(m, at);
+    if left.len() < 6 {
+        return &left[..0];
+    }
+    app_text::loading::first(left, wire::le32_at(left, 2))
+}
+
+// The record after the header blocks that stand one behind the other in some bytes.
+fn read_all(from: Session, m: &[u8]) -> Session {
+    let mut s = from;
+    let mut at: usize = 0;
+    let mut turns = m.len();
+    while 0 < turns && at < m.len() {
+        let b = block_at(m, at);
+        s = session::header_record(session::take_header(s, b), s);
+        at = std::num::wrapping_add_usize(at, b.len());
+        turns -= 1;
+    }
+    s
+}
+
+// After bytes that were passed on.
+fn passed(d: Desk, s: Session, w: Waiting, good: bool) -> Desk {
+    let c = d.c;
+    Desk {
+        s: s,
+        c: c,
+        w: w,
+        at: d.at,
+        frames: d.frames,
+        changed: d.changed,
+        plain: d.plain,
+        good: d.good && good,
+        go: d.go,
+    }
+}
+
+// What goes on of a header block; where the lent memory did not do, the block as it came.
+fn headers_on(d: Desk, g: Gave, block: &[u8], out: &[u8]) -> Desk {
+    if g.number != 0 {
+        let same = put(block, block.len());
+        return passed(d, d.s, d.w, same);
+    }
+    let w = g.waiting;
+    let good = put(out, g.size);
+    let s = read_all(d.s, app_text::loading::first(out, g.size));
+    passed(d, s, w, good)
+}
+
+// A header block.
+fn header(d: Desk, block: &[u8], held: &mut [u8], out: &mut [u8]) -> Desk {
+    let g = tidy::headers::give_header(d.w, block, held, out);
+    headers_on(d, g, block, out)
+}
+
+// The headers that wait, as they came: a frame or the end of the input is there before the third of them.
+fn let_go(d: Desk, held: &[u8], out: &mut [u8]) -> Desk {
+    let g = tidy::headers::flush(d.w, held, out);
+    let good = put(out, g.size);
+    let s = read_all(d.s, app_text::loading::first(out, g.size));
+    passed(d, s, none(), good)
+}
+
+// What was changed of a frame.
+fn say_cut(frame: u64, cut: usize) {
+    if cut == 0 {
+        return;
+    }
+    app_text::lines::say_number(ERR, b"frame ", frame);
+    app_text::lines::say_number(ERR, b": ", cut as u64);
+    app_text::lines::say(ERR, b" codes cut\n");
+}
+
+// After a frame of which so many codes were cut.
+fn counted(d: Desk, cut: usize, good: bool) -> Desk {
+    let s = d.s;
+    let c = d.c;
+    let w = d.w;
+    let more = if cut == 0 { 0 } else { 1 };
+    Desk {
+        s: s,
+        c: c,
+        w: w,
+        at: d.at,
+        frames: std::num::wrapping_add_u64(d.frames, 1),
+        changed: std::num::wrapping_add_u64(d.changed, more),
+        plain: d.plain,
+        good: d.good && good,
+        go: d.go,
+    }
+}
+
+// What goes on of a frame; where the lent memory did not do, the frame as it came.
+fn frame_on(d: Desk, t: Tidied, message: &[u8], out: &[u8]) -> Desk {
+    if t.number != 0 {
+        let same = put(message, message.len());
+        return counted(d, 0, same);
+    }
+    say_cut(std::num::wrapping_add_u64(d.frames, 1), t.cut);
+    let good = put(out, t.size);
+    counted(d, t.cut, good)
+}
+
+// A frame, behind the headers that still wait.
+fn frame(from: Desk, message: &[u8], held: &[u8], list: &mut [i32], out: &mut [u8]) -> Desk {
+    let d = let_go(from, held, out);
+    let t = tidy::frames::tidy_frame(d.s, message, list, out);
+    frame_on(d, t, message, out)
+}
+
+// The bytes of a head that waits beside the store, as many as are there.
+fn put_head(c: Collector) -> bool {
+    let mut head = [0u8; 8];
+    let h = c.head;
+    head[0] = (h % 256) as u8;
+    head[1] = (h / 256 % 256) as u8;
+    head[2] = (h / 65536 % 256) as u8;
+    head[3] = (h / 16777216 % 256) as u8;
+    head[4] = (h / 4294967296 % 256) as u8;
+    head[5] = (h / 1099511627776 % 256) as u8;
+    put(&head, c.seen as usize)
+}
+
+// What the collector holds, as it came: the store's first bytes and the head that waits.
+fn put_held(c: Collector, store: &[u8]) -> bool {
+    let a = put(store, c.held);
+    let b = put_head(c);
+    a && b
+}
+
+// From here on everything goes on as it came.
+fn refuse(from: Desk, number: u8, store: &[u8], held: &[u8], out: &mut [u8]) -> Desk {
+    let d = let_go(from, held, out);
+    app_text::lines::say(ERR, b"tidy: from here on as it came: ");
+    app_text::lines::say_refused(number);
+    let good = put_held(d.c, store);
+    let s = d.s;
+    let w = d.w;
+    Desk {
+        s: s,
+        c: collect::reset(),
+        w: w,
+        at: d.at,
+        frames: d.frames,
+        changed: d.changed,
+        plain: true,
+        good: d.good && good,
+        go: d.go,
+    }
+}
+
+// A part that is handed on.
+fn part(
+    d: Desk,
+    answer: Collected,
+    store: &[u8],
+    held: &mut [u8],
+    list: &mut [i32],
+    out: &mut [u8],
+) -> Desk {
+    match answer {
+        Collected::More => d,
+        Collected::Header(n) => header(d, app_text::loading::first(store, n), held, out),
+        Collected::Frame(n) => frame(d, app_text::loading::first(store, n), held, list, out),
+        Collected::Refused(number) => refuse(d, number, store, held, out),
+    }
+}
+
+// After a hand-over that took so many bytes.
+fn advance(d: Desk, c: Collector, taken: usize) -> Desk {
+    let s = d.s;
+    let w = d.w;
+    Desk {
+        s: s,
+        c: c,
+        w: w,
+        at: std::num::wrapping_add_usize(d.at, taken),
+        frames: d.frames,
+        changed: d.changed,
+        plain: d.plain,
+        good: d.good,
+        go: d.go,
+    }
+}
+
+// The bytes from a place on, none where it is past their end.
+fn rest(m: &[u8], at: usize) -> &[u8] {
+    let end = m.len();
+    if end < at {
+        return &m[..0];
+    }
+    &m[at..end]
+}
+
+// One hand-over of what is left, or all of it as it came.
+fn step(
+    d: Desk,
+    bytes: &[u8],
+    store: &mut [u8],
+    held: &mut [u8],
+    list: &mut [i32],
+    out: &mut [u8],
+) -> Desk {
+    let left = rest(bytes, d.at);
+    if d.plain {
+        let good = put(left, left.len());
+        let e = advance(d, d.c, left.len());
+        return passed(e, e.s, e.w, good);
+    }
+    let t = collect::collect(d.c, left, store);
+    let c = t.collector;
+    let answer = t.answer;
+    part(advance(d, c, t.taken), answer, store, held, list, out)
+}
+
+// Whether more is to come behind n bytes: not at the end of the input, and not where the output could not be written.
+fn goes_on(n: usize, good: bool) -> bool {
+    if n == 0 {
+        return false;
+    }
+    good
+}
+
+// At the first of n bytes that are given.
+fn start(d: Desk, n: usize) -> Desk {
+    let s = d.s;
+    let c = d.c;
+    let w = d.w;
+    Desk {
+        s: s,
+        c: c,
+        w: w,
+        at: 0,
+        frames: d.frames,
+        changed: d.changed,
+        plain: d.plain,
+        good: d.good,
+        go: goes_on(n, d.good),
+    }
+}
+
+// All of the bytes: each hand-over takes at least one, or is the first that is refused.
+pub fn give(
+    d: Desk,
+    bytes: &[u8],
+    store: &mut [u8],
+    held: &mut [u8],
+    list: &mut [i32],
+    out: &mut [u8],
+) -> Desk {
+    let mut e = start(d, bytes.len());
+    let mut turns = std::num::wrapping_add_usize(bytes.len(), 1);
+    while 0 < turns && e.at < bytes.len() {
+        e = step(e, bytes, store, held, list, out);
+        turns -= 1;
+    }
+    e
+}
+
+// The end of the input: what waits and what is not whole goes on as it came.
+pub fn finish(from: Desk, store: &[u8], held: &[u8], out: &mut [u8]) -> Desk {
+    let d = let_go(from, held, out);
+    if d.plain {
+        return d;
+    }
+    let good = put_held(d.c, store);
+    passed(d, d.s, d.w, good)
+}
