@@ -321,7 +321,7 @@ fn judge(part: u8, held: usize, head: usize, n: usize, store: &mut [u8]) -> Took
 }
 
 // n bytes into the store, from a place to a place.
-fn copy(store: &mut [u8], at: usize, bytes: &[u8], from: usize, n: usize)
+pub fn copy(store: &mut [u8], at: usize, bytes: &[u8], from: usize, n: usize)
     requires { ⌜ (at + n ≤ length (now store)) × (from + n ≤ length (now bytes)) ⌝ }
     ensures { λ _. ⌜ now (store .exit) ≡ patch (now (store .entry)) at (take n (drop from (now (bytes .entry)))) ⌝ }
 {

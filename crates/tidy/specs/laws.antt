@@ -1,0 +1,4 @@
+pub mod Same
+pub mod Layout
+pub mod Put
+pub mod Pass
