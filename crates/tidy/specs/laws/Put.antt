@@ -288,14 +288,14 @@ placed m sp q len e g f l =
     }
 
 module _ (et : ℕ) (m : List ℕ) (sp from end : ℕ) (z : Placed m sp from end) where
-  fills : List ℕ → List ℕ
+  unfoldable pub fills : List ℕ → List ℕ
   fills F = patch (patch F (sp + 2) (bytes32 (22 + 5 * quantCount m sp + length (tilesTidied et m)))) (sp + 18) (bytes32 (length (tilesTidied et m)))
 
-  frame-is : frameTidied et m ≡ fills (take from m) ++ (tilesTidied et m ++ drop end m)
+  pub frame-is : frameTidied et m ≡ fills (take from m) ++ (tilesTidied et m ++ drop end m)
   unfolding fills frameTidied frontTidied tilesPlace endPlace
   frame-is = rw (z .tiles, z .last, z .set) refl
 
-  front-length : length (take from m) ≡ from
+  pub front-length : length (take from m) ≡ from
   front-length = length-take-le from m (omega (arith, z .inside, z .all))
 
   fills-length : (F : List ℕ) → sp + 22 ≤ length F → length (fills F) ≡ length F
