@@ -73,7 +73,7 @@ fn call_judge(word: u8, s: Session, p: usize, a: usize, b: usize, c: usize, t: u
 }
 
 // begin, region, and the tileset up to its tiles
-fn front_fault(mode: u8, m: &[u8]) -> u8
+pub fn front_fault(mode: u8, m: &[u8]) -> u8
     ensures { λ r. ⌜ r ≡ frontFault mode (now (m .entry)) ⌝ }
 {
     let f = frame_blocks::block::begin_fault(m);
@@ -89,7 +89,7 @@ fn front_fault(mode: u8, m: &[u8]) -> u8
 }
 
 // The check pass: the first fault of the whole message.
-fn message_fault(s: Session, m: &[u8], work: &mut [i32]) -> u8
+pub fn message_fault(s: Session, m: &[u8], work: &mut [i32]) -> u8
     requires { ⌜ Right s × (length (now work) ≡ 4096) ⌝ }
     ensures { λ r. ⌜ r ≡ frameFault judged (s .width) (s .height) (s .mode) (now (m .entry)) ⌝ }
 {

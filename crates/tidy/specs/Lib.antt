@@ -1,0 +1,5 @@
+pub mod Tidy
+pub mod Put
+pub mod Headers
+pub mod Request
+pub mod laws
