@@ -1,13 +1,7 @@
--- Where a list is meant its own code is the tidied one, and has room (`is-code`, `meant-few`); else the bytes are (`no-kept`).
-use Prim.Native.Nat.{ℕ, _+_}
-use mathlib.Core.Path.{sym, ap, _∙_}
-use mathlib.Core.List.{List}
+-- Where a list is meant its own code is the tidied one, and has room (`put-code`, `meant-few`); else the bytes are (`put-kept`).
 use native.Mathlib.Omega.{arith}
 use borrow.Author.Needs.{needs}
-use lib.ListN.{length}
-use lib.Seq.{take-length}
-use Rattle.wire.specs.Le.{patch}
-use Rattle.tidy_code.specs.laws.Meant.{meant-range, meant-few, is-code, no-kept}
+use Rattle.tidy_code.specs.laws.Meant.{meant-range, meant-few, put-code, put-kept}
 use Rattle.tidy_code.proofs.put_tidied.Statement.{statement}
 use Rattle.tidy_code.proofs.put_tidied.Tie as tie
 
@@ -28,16 +22,17 @@ returns c =
     let t = c .before .before .before .before .before in
     let r = t .before .before in
     let a = r .before .before .before .before .args in
-    let e = sym (is-code (a .mode) (a .s .now) (r .read-loose .last .1 .1 .0) (r .read-loose .ensures .list (t .if1 .taken))) in
-    (w .ensures .0 ∙ ap (patch (a .out .now) (a .at)) e, w .ensures .1 ∙ ap (λ (x : List ℕ). a .at + length x) e)
+    put-code (a .mode) (a .s .now) (r .read-loose .last .1 .1 .0) (r .read-loose .result) (r .read-loose .ensures) (a .out .now) (w .last .1 .1 .0) (a .at)
+    (w .result) (t .if1 .taken) (w .ensures)
 
 returns-2 : tie.Need-returns-2
 returns-2 c =
+    let k = c .before .before .copy in
     let t = c .before .before .before .before in
     let r = t .before .before in
     let a = r .before .before .before .before .args in
-    let e = no-kept (a .mode) (a .s .now) (r .read-loose .last .1 .1 .0) (r .read-loose .result) (r .read-loose .ensures) (t .if1 .left) in
-    (c .before .before .copy .ensures ∙ ap (patch (a .out .now) (a .at)) (take-length (a .s .now) ∙ e), ap (λ (x : List ℕ). a .at + length x) e)
+    put-kept (a .mode) (a .s .now) (r .read-loose .last .1 .1 .0) (r .read-loose .result) (r .read-loose .ensures) (a .out .now) (k .last .0) (a .at)
+    (t .if1 .left) (k .ensures)
 
 pub put-tidied-spec : {M : Type 1} → statement M
 put-tidied-spec =

@@ -1,6 +1,6 @@
 -- What it is that some bytes mean a list: they were read whole with few bits behind, the list is 4,096 numbers in range, and its code has no more bytes than
 -- there were.
-use Prim.Native.Nat.{ℕ, _-_, _≤_, _<_}
+use Prim.Native.Nat.{ℕ, _+_, _-_, _≤_, _<_}
 use mathlib.Core.Path.{_≡_, refl, sym, ap, subst, _∙_}
 use mathlib.Core.Bool.{Bool, true, false}
 use mathlib.Core.List.{List, map}
@@ -8,9 +8,11 @@ use native.Mathlib.Omega.{arith}
 use borrow.Author.Tests.{le-leb, lt-leb, lt-ltb, ltb-true, eq-eqb, ne-eqb, eqb-true}
 use lib.Dec.{ltb, eqb}
 use lib.IntN.{ℤ}
-use lib.ListN.{length, length-map}
+use lib.ListN.{length, take, length-map}
+use lib.Seq.{take-length}
 use Rattle.whole.specs.Row.{_⇒_∣_}
 use Rattle.whole.specs.laws.Row.{held, passes, fails}
+use Rattle.wire.specs.Le.{patch}
 use Rattle.wire.specs.Mode.{isMode}
 use Rattle.bits.specs.Bits.{bitsOf}
 use Rattle.bits.specs.laws.Bit.{length-bitsOf}
@@ -135,11 +137,21 @@ pub others-kept : (mode : ℕ) (s : List ℕ) → meantBy mode s ≡ unclear →
 unfolding tidyCode tidiedBy
 others-kept mode s e = ap (tidiedBy mode s) e
 
--- where loose reading says no
+-- ---- the output, by what loose reading said
+
 is-unclear : (m : Meant) → isMeant m ≡ false → m ≡ unclear
 unfolding isMeant
 is-unclear unclear e = refl
 is-unclear (means zs) e = let z : _≡_ {A = ℕ} 0 1 = cc in absurd (omega arith)
 
-pub no-kept : (mode : ℕ) (s : List ℕ) (after : List ℤ) (r : Bool) → LooselyRead mode s after r → r ≡ false → s ≡ tidyCode mode s
-no-kept mode s after r a e = sym (others-kept mode s (is-unclear (meantBy mode s) (sym (a .answer) ∙ e)))
+module _ (mode : ℕ) (s : List ℕ) (after : List ℤ) (r : Bool) (a : LooselyRead mode s after r) (out new : List ℕ) (at : ℕ) where
+  pub put-code :
+      (n : ℕ) → r ≡ true → (new ≡ patch out at (bytesOf mode after)) × (n ≡ at + length (bytesOf mode after)) →
+      (new ≡ patch out at (tidyCode mode s)) × (n ≡ at + length (tidyCode mode s))
+  put-code n e w = rw (is-code mode s after (a .list e)) w
+
+  pub put-kept :
+      r ≡ false → new ≡ patch out at (take (length s) s) → (new ≡ patch out at (tidyCode mode s)) × (at + length s ≡ at + length (tidyCode mode s))
+  put-kept e w =
+      let k : tidyCode mode s ≡ s = others-kept mode s (is-unclear (meantBy mode s) (sym (a .answer) ∙ e)) in
+      (rw k (w ∙ ap (patch out at) (take-length s)), ap (λ (x : List ℕ). at + length x) (sym k))

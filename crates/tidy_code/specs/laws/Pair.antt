@@ -13,7 +13,7 @@ use Rattle.whole.specs.Row.{_⇒_∣_}
 use Rattle.whole.specs.laws.Row.{and-no}
 use Rattle.bits.specs.laws.Here.{past}
 use Rattle.code.specs.Code.{raised, krAfter, kpTwo, zerosOf, runBits, pairBits, codeF, codeOf, itemOf, itemUsed, itemKp, itemKrp, InRange}
-use Rattle.code.specs.ReadList.{whole, elemOf, step}
+use Rattle.code.specs.ReadList.{whole}
 use Rattle.code.specs.laws.Code.{item-full, item-run, item-twin, codeF-full, codeF-rest, codeF-twin}
 use Rattle.code.specs.laws.There.{elem-full, elem-two, elem-run, zeros-front, zeros-next, range-drop}
 use Rattle.code.specs.declared.element.Item.{Item}
@@ -46,7 +46,8 @@ pair-long (suc f) kp krp (x ∷ xs) p = go (eqb (length xs) 1) refl (λ q. pair-
 
     go :
         (b : Bool) → eqb (length xs) 1 ≡ b →
-        (pairLastF f (itemKp kp it) (itemKrp krp it) (drop (itemUsed kp it) (x ∷ xs)) ≡ true → 2 ≤ length (drop (itemUsed kp it) (x ∷ xs))) → 2 ≤ suc (length xs)
+        (pairLastF f (itemKp kp it) (itemKrp krp it) (drop (itemUsed kp it) (x ∷ xs)) ≡ true → 2 ≤ length (drop (itemUsed kp it) (x ∷ xs))) →
+        2 ≤ suc (length xs)
     go true e ih = omega (arith, eqb-true (length xs) 1 e)
     go false e ih =
         omega (arith, ih (later f kp krp x xs it (second-no (ltb kp 8) (eqb (length xs) 1) e) refl p), length-drop (itemUsed kp it) (x ∷ xs))
@@ -98,8 +99,11 @@ module _ (kp krp : ℕ) (B : List Bool) where
   dropped-two x y ys T h hx hy hl ih =
       dropped-more kp krp B (x ∷ y ∷ ys) (pairBits krp x y) T (x ∷ y ∷ []) ys (kpTwo kp x y) (krAfter krp (x + y)) refl (omega arith) hl ih
       (λ g at k done more n e.
-      rw (places-more kp (suc k) (omega arith), elem-two kp krp (suc k) at B more h x y hx hy (λ l. absurd (omega arith)) e,
-      take-all (suc k) (x ∷ y ∷ []) (omega arith)))
+      rw (
+        places-more kp (suc k) (omega arith),
+        elem-two kp krp (suc k) at B more h x y hx hy (λ l. absurd (omega arith)) e,
+        take-all (suc k) (x ∷ y ∷ []) (omega arith),
+      ))
 
   dropped-full :
       (l : List ℕ) (T : List Bool) → 8 ≤ kp → 2 ^ (kp / 8) ≤ zerosOf l → 1 ≤ length (drop (2 ^ (kp / 8)) l) →
