@@ -1,5 +1,5 @@
-// A plain Rust decoder (and component writer) of the same work, for the benchmark only: written from document 01 as one would write it in
-// Rust, with a bit reader on a u64, slices of i32, no unsafe, no heap but in `read_frame_shadow`. Nothing of it is proved or taken from the crates.
+// A plain Rust decoder and encoder of the same work, for the benchmark only: written from document 01 as one would write it in
+// Rust, with a bit reader on a u64, slices of i32, no unsafe, no heap but in `read_frame_shadow` and `write_component`. Nothing of it is proved or taken from the crates.
 // Document 01's odd step of the wavelet is the sample's (docs/DECISIONS.md, 1).
 
 pub const TILE: usize = 64;
