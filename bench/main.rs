@@ -12,7 +12,7 @@ use plain::{Lists, Size, PLACES};
 use screens::{HEIGHT, WIDTH};
 use std::hint::black_box;
 use xurbalenz::edge::{self, read_component, write_component};
-use xurbalenz::{Quant, Session, HEADERS_SIZE};
+use xurbalenz::{Glass, Quant, Session, HEADERS_SIZE};
 
 extern "C" {
     fn syscall(n: i64, id: i64) -> i64;
@@ -32,8 +32,20 @@ fn read_frame(s: &mut Session, m: &[u8], picture: &mut [u16], l: &mut Lists) -> 
     edge::read_frame(s, m, picture, &mut l.y, &mut l.cb, &mut l.cr, &mut l.sheet)
 }
 
+fn read_frame_32(s: &mut Session, m: &[u8], picture: &mut [u32], l: &mut Lists) -> (u8, usize) {
+    edge::read_frame_32(s, m, picture, &mut l.y, &mut l.cb, &mut l.cr, &mut l.sheet)
+}
+
+fn write_frame_of(z: Size, pixels: &[u8], l: &mut Lists, out: &mut [u8]) -> (u8, usize) {
+    edge::write_frame(z.width, z.height, z.mode, &Quant::DEFAULT.0, 1, pixels, &mut l.y, &mut l.cb, out)
+}
+
 fn write_frame(mode: u8, pixels: &[u8], l: &mut Lists, out: &mut [u8]) -> (u8, usize) {
-    edge::write_frame(WIDTH, HEIGHT, mode, &Quant::DEFAULT.0, 1, pixels, &mut l.y, &mut l.cb, out)
+    write_frame_of(Size { width: WIDTH, height: HEIGHT, mode }, pixels, l, out)
+}
+
+fn plain_write_frame(z: Size, pixels: &[u8], l: &mut Lists, out: &mut [u8]) -> (u8, usize) {
+    plain::write_frame(z, &Quant::DEFAULT.0, 1, pixels, &mut l.y, &mut l.cb, out)
 }
 
 /// A session after our own four headers.
@@ -120,6 +132,38 @@ fn compare(cs: &[Component], fs: &[Frame]) {
             r.fill(1);
         }
     }
+    compare_glass(fs);
+    compare_writers(fs);
+}
+
+/// The words of a glass of 32 bits, cut to 5-6-5, are those of a glass of 16.
+fn compare_glass(fs: &[Frame]) {
+    let (mut p, mut q, mut l) = (vec![1u16; WIDTH * HEIGHT], vec![1u32; WIDTH * HEIGHT], Lists::new());
+    for f in fs {
+        let (mut s, mut t) = (session(f.mode), session(f.mode).on(Glass::Bits32));
+        let x = read_frame(&mut s, &f.bytes, &mut p, &mut l);
+        let y = read_frame_32(&mut t, &f.bytes, &mut q, &mut l);
+        let cut = |w: &u32| (w >> 8 & 0xF800 | w >> 5 & 0x07E0 | w >> 3 & 0x001F) as u16;
+        assert!(x.0 == 0 && x == y && q.iter().map(cut).eq(p.iter().copied()), "glasses differ: {x:?} {y:?}");
+    }
+}
+
+/// Both frame writers give the same bytes, whole frames and small ones with edge tiles, and the same refusals where there is no room.
+fn compare_writers(fs: &[Frame]) {
+    let (mut a, mut b, mut l) = (vec![3u8; 1 << 20], vec![3u8; 1 << 20], Lists::new());
+    for f in fs {
+        let small = [(WIDTH, HEIGHT), (1, 1), (65, 64), (100, 129), (130, 3)];
+        for (width, height) in small {
+            let size = Size { width, height, mode: f.mode };
+            let pixels = &f.pixels[..3 * width * height];
+            let x = plain_write_frame(size, pixels, &mut l, &mut a);
+            let y = write_frame_of(size, pixels, &mut l, &mut b);
+            assert!(x.0 == 0 && x == y && a == b, "frames written differ: {x:?} {y:?}");
+            let x = plain_write_frame(size, pixels, &mut l, &mut a[..x.1 - 1]);
+            let y = write_frame_of(size, pixels, &mut l, &mut b[..y.1 - 1]);
+            assert!(x == (13, 0) && x == y && a == b, "refusals differ: {x:?} {y:?}");
+        }
+    }
 }
 
 // ---- cases
@@ -165,9 +209,21 @@ fn cases<'a>(cs: &'a [Component], fs: &'a [Frame]) -> Vec<Case<'a>> {
         ]));
     }
     for f in fs {
-        let (mut l, mut out) = (Lists::new(), vec![0u8; f.bytes.len()]);
+        let (mut s, mut t) = (session(f.mode), session(f.mode).on(Glass::Bits32));
+        let (mut p, mut q) = (vec![0u16; WIDTH * HEIGHT], vec![0u32; WIDTH * HEIGHT]);
+        let (mut k, mut l) = (Lists::new(), Lists::new());
+        all.push((format!("glass, {} screen, RLGR{}", f.name, if f.mode == 1 { 1 } else { 3 }), vec![
+            ("16-bit", Box::new(move || { black_box(read_frame(&mut s, &f.bytes, &mut p, &mut k)); })),
+            ("32-bit", Box::new(move || { black_box(read_frame_32(&mut t, &f.bytes, &mut q, &mut l)); })),
+        ]));
+    }
+    for f in fs {
+        let size = Size { width: WIDTH, height: HEIGHT, mode: f.mode };
+        let room = || (Lists::new(), vec![0u8; f.bytes.len()]);
+        let ((mut k, mut a), (mut l, mut b)) = (room(), room());
         all.push((format!("write frame, {} screen, RLGR{}", f.name, if f.mode == 1 { 1 } else { 3 }), vec![
-            ("rattle", Box::new(move || { black_box(write_frame(f.mode, &f.pixels, &mut l, &mut out)); })),
+            ("plain", Box::new(move || { black_box(plain_write_frame(size, &f.pixels, &mut k, &mut a)); })),
+            ("rattle", Box::new(move || { black_box(write_frame(f.mode, &f.pixels, &mut l, &mut b)); })),
         ]));
     }
     all
@@ -243,7 +299,8 @@ macro_rules! marks {
 marks!(mark_00 0, mark_01 1, mark_02 2, mark_03 3, mark_04 4, mark_05 5, mark_06 6, mark_07 7, mark_08 8, mark_09 9, mark_10 10, mark_11 11,
     mark_12 12, mark_13 13, mark_14 14, mark_15 15, mark_16 16, mark_17 17, mark_18 18, mark_19 19, mark_20 20, mark_21 21, mark_22 22,
     mark_23 23, mark_24 24, mark_25 25, mark_26 26, mark_27 27, mark_28 28, mark_29 29, mark_30 30, mark_31 31, mark_32 32, mark_33 33,
-    mark_34 34, mark_35 35, mark_36 36, mark_37 37, mark_38 38, mark_39 39);
+    mark_34 34, mark_35 35, mark_36 36, mark_37 37, mark_38 38, mark_39 39, mark_40 40, mark_41 41, mark_42 42, mark_43 43, mark_44 44,
+    mark_45 45, mark_46 46, mark_47 47, mark_48 48, mark_49 49, mark_50 50, mark_51 51);
 
 fn count(all: &mut [Case]) {
     let mut k = 0;

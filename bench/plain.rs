@@ -1,5 +1,5 @@
-// A plain Rust decoder (and component writer) of the same work, for the benchmark only: written from document 01 as one would write it in
-// Rust, with a bit reader on a u64, slices of i32, no unsafe, no heap but in `read_frame_shadow`. Nothing of it is proved or taken from the crates.
+// A plain Rust decoder and encoder of the same work, for the benchmark only: written from document 01 as one would write it in
+// Rust, with a bit reader on a u64, slices of i32, no unsafe, no heap but in `read_frame_shadow` and `write_component`. Nothing of it is proved or taken from the crates.
 // Document 01's odd step of the wavelet is the sample's (docs/DECISIONS.md, 1).
 
 pub const TILE: usize = 64;
@@ -15,6 +15,7 @@ pub const PLACE: u8 = 8;
 pub const RANGE: u8 = 9;
 pub const OVERRUN: u8 = 10;
 pub const TAIL: u8 = 11;
+pub const ROOM: u8 = 13;
 
 // ---- bits
 
@@ -219,15 +220,25 @@ pub fn read_component(mode: u8, code: &[u8], list: &mut [i32]) -> (u8, usize) {
     (0, at)
 }
 
-// ---- the component writer, to make the inputs
+// ---- the component writer
 
+/// Where the bits of a code go.
+trait Sink {
+    /// The n low bits of v, which has no others.
+    fn put(&mut self, n: u32, v: u32);
+
+    /// The GR number g.
+    fn golomb(&mut self, kr: u32, g: u32);
+}
+
+/// Bytes behind one another.
 struct Pen {
     out: Vec<u8>,
     acc: u64,
     n: u32,
 }
 
-impl Pen {
+impl Sink for Pen {
     fn put(&mut self, n: u32, v: u32) {
         self.acc = self.acc << n | u64::from(v);
         self.n += n;
@@ -237,21 +248,14 @@ impl Pen {
         }
     }
 
-    fn golomb(&mut self, krp: &mut u32, g: u32) {
-        let kr = *krp / 8;
-        let v = g >> kr;
-        let mut ones = v;
+    fn golomb(&mut self, kr: u32, g: u32) {
+        let mut ones = g >> kr;
         while ones > 20 {
             self.put(20, (1 << 20) - 1);
             ones -= 20;
         }
         // the last ones, the zero and the low bits at once: at most 31 bits
         self.put(ones + 1 + kr, ((1 << ones) - 1) << (kr + 1) | g & ((1 << kr) - 1));
-        *krp = match v {
-            0 => krp.saturating_sub(2),
-            1 => *krp,
-            _ => (*krp + v).min(80),
-        };
     }
 }
 
@@ -259,9 +263,20 @@ fn fold(x: i32) -> u32 {
     (x << 1 ^ x >> 31) as u32
 }
 
+impl Adapt {
+    fn put(&mut self, sink: &mut impl Sink, g: u32) {
+        let kr = self.krp / 8;
+        sink.golomb(kr, g);
+        self.krp = match g >> kr {
+            0 => self.krp.saturating_sub(2),
+            1 => self.krp,
+            v => (self.krp + v).min(80),
+        };
+    }
+}
+
 /// The code of 4,096 numbers, each in range.
-pub fn write_component(mode: u8, list: &[i32]) -> Vec<u8> {
-    let mut p = Pen { out: Vec::new(), acc: 0, n: 0 };
+fn code(mode: u8, list: &[i32], p: &mut impl Sink) {
     let mut a = Adapt { kp: 8, krp: 8 };
     let mut i = 0;
     while i < list.len() {
@@ -278,12 +293,12 @@ pub fn write_component(mode: u8, list: &[i32]) -> Vec<u8> {
             p.put(1, 1);
             p.put(k, zeros as u32);
             p.put(1, u32::from(x < 0));
-            p.golomb(&mut a.krp, x.unsigned_abs() - 1);
+            a.put(p, x.unsigned_abs() - 1);
             i += zeros + 1;
             a.down(6);
         } else if mode == 1 {
             let g = fold(list[i]);
-            p.golomb(&mut a.krp, g);
+            a.put(p, g);
             i += 1;
             if g == 0 {
                 a.up(3);
@@ -294,7 +309,7 @@ pub fn write_component(mode: u8, list: &[i32]) -> Vec<u8> {
             let first = fold(list[i]);
             let second = list.get(i + 1).map_or(0, |&x| fold(x));
             let g = first + second;
-            p.golomb(&mut a.krp, g);
+            a.put(p, g);
             p.put(32 - g.leading_zeros(), first);
             i += 2;
             match (first, second) {
@@ -304,6 +319,11 @@ pub fn write_component(mode: u8, list: &[i32]) -> Vec<u8> {
             }
         }
     }
+}
+
+pub fn write_component(mode: u8, list: &[i32]) -> Vec<u8> {
+    let mut p = Pen { out: Vec::new(), acc: 0, n: 0 };
+    code(mode, list, &mut p);
     let spare = (8 - p.n) % 8;
     p.put(spare, 0);
     p.out
@@ -650,6 +670,271 @@ pub fn read_frame_shadow(size: Size, m: &[u8], picture: &mut [u16], lists: &mut 
             picture.copy_from_slice(&shadow);
             (0, tiles)
         }
+        Err(number) => (number, 0),
+    }
+}
+
+// ---- the frame writer: every component is loaded, sized and judged, and, where all fits, loaded again and written
+
+/// How many bits a code has.
+struct Count(usize);
+
+impl Sink for Count {
+    fn put(&mut self, n: u32, _: u32) {
+        self.0 += n as usize;
+    }
+
+    fn golomb(&mut self, kr: u32, g: u32) {
+        self.0 += ((g >> kr) + 1 + kr) as usize;
+    }
+}
+
+/// Bytes in a lent list, from a place on.
+struct Slot<'a> {
+    out: &'a mut [u8],
+    at: usize,
+    acc: u64,
+    n: u32,
+}
+
+impl Sink for Slot<'_> {
+    fn put(&mut self, n: u32, v: u32) {
+        self.acc = self.acc << n | u64::from(v);
+        self.n += n;
+        while self.n >= 8 {
+            self.n -= 8;
+            self.out[self.at] = (self.acc >> self.n) as u8;
+            self.at += 1;
+        }
+    }
+
+    fn golomb(&mut self, kr: u32, g: u32) {
+        let mut ones = g >> kr;
+        while ones > 20 {
+            self.put(20, (1 << 20) - 1);
+            ones -= 20;
+        }
+        self.put(ones + 1 + kr, ((1 << ones) - 1) << (kr + 1) | g & ((1 << kr) - 1));
+    }
+}
+
+/// What a component's sample weighs of R, G and B, and what is taken off.
+const WEIGHTS: [[i32; 4]; 3] = [[19595, 38470, 7471, 4096], [-11071, -21736, 32807, 0], [32756, -27429, -5327, 0]];
+
+/// The samples of component c of the tile in column tx of row ty; the last column and row stand for those past them.
+fn load(size: Size, pixels: &[u8], (tx, ty): (usize, usize), c: usize, list: &mut [i32]) {
+    let [r, g, b, less] = WEIGHTS[c];
+    let columns = (size.width - TILE * tx).min(TILE);
+    for (j, row) in list.chunks_exact_mut(TILE).enumerate() {
+        let y = (TILE * ty + j).min(size.height - 1);
+        let line = &pixels[3 * (y * size.width + TILE * tx)..][..3 * columns];
+        let (inside, past) = row.split_at_mut(columns);
+        for (v, p) in inside.iter_mut().zip(line.chunks_exact(3)) {
+            *v = ((r * i32::from(p[0]) + g * i32::from(p[1]) + b * i32::from(p[2])) >> 11) - less;
+        }
+        past.fill(inside[columns - 1]);
+    }
+}
+
+fn high(o: i32, e: i32, f: i32) -> i32 {
+    (o - ((e + f) >> 1)) >> 1
+}
+
+fn row_forth(row: &[i32], low: &mut [i32], high_half: &mut [i32]) {
+    let n = low.len();
+    let (row, high_half) = (&row[..2 * n], &mut high_half[..n]);
+    let mut g = high(row[1], row[0], row[2]);
+    for j in 0..n - 1 {
+        let h = high(row[2 * j + 1], row[2 * j], row[2 * j + 2]);
+        low[j] = row[2 * j] + ((g + h) >> 1);
+        high_half[j] = h;
+        g = h;
+    }
+    let h = high(row[2 * n - 1], row[2 * n - 2], row[2 * n - 2]);
+    low[n - 1] = row[2 * n - 2] + ((g + h) >> 1);
+    high_half[n - 1] = h;
+}
+
+/// One level: 2n x 2n numbers become four bands of n x n (HL, LH, HH, LL) in their place.
+fn level_forth(region: &mut [i32], sheet: &mut [i32], n: usize) {
+    let (w, b) = (2 * n, n * n);
+    let (low, high_rows) = sheet[..4 * b].split_at_mut(2 * b);
+    // the high rows, then the low ones from their neighbours
+    for r in 0..n {
+        let (e, o) = (&region[2 * r * w..][..w], &region[(2 * r + 1) * w..][..w]);
+        let f = if r + 1 < n { &region[(2 * r + 2) * w..][..w] } else { e };
+        let out = &mut high_rows[r * w..][..w];
+        for c in 0..w {
+            out[c] = high(o[c], e[c], f[c]);
+        }
+    }
+    for r in 0..n {
+        let (g, h) = (&high_rows[r.saturating_sub(1) * w..][..w], &high_rows[r * w..][..w]);
+        let e = &region[2 * r * w..][..w];
+        let out = &mut low[r * w..][..w];
+        for c in 0..w {
+            out[c] = e[c] + ((g[c] + h[c]) >> 1);
+        }
+    }
+    let (hl, rest) = region.split_at_mut(b);
+    let (lh, rest) = rest.split_at_mut(b);
+    let (hh, ll) = rest.split_at_mut(b);
+    for r in 0..n {
+        let (s, t) = (r * n, r * w);
+        row_forth(&low[t..t + w], &mut ll[s..s + n], &mut hl[s..s + n]);
+        row_forth(&high_rows[t..t + w], &mut lh[s..s + n], &mut hh[s..s + n]);
+    }
+}
+
+fn tile_forth(list: &mut [i32], sheet: &mut [i32]) {
+    level_forth(list, sheet, 32);
+    level_forth(&mut list[3072..], sheet, 16);
+    level_forth(&mut list[3840..], sheet, 8);
+}
+
+/// Rounded band by band, then LL3 to differences. True: a value, a sum or a difference leaves the range, as the reader judges it.
+fn round(quant: &[u8; 10], list: &mut [i32]) -> bool {
+    let (mut from, mut bad) = (0, false);
+    for (to, q) in BANDS {
+        let shift = quant[q] - 1;
+        for v in &mut list[from..to] {
+            *v = (*v + (1 << (shift - 1))) >> shift;
+            bad |= outside(*v << shift);
+        }
+        from = to;
+    }
+    let mut last = 0;
+    for v in &mut list[4032..] {
+        let difference = *v - last;
+        last = *v;
+        *v = difference;
+        bad |= outside(difference);
+    }
+    bad
+}
+
+/// What is written: the picture's size and mode, its quantisers and its pixels.
+struct Picture<'a> {
+    size: Size,
+    quant: &'a [u8; 10],
+    pixels: &'a [u8],
+}
+
+impl Picture<'_> {
+    fn tiles(&self) -> impl Iterator<Item = (usize, usize)> {
+        let (columns, rows) = (self.size.width.div_ceil(TILE), self.size.height.div_ceil(TILE));
+        (0..rows).flat_map(move |y| (0..columns).map(move |x| (x, y)))
+    }
+
+    /// The list of a component; true where it is out of range.
+    fn component(&self, tile: (usize, usize), c: usize, list: &mut [i32], sheet: &mut [i32]) -> bool {
+        load(self.size, self.pixels, tile, c, list);
+        tile_forth(list, sheet);
+        round(self.quant, list)
+    }
+
+    fn measure(&self, list: &mut [i32], sheet: &mut [i32]) -> Result<usize, u8> {
+        let mut total = 0;
+        for tile in self.tiles() {
+            total += 19;
+            for c in 0..3 {
+                if self.component(tile, c, list, sheet) {
+                    return Err(RANGE);
+                }
+                let mut count = Count(0);
+                code(self.size.mode, list, &mut count);
+                let bytes = count.0.div_ceil(8);
+                if bytes > 65535 {
+                    return Err(TOO_BIG);
+                }
+                total += bytes;
+            }
+        }
+        Ok(total)
+    }
+
+    /// The tiles at a place of the output, which has room for them; the place past them.
+    fn write(&self, list: &mut [i32], sheet: &mut [i32], out: &mut [u8], mut at: usize) -> usize {
+        for tile in self.tiles() {
+            let from = at;
+            at += 19;
+            out[from..at].fill(0);
+            put16(out, from, 0xCAC3);
+            put16(out, from + 9, tile.0);
+            put16(out, from + 11, tile.1);
+            for c in 0..3 {
+                self.component(tile, c, list, sheet);
+                let mut slot = Slot { out, at, acc: 0, n: 0 };
+                code(self.size.mode, list, &mut slot);
+                let spare = (8 - slot.n) % 8;
+                slot.put(spare, 0);
+                let end = slot.at;
+                put16(out, from + 13 + 2 * c, end - at);
+                at = end;
+            }
+            put32(out, from + 2, at - from);
+        }
+        at
+    }
+}
+
+fn put16(out: &mut [u8], at: usize, v: usize) {
+    out[at..at + 2].copy_from_slice(&(v as u16).to_le_bytes());
+}
+
+fn put32(out: &mut [u8], at: usize, v: usize) {
+    out[at..at + 4].copy_from_slice(&(v as u32).to_le_bytes());
+}
+
+/// All of a frame before its tiles, with so many tiles in so many bytes.
+fn front_of(p: &Picture, index: u32, tiles: usize, bytes: usize) -> [u8; 64] {
+    let mut m = [0; 64];
+    for (at, v) in [(0, 0xCCC4), (6, 1), (12, 1), (14, 0xCCC6), (20, 1), (23, 1), (29, p.size.width), (31, p.size.height), (33, 0xCAC1), (35, 1)] {
+        put16(&mut m, at, v);
+    }
+    let properties = 1 | 1 << 4 | 1 << 6 | usize::from(p.size.mode) << 10 | 1 << 14;
+    for (at, v) in [(37, 0xCCC7), (43, 1), (45, 0xCAC2), (49, properties), (53, tiles)] {
+        put16(&mut m, at, v);
+    }
+    for (at, v) in [(2, 14), (8, index as usize), (16, 23), (39, 27 + bytes), (55, bytes)] {
+        put32(&mut m, at, v);
+    }
+    m[22] = 1;
+    m[51] = 1;
+    m[52] = 64;
+    for (byte, pair) in m[59..].iter_mut().zip(p.quant.chunks_exact(2)) {
+        *byte = pair[0] | pair[1] << 4;
+    }
+    m
+}
+
+fn both_writing_passes(p: &Picture, index: u32, list: &mut [i32], sheet: &mut [i32], out: &mut [u8]) -> Result<usize, u8> {
+    let bytes = p.measure(list, sheet)?;
+    if out.len() < 72 + bytes {
+        return Err(ROOM);
+    }
+    out[..64].copy_from_slice(&front_of(p, index, p.tiles().count(), bytes));
+    let at = p.write(list, sheet, out, 64);
+    out[at..at + 8].copy_from_slice(&[0xC5, 0xCC, 8, 0, 0, 0, 1, 0]);
+    Ok(at + 8)
+}
+
+/// The frame writer as the product has it: measured whole, then made again and written; no memory but what is lent.
+pub fn write_frame(size: Size, quant: &[u8; 10], index: u32, pixels: &[u8], list: &mut [i32], sheet: &mut [i32], out: &mut [u8]) -> (u8, usize) {
+    if !(1..=4096).contains(&size.width) || !(1..=2048).contains(&size.height) || size.mode != 1 && size.mode != 4 {
+        return (FIELD, 0);
+    }
+    if quant.iter().any(|q| !(6..=15).contains(q)) {
+        return (QUANT, 0);
+    }
+    if pixels.len() != 3 * size.width * size.height || list.len() != PLACES || sheet.len() != PLACES {
+        return (BUFFER, 0);
+    }
+    let answer = both_writing_passes(&Picture { size, quant, pixels }, index, list, sheet, out);
+    list.fill(0);
+    sheet.fill(0);
+    match answer {
+        Ok(bytes) => (0, bytes),
         Err(number) => (number, 0),
     }
 }

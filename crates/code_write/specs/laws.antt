@@ -3,6 +3,7 @@ pub mod Going
 pub mod Item
 pub mod Once
 pub mod Pack
+pub mod Pen
 pub mod Signed
 pub mod Write
 pub mod Writing

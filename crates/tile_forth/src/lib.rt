@@ -35,6 +35,18 @@ fn last_or(n: usize, k: usize) -> usize
     n - 1
 }
 
+// The same for column k of a tile whose last one is `last`. Whether that lies in the picture is the same for all of a row, and mostly it does:
+// so the machine asks it once.
+fn column(w: usize, last: usize, k: usize) -> usize
+    requires { ⌜ (1 ≤ w) × (k ≤ last) ⌝ }
+    ensures { λ r. ⌜ r ≡ edge w k ⌝ }
+{
+    if last < w {
+        return k;
+    }
+    last_or(w, k)
+}
+
 // Component c of the pixel whose bytes start at place p.
 fn bytes_at(pixels: &[u8], c: usize, p: usize) -> i32
     requires { ⌜ p + 3 ≤ length (now pixels) ⌝ }
@@ -61,7 +73,7 @@ fn load_row(
     let from = 3 * (last_or(h, 64 * ty + j) * w);
     let mut x = 0;
     while x < 64 {
-        work[64 * j + x] = bytes_at(pixels, c, from + 3 * last_or(w, 64 * tx + x));
+        work[64 * j + x] = bytes_at(pixels, c, from + 3 * column(w, 64 * tx + 63, 64 * tx + x));
         x += 1;
     }
 }

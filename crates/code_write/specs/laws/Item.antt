@@ -1,15 +1,16 @@
 -- Laws of an item: its choice, its bits by case, and the parameters after it.
 -- Assumes nothing.
 use Prim.Native.Nat.{ℕ, zero, suc, _+_, _-_, _/_, _%_, _^_, _≤_, _<_}
-use mathlib.Core.Path.{_≡_, refl, ap, _∙_}
-use mathlib.Core.Bool.{Bool, true}
+use mathlib.Core.Path.{_≡_, refl, sym, ap, _∙_}
+use mathlib.Core.Bool.{Bool, true, false}
 use mathlib.Core.List.{List, [], _∷_, _++_, append-assoc}
 use native.Mathlib.Omega.{arith}
 use native.Mathlib.Nat.{mod-mod, div-le-self}
 use native.Mathlib.Numerals.{add-one}
-use lib.ListN.{length, drop, getD, List·getD-eq-default, length-drop, length-append}
-use lib.Seq.{drop-cons, getD-drop}
-use lib.Dec.{eqb}
+use lib.ListN.{length, drop, getD, length-drop, length-append}
+use lib.Seq.{drop-cons, drop-drop, getD-drop}
+use lib.Dec.{eqb, leb}
+use borrow.Author.Tests.{leb-true, le-leb, lt-leb}
 use Rattle.bits.specs.Bits.{grBits, numBits, odd}
 use Rattle.bits.specs.laws.Bit.{length-numBits}
 use Rattle.bits.specs.laws.Gr.{grLen}
@@ -44,6 +45,38 @@ zeros-le (suc x ∷ m) = omega arith
 pub zeros-most : (l : List ℕ) (j : ℕ) → zerosOf (drop j l) ≤ length l - j
 zeros-most l j = omega (arith, zeros-le (drop j l), length-drop j l)
 
+-- k of them at once
+zeros-all : (k : ℕ) (m : List ℕ) → k ≤ zerosOf m → zerosOf m ≡ k + zerosOf (drop k m)
+unfolding zerosOf
+zeros-all zero m h = omega arith
+zeros-all (suc k) [] h = absurd (omega arith)
+zeros-all (suc k) (zero ∷ m) h = omega (arith, zeros-all k m (omega arith))
+zeros-all (suc k) (suc x ∷ m) h = absurd (omega arith)
+
+-- from place i up to place j stand only zeros
+pub record Zeros (l : List ℕ) (i j : ℕ) : Type 0 where
+  pub up : i ≤ j
+  pub zeros : j - i + zerosOf (drop j l) ≡ zerosOf (drop i l)
+
+pub zeros-here : (l : List ℕ) (i : ℕ) → Zeros l i i
+zeros-here l i = record { up = omega arith; zeros = omega arith }
+
+-- one more, and four more
+pub zeros-one : (l : List ℕ) (i j k : ℕ) → k ≡ j + 1 → j < length l → getD l j 0 ≡ 0 → Zeros l i j → Zeros l i k
+zeros-one l i j k q h e w = rw q (record { up = omega (arith, w .up); zeros = omega (arith, w .up, w .zeros, zeros-more l j h e) })
+
+pub zeros-four : (l : List ℕ) (i j : ℕ) → true ≡ leb 4 (zerosOf (drop j l)) → Zeros l i j → Zeros l i (j + 4)
+zeros-four l i j h w =
+    let m = zeros-all 4 (drop j l) (leb-true 4 (zerosOf (drop j l)) (sym h)) in
+    record { up = omega (arith, w .up); zeros = omega (arith, w .up, w .zeros, rw (drop-drop 4 j l) at m) }
+
+-- four are there, or not
+pub four-all : (l : List ℕ) (i j : ℕ) → j ≡ i + 4 → Zeros l i j → true ≡ leb 4 (zerosOf (drop i l))
+four-all l i j q w = sym (le-leb 4 (zerosOf (drop i l)) (omega (arith, w .zeros)))
+
+pub four-not : (l : List ℕ) (i j : ℕ) → j < i + 4 → j < length l → (getD l j 0 ≡ 0 → ⊥) → Zeros l i j → false ≡ leb 4 (zerosOf (drop i l))
+four-not l i j q h n w = sym (lt-leb 4 (zerosOf (drop i l)) (omega (arith, w .up, w .zeros, zeros-stop l j h n)))
+
 -- values in range, and a run's value not 0
 abbrev pub SmallItem : Item → Type 0
 SmallItem Full = Unit {0}
@@ -54,9 +87,6 @@ SmallItem (Twin a b) = (a ≤ 65534) × (b ≤ 65534)
 -- what stands k past place i
 pub at-drop : (l : List ℕ) (i k j : ℕ) → i + k ≡ j → getD (drop i l) k 0 ≡ getD l j 0
 at-drop l i k j e = getD-drop i l k 0 ∙ ap (λ (x : ℕ). getD l x 0) e
-
-pub none-past : (l : List ℕ) (i k : ℕ) → length l ≤ i + k → getD (drop i l) k 0 ≡ 0
-none-past l i k h = getD-drop i l k 0 ∙ List·getD-eq-default l 0 h
 
 -- ---- a run's bits, part by part
 pub run-length : (kp krp z v : ℕ) → length (runBits kp krp z v) ≡ 1 + kp / 8 + 1 + grLen (krp / 8) ((v - 1) / 2)

@@ -39,15 +39,18 @@ loop-holds c =
     let e : 64 * a .j ≡ 64 * a .j + 0 = omega arith in
     (omega arith, subst (λ (i : ℕ). Loaded (sampleAt (now (a .pixels)) (a .w) (a .h) (a .tx) (a .ty) (a .c)) i (now (a .work))) e (pre .1 .1))
 
+column-requires : tie.Need-column-requires Inv-loop μ-loop
+column-requires c κs = (c .before .before .before .before .pre .0 .0, omega (arith, c .loop-test .taken))
+
 mul-bytes-at : tie.Need-mul-bytes-at Inv-loop μ-loop
 mul-bytes-at c =
     let last-or = c .before .before .before .last-or in
     let pre = c .before .before .before .before .before .pre in
     let good = c .before .before .before .before .before .good in
     let a = c .before .before .before .before .before .args in
-    let x : c .last-or2 .result < a .w = subst (λ (n : ℕ). n < a .w) (sym (c .last-or2 .ensures)) (edge-in (a .w) _ (pre .0 .0)) in
+    let x : c .column .result < a .w = subst (λ (n : ℕ). n < a .w) (sym (c .column .ensures)) (edge-in (a .w) _ (pre .0 .0)) in
     let y : last-or .result < a .h = subst (λ (n : ℕ). n < a .h) (sym (last-or .ensures)) (edge-in (a .h) _ (pre .0 .2)) in
-    omega (arith, pixel-in (a .w) (a .h) (c .last-or2 .result) (last-or .result) x y, pre .0 .4, good)
+    omega (arith, pixel-in (a .w) (a .h) (c .column .result) (last-or .result) x y, pre .0 .4, good)
 
 add-bytes-at : tie.Need-add-bytes-at Inv-loop μ-loop
 add-bytes-at c =
@@ -55,9 +58,9 @@ add-bytes-at c =
     let pre = c .before .before .before .before .before .pre in
     let good = c .before .before .before .before .before .good in
     let a = c .before .before .before .before .before .args in
-    let x : c .last-or2 .result < a .w = subst (λ (n : ℕ). n < a .w) (sym (c .last-or2 .ensures)) (edge-in (a .w) _ (pre .0 .0)) in
+    let x : c .column .result < a .w = subst (λ (n : ℕ). n < a .w) (sym (c .column .ensures)) (edge-in (a .w) _ (pre .0 .0)) in
     let y : last-or .result < a .h = subst (λ (n : ℕ). n < a .h) (sym (last-or .ensures)) (edge-in (a .h) _ (pre .0 .2)) in
-    omega (arith, pixel-in (a .w) (a .h) (c .last-or2 .result) (last-or .result) x y, pre .0 .4, good)
+    omega (arith, pixel-in (a .w) (a .h) (c .column .result) (last-or .result) x y, pre .0 .4, good)
 
 bytes-at-requires : tie.Need-bytes-at-requires Inv-loop μ-loop
 bytes-at-requires c κs =
@@ -65,23 +68,23 @@ bytes-at-requires c κs =
     let pre = c .before .before .before .before .before .pre in
     let good = c .before .before .before .before .before .good in
     let a = c .before .before .before .before .before .args in
-    let x : c .last-or2 .result < a .w = subst (λ (n : ℕ). n < a .w) (sym (c .last-or2 .ensures)) (edge-in (a .w) _ (pre .0 .0)) in
+    let x : c .column .result < a .w = subst (λ (n : ℕ). n < a .w) (sym (c .column .ensures)) (edge-in (a .w) _ (pre .0 .0)) in
     let y : last-or .result < a .h = subst (λ (n : ℕ). n < a .h) (sym (last-or .ensures)) (edge-in (a .h) _ (pre .0 .2)) in
-    omega (arith, pixel-in (a .w) (a .h) (c .last-or2 .result) (last-or .result) x y, pre .0 .4, good)
+    omega (arith, pixel-in (a .w) (a .h) (c .column .result) (last-or .result) x y, pre .0 .4, good)
 
-mul-t22 : tie.Need-mul-t22 Inv-loop μ-loop
-mul-t22 c =
+mul-t24 : tie.Need-mul-t24 Inv-loop μ-loop
+mul-t24 c =
     let pre = c .before .before .before .before .before .before .pre in
     omega (arith, pre .1 .0)
 
-add-t23 : tie.Need-add-t23 Inv-loop μ-loop
-add-t23 c =
+add-t25 : tie.Need-add-t25 Inv-loop μ-loop
+add-t25 c =
     let loop-test = c .before .before .loop-test in
     let pre = c .before .before .before .before .before .before .pre in
     omega (arith, pre .1 .0, loop-test .taken)
 
-mul-t24 : tie.Need-mul-t24 Inv-loop μ-loop
-mul-t24 c =
+mul-t26 : tie.Need-mul-t26 Inv-loop μ-loop
+mul-t26 c =
     let loop-test = c .before .before .loop-test in
     let pre = c .before .before .before .before .before .before .pre in
     omega (arith, pre .1 .0, loop-test .taken)
@@ -104,7 +107,7 @@ loop-again c =
     let b = back-ok w32 (c .bytes-at .result) (c .bytes-at .ok) in
     let e : 64 * a .j + l .x + 1 ≡ 64 * a .j + (l .x + 1) = omega arith in
     let s = row-sample (now (a .pixels)) (a .w) (a .h) (a .tx) (a .ty) (a .c) (a .j) (l .x)
-    (3 * (last-or .result * a .w) + 3 * c .before .last-or2 .result) (loop-test .taken) (cc (last-or .ensures, c .before .last-or2 .ensures)) in
+    (3 * (last-or .result * a .w) + 3 * c .before .column .result) (loop-test .taken) (cc (last-or .ensures, c .before .column .ensures)) in
     let m = loaded-more f (64 * a .j + l .x) (l .work) _ (omega (arith, pre .1 .0, loop-test .taken)) (b ∙ (c .bytes-at .ensures .0 ∙ s))
     (subst (Near 16384) (sym b) (c .bytes-at .ensures .1)) (l .inv .1) in
     (omega (arith, loop-test .taken), rw (← e) m)
@@ -125,5 +128,5 @@ pub load-row-spec : {M : Type 1} → statement M
 load-row-spec =
     tie.close
     (tie.spec Inv-loop μ-loop (λ c. omega arith) (λ c. omega arith) (λ c κs. omega arith) mul-from mul-from-2 loop-holds (λ c. omega arith) (λ c. omega arith)
-    (λ c κs. omega arith) mul-bytes-at add-bytes-at bytes-at-requires mul-t22 add-t23 mul-t24 slice-set-from-work (λ c. omega arith) (λ c. omega arith)
+    (λ c. omega arith) (λ c. omega arith) column-requires mul-bytes-at add-bytes-at bytes-at-requires mul-t24 add-t25 mul-t26 slice-set-from-work (λ c. omega arith) (λ c. omega arith)
     loop-again same-length returns)

@@ -1,97 +1,90 @@
--- Four puts, each right behind the one before (`put-more`), are the run's bits (`run-parts`); the room left is theirs (`run-length`).
+-- The run's 1, zeros and sign as one number (`head-put`), then the magnitude less 1 right behind it (`put-more`), are the run's bits (`run-parts`).
 use Prim.Native.Nat.{_-_, _/_, _%_}
-use mathlib.Core.List.{[], _∷_, _++_}
 use native.Mathlib.Omega.{arith}
-use lib.ListN.{length, length-append}
-use Rattle.bits.specs.Bits.{odd, numBits}
-use Rattle.bits.specs.laws.Bit.{length-numBits}
+use lib.ListN.{length}
+use Rattle.bits.specs.Bits.{grBits}
+use Rattle.bits.specs.Pen.{Put}
+use Rattle.bits.specs.laws.Gr.{grLen}
 use Rattle.bits.specs.laws.Pen.{put-more, ready-after}
 use Rattle.code.specs.Code.{runBits}
-use Rattle.code_write.specs.laws.Item.{run-length, run-parts}
-use Rattle.bits.specs.laws.Gr.{grLen}
+use Rattle.code_write.specs.laws.Item.{run-length, run-parts, ready-less}
+use Rattle.code_write.specs.laws.Pen.{headBits, head-length, head-fits, head-put}
 use borrow.Author.Needs.{needs}
 use Rattle.code_write.proofs.put.put_run.Statement.{statement}
 use Rattle.code_write.proofs.put.put_run.Tie as tie
 
-put-bit-requires : tie.Need-put-bit-requires
-put-bit-requires c κs =
-    let s = c .before .before in (
-      record {
-        few = s .pre .0 .few;
-        small = s .pre .0 .small;
-        room = omega (
-          arith,
-          s .pre .0 .room,
-          run-length (s .args .kp) (s .args .krp) (s .args .z)
-              (s .args .v),
-        );
-      },
-      omega arith,
-    )
+add-put-few-2 : tie.Need-add-put-few-2
+add-put-few-2 c =
+    let s = c .before .before in
+    omega (arith, head-fits (s .args .kp / 8) (s .args .z) (s .args .v) (omega (arith, s .pre .1)) (s .pre .3) .0)
 
-put-bits-requires : tie.Need-put-bits-requires
-put-bits-requires c κs =
-    let c3 = c .before .before .before in
-    let c6 = c3 .before .before .before in
-    let s = c6 in
+mul-put-few : tie.Need-mul-put-few
+mul-put-few c =
+    let s = c .before .before in
+    omega (arith, head-fits (s .args .kp / 8) (s .args .z) (s .args .v) (omega (arith, s .pre .1)) (s .pre .3) .0)
+
+add-put-few-3 : tie.Need-add-put-few-3
+add-put-few-3 c =
+    let s = c .before .before in
+    omega (arith, head-fits (s .args .kp / 8) (s .args .z) (s .args .v) (omega (arith, s .pre .1)) (s .pre .3) .0)
+
+put-few-requires : tie.Need-put-few-requires
+put-few-requires c κs =
+    let s = c .before .before in
     let a = s .args in (
-      ready-after (a .out .now) (c3 .put-bit .last .0) (a .p) (c3 .put-bit .result) (length (runBits (a .kp) (a .krp) (a .z) (a .v))) (a .kp / 8)
-          (odd 1 ∷ []) (s .pre .0) (c3 .put-bit .ensures) (omega (arith, run-length (s .args .kp) (s .args .krp) (s .args .z) (s .args .v))),
+      ready-less _ _ (length (runBits (a .kp) (a .krp) (a .z) (a .v))) _ (s .pre .0) (omega (arith, run-length (a .kp) (a .krp) (a .z) (a .v))),
       omega (arith, s .pre .1),
+      head-fits (a .kp / 8) (a .z) (a .v) (omega (arith, s .pre .1)) (s .pre .3) .1,
     )
 
-put-bit-requires-2 : tie.Need-put-bit-requires-2
-put-bit-requires-2 c κs =
-    let s = c .before .before .before .before .before .before .before .before .before .before in
-    let a = s .args in (
-      ready-after (a .out .now) (c .before .before .before .put-bits .last .0) (a .p) (c .before .before .before .put-bits .result)
-          (length (runBits (a .kp) (a .krp) (a .z) (a .v))) 1 ((odd 1 ∷ []) ++ numBits (a .kp / 8) (a .z)) (s .pre .0)
-          (put-more (a .out .now) (c .before .before .before .before .before .before .before .put-bit .last .0) (c .before .before .before .put-bits .last .0)
-          (a .p) (c .before .before .before .before .before .before .before .put-bit .result) (c .before .before .before .put-bits .result) _ _
-          (c .before .before .before .before .before .before .before .put-bit .ensures) (c .before .before .before .put-bits .ensures))
-          (omega (arith, run-length (s .args .kp) (s .args .krp) (s .args .z) (s .args .v), length-numBits (a .kp / 8) (a .z))),
-      omega arith,
-    )
-
-put-gr-requires : tie.Need-put-gr-requires
-put-gr-requires c κs =
-    let c3 = c .before .before .before in
-    let c7 = c3 .before .before .before .before in
-    let c11 = c7 .before .before .before .before in
-    let c14 = c11 .before .before .before in
-    let s = c14 in
+put-few-requires-2 : tie.Need-put-few-requires-2
+put-few-requires-2 c κs =
+    let s = c .before .before .before .before .before .before .before .before in
     let a = s .args in
-    let X = (odd 1 ∷ []) ++ numBits (a .kp / 8) (a .z) in (
-      ready-after (a .out .now) (c3 .put-bit2 .last .0) (a .p) (c3 .put-bit2 .result) (length (runBits (a .kp) (a .krp) (a .z) (a .v)))
-          (grLen (a .krp / 8) ((a .v - 1) / 2)) (X ++ (odd (a .v % 2) ∷ [])) (s .pre .0)
-          (put-more (a .out .now) (c7 .put-bits .last .0) (c3 .put-bit2 .last .0) (a .p) (c7 .put-bits .result) (c3 .put-bit2 .result) _ _
-          (put-more (a .out .now) (c11 .put-bit .last .0) (c7 .put-bits .last .0) (a .p) (c11 .put-bit .result) (c7 .put-bits .result) _ _
-          (c11 .put-bit .ensures) (c7 .put-bits .ensures)) (c3 .put-bit2 .ensures))
-          (omega (
-            arith,
-            run-length (s .args .kp) (s .args .krp) (s .args .z) (s .args .v),
-            length-append X (odd (a .v % 2) ∷ []),
-            length-numBits (a .kp / 8)
-                (a .z),
-          )),
-      omega (arith, s .pre .2),
+    let h = c .before .before .before .before .before .put-few in
+    let w = head-put (a .kp / 8) (a .z) (a .v) (omega (arith, s .pre .1)) (s .pre .3) _ _ (a .p) (h .result) (h .ensures) in
+    let b = headBits (a .kp / 8) (a .z) (a .v % 2) in (
+      ready-after (a .out .now) (h .last .0) (a .p) (h .result) (length (runBits (a .kp) (a .krp) (a .z) (a .v))) _ b (s .pre .0) w
+          (omega (arith, run-length (a .kp) (a .krp) (a .z) (a .v), head-length (a .kp / 8) (a .z) (a .v % 2))),
+      omega (arith, s .pre .2, c .before .before .if1 .taken),
+      c .gr-word .ensures .1,
     )
 
 returns : tie.Need-returns
 returns c =
-    let c2 = c .before .before in
-    let c6 = c2 .before .before .before .before in
-    let c10 = c6 .before .before .before .before in
-    let c14 = c10 .before .before .before .before in
-    let c17 = c14 .before .before .before in
-    let a = c17 .args in
-    rw (← run-parts (a .kp) (a .krp) (a .z) (a .v))
-    (put-more (a .out .now) (c6 .put-bit2 .last .0) (c2 .put-gr .last .0) (a .p) (c6 .put-bit2 .result) (c2 .put-gr .result) _ _
-    (put-more (a .out .now) (c10 .put-bits .last .0) (c6 .put-bit2 .last .0) (a .p) (c10 .put-bits .result) (c6 .put-bit2 .result) _ _
-    (put-more (a .out .now) (c14 .put-bit .last .0) (c10 .put-bits .last .0) (a .p) (c14 .put-bit .result) (c10 .put-bits .result) _ _
-    (c14 .put-bit .ensures) (c10 .put-bits .ensures)) (c6 .put-bit2 .ensures)) (c2 .put-gr .ensures))
+    let s = c .before .before .before .before .before .before .before .before .before .before .before in
+    let a = s .args in
+    let h = c .before .before .before .before .before .before .before .before .put-few in
+    let g = c .before .before .put-few2 in
+    let w = head-put (a .kp / 8) (a .z) (a .v) (omega (arith, s .pre .1)) (s .pre .3) _ _ (a .p) (h .result) (h .ensures) in
+    let u = c .before .before .before .gr-word in
+    let t : Put (h .last .0) (h .result) (g .last .0) (g .result) (grBits (a .krp / 8) ((a .v - 1) / 2)) = rw (← u .ensures .0) (g .ensures) in
+    rw (← run-parts (a .kp) (a .krp) (a .z) (a .v)) (put-more (a .out .now) (h .last .0) (g .last .0) (a .p) (h .result) (g .result) _ _ w t)
+
+put-gr-requires : tie.Need-put-gr-requires
+put-gr-requires c κs =
+    let s = c .before .before .before .before .before .before .before in
+    let a = s .args in
+    let h = c .before .before .before .before .put-few in
+    let w = head-put (a .kp / 8) (a .z) (a .v) (omega (arith, s .pre .1)) (s .pre .3) _ _ (a .p) (h .result) (h .ensures) in
+    let b = headBits (a .kp / 8) (a .z) (a .v % 2) in (
+      ready-after (a .out .now) (h .last .0) (a .p) (h .result) (length (runBits (a .kp) (a .krp) (a .z) (a .v))) (grLen (a .krp / 8) ((a .v - 1) / 2)) b
+          (s .pre .0) w (omega (arith, run-length (a .kp) (a .krp) (a .z) (a .v), head-length (a .kp / 8) (a .z) (a .v % 2))),
+      omega (arith, s .pre .2),
+    )
+
+returns-2 : tie.Need-returns-2
+returns-2 c =
+    let s = c .before .before .before .before .before .before .before .before .before .before in
+    let a = s .args in
+    let h = c .before .before .before .before .before .before .before .put-few in
+    let g = c .before .before .put-gr in
+    let w = head-put (a .kp / 8) (a .z) (a .v) (omega (arith, s .pre .1)) (s .pre .3) _ _ (a .p) (h .result) (h .ensures) in
+    rw (← run-parts (a .kp) (a .krp) (a .z) (a .v)) (put-more (a .out .now) (h .last .0) (g .last .0) (a .p) (h .result) (g .result) _ _ w (g .ensures))
 
 pub put-run-spec : {M : Type 1} → statement M
 put-run-spec =
     tie.close
-    (tie.spec put-bit-requires put-bits-requires put-bit-requires-2 (λ c. search needs) put-gr-requires (λ c. search needs) returns)
+    (tie.spec (λ c. search needs) (λ c. search needs) add-put-few-2 mul-put-few add-put-few-3 put-few-requires (λ c. search needs) (λ c. search needs)
+    (λ c. search needs) (λ c. search needs) (λ c κs. search needs) put-few-requires-2 (λ c. search needs) returns put-gr-requires (λ c. search needs)
+    returns-2)
