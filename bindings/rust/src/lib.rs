@@ -477,6 +477,27 @@ pub fn write_frame(width: usize, height: usize, mode: Mode, quant: Quant, index:
     in_room(width, height, |out| write_frame_into(width, height, mode, quant, index, pixels, &mut list, &mut scratch, out))
 }
 
+/// Passes one frame of another sender on: the frame to hand to the panel, and how many of its codes were changed.
+///
+/// A frame that the panel accepts is passed on byte for byte. One whose only faults are fewer than 32 surplus bits behind a code (11; FreeRDP leaves a zero byte) or a
+/// last value without a place (10) has these codes written again, and shows the decoding of the same numbers. Any other is passed on as it came, to be refused by its
+/// number. It is never longer than what came. All of this is proved.
+///
+/// ```
+/// use xurbalenz::{tidy_frame, write_frame, Mode, Quant};
+/// let mut frame = write_frame(64, 64, Mode::Rlgr3, Quant::DEFAULT, 1, &[128; 3 * 64 * 64])?;
+/// assert_eq!(tidy_frame(64, 64, Mode::Rlgr3, &frame), (frame.clone(), 0));
+/// frame[12] = 2; // two regions: the panel refuses it
+/// assert_eq!(tidy_frame(64, 64, Mode::Rlgr3, &frame), (frame.clone(), 0));
+/// # Ok::<(), xurbalenz::Refusal>(())
+/// ```
+pub fn tidy_frame(width: u16, height: u16, mode: Mode, frame: &[u8]) -> (Vec<u8>, usize) {
+    let (mut list, mut out) = (vec![0; LIST], vec![0; frame.len()]);
+    let (_, size, cut) = edge::tidy_frame(width, height, mode.number(), frame, &mut list, &mut out); // list and room are as asked
+    out.truncate(size);
+    (out, cut)
+}
+
 // What a frame writer writes, in as much room as it takes.
 fn in_room(width: usize, height: usize, mut write: impl FnMut(&mut [u8]) -> Result<usize, Refusal>) -> Result<Vec<u8>, Refusal> {
     // A size that is not allowed is refused before room is judged, so any room will do for it.
