@@ -5,13 +5,13 @@ use mathlib.Core.Path.{_≡_}
 use mathlib.Core.Bool.{Bool, false}
 use mathlib.Core.List.{List, _∷_, _++_}
 use lib.Dec.{eqb}
-use lib.ListN.{length, take, drop}
+use lib.ListN.{length, drop}
 use Rattle.whole.specs.Row.{_!_⨾_, _⇒_∣_}
 use Rattle.wire.specs.Le.{bytes16, bytes32, patch}
 use Rattle.session.specs.Header.{ready}
 use Rattle.session.specs.declared.Session.{Session}
 use Rattle.frame_layout.specs.Bytes.{Tile}
-use Rattle.frame_layout.specs.Reader.{sizeAt, tileCount, dataOf, setPlace, endPlace}
+use Rattle.frame_layout.specs.Reader.{sizeAt, tileCount, dataOf, setPlace}
 use Rattle.frame_blocks.specs.Tiles.{TileWhole}
 use Rattle.frame.specs.laws.Frame.{FrontGood}
 use Rattle.tidy.specs.Tidy.{faultFor, layoutFor, cutCode}

@@ -1,4 +1,5 @@
--- A frame as the filter in front of the panel passes it on: byte for byte where the panel accepts it; with its codes tidied and "lengths of tile, tileset and data
+-- A frame as the filter in front of the panel passes it on: byte for byte where the panel accepts it; with its codes tidied and "lengths of tile, tileset
+-- and data
 -- size filled in again" where it is accepted then; and whatever else it is, as it came, "to be refused by number".
 -- (01 is this project's scope document, 02 its change requests, 001 is MS-RDPRFX: README, "What 01 is".)
 use Prim.Native.Nat.{ℕ, zero, suc, _+_, _*_}

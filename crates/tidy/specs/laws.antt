@@ -4,5 +4,6 @@ pub mod Put
 pub mod Pass
 pub mod Headers
 pub mod Order
+pub mod Lost
 pub mod Mended
 pub mod Request

@@ -5,7 +5,7 @@ ghost use mathlib.Core.Path.{_≡_};
 ghost use mathlib.Core.Bool.{true};
 ghost use Prim.Native.Nat.{_+_, _*_, _≤_};
 ghost use lib.ListN.{length};
-ghost use Rattle.session.specs.Header.{Right, ready};
+ghost use Rattle.session.specs.Header.{Right};
 ghost use Rattle.wire.specs.Le.{patch};
 ghost use Rattle.frame_layout.specs.Bytes.{tileOf};
 ghost use Rattle.frame_layout.specs.Reader.{sizeAt, tileAt, tilesFault, dataOf, tileCount, setPlace, quantCount};

@@ -1,13 +1,13 @@
-// Header blocks put into 01's order: behind a sync the next three wait in a store of 35 bytes until versions, channels and context are all there. Nothing is lost:
-// where another block comes before that, what waits goes on as it came, and the block behind it.
+// Header blocks put into 01's order: behind a sync the next three wait in a store of 35 bytes until versions, channels and context are all there.
+// Nothing is lost: where another block comes before that, what waits goes on as it came, and the block behind it.
 ghost use mathlib.Core.Path.{_≡_};
 ghost use mathlib.Core.Bool.{true};
 ghost use mathlib.Core.List.{_++_};
 ghost use Prim.Native.Nat.{_+_, _≤_};
 ghost use lib.ListN.{length};
 ghost use Rattle.wire.specs.Le.{patch};
-ghost use Rattle.tidy.specs.Headers.{kindBy, kindOf, isSync, placeOf, lengthOf, waitingBytes, waits, waitingBy, waitingAfter, heldOn, passedOn, storeAfter};
-ghost use Rattle.tidy.specs.Headers.{flagOf, headerFault, none, GaveOn};
+ghost use Rattle.tidy.specs.Headers.{kindBy, kindOf, isSync, placeOf, lengthOf, waitingBytes, waits, waitingBy, waitingAfter, heldOn};
+ghost use Rattle.tidy.specs.Headers.{passedOn, storeAfter, flagOf, headerFault, none, GaveOn};
 
 // Whether blocks wait (behind a sync), and which: 1 versions, 2 channels, 3 context, 0 none.
 pub struct Waiting {

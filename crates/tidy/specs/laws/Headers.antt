@@ -1,12 +1,10 @@
 -- Laws of the headers' calls: what a block that waits is, where it stands, what goes on, and the ways out.
 use Prim.Native.Nat.{ℕ, zero, suc, _+_, _≤_}
-use mathlib.Core.Path.{_≡_, refl, ap, ap₂, sym, _∙_, subst}
+use mathlib.Core.Path.{_≡_, refl, ap, ap₂, sym, _∙_}
 use mathlib.Core.Bool.{Bool, true, false, true≢false}
 use mathlib.Core.List.{List, [], _++_}
-use mathlib.Core.Logic.{_⊎_, inl, inr, ⊎-elim}
 use native.Mathlib.Omega.{arith}
-use native.Mathlib.Nat.{zero-add}
-use lib.Dec.{ltb, leb, eqb}
+use lib.Dec.{eqb}
 use lib.ListN.{length, take, drop, length-append, length-drop}
 use lib.Seq.{length-take-le, take-length}
 use borrow.Author.Tests.{eqb-true, leb-true, eq-eqb, ne-eqb, lt-ltb, le-ltb}
@@ -14,7 +12,7 @@ use Rattle.whole.specs.Row.{_!_⨾_, _⇒_∣_}
 use Rattle.whole.specs.laws.Row.{passes, fails, held, case-yes, case-no}
 use Rattle.wire.specs.Le.{le16, patch}
 use Rattle.wire.specs.Wrote.{lengthSaid, outLeft}
-use Rattle.wire.specs.laws.Le.{patch-next, patch-none, patch-front, patch-length}
+use Rattle.wire.specs.laws.Le.{patch-next, patch-none, patch-front}
 use Rattle.tidy.specs.Headers.{kindBy, kindOf, isSync, placeOf, lengthOf, blockAt, waitingBytes, waits, heldOn, passedOn, storeAfter, flagOf, waitingBy}
 use Rattle.tidy.specs.Headers.{waitingAfter, headerFault, waitingSaid, storeLeft, GaveOn}
 use Rattle.tidy.specs.declared.headers.Waiting.{Waiting}
@@ -170,7 +168,8 @@ other-put w b store out o1 o2 n p l q =
     (patch-next o1 o2 out W b 0 n p (q ∙ ap (patch o1 n) (take-length b)) (omega arith) (omega arith), omega (arith, l, length-append W b))
 
 -- a sync opens the wait
-pub opened : (f : ℕ) (sync : Bool) → f ≡ flagOf sync → _≡_ {A = Waiting} (record { on = f; first = 0; second = 0 }) (record { on = flagOf sync; first = 0; second = 0 })
+pub opened : (f : ℕ) (sync : Bool) → f ≡ flagOf sync → _≡_ {A = Waiting} (record { on = f; first = 0; second = 0 })
+    (record { on = flagOf sync; first = 0; second = 0 })
 opened f sync e = rw e refl
 
 module _ (w : Waiting) (store b : List ℕ) (k : ℕ) (e : k ≡ kindOf b) where

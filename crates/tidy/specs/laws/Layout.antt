@@ -1,5 +1,5 @@
 -- The first fault of a frame by any judge of components: its front's, its tiles', its end's; and what a message has whose layout is in order.
-use Prim.Native.Nat.{ℕ, zero, suc, _+_, _*_, _≤_}
+use Prim.Native.Nat.{ℕ, zero, suc, _+_, _≤_}
 use mathlib.Core.Path.{_≡_, refl, ap, sym, _∙_}
 use mathlib.Core.List.{List}
 use native.Mathlib.Omega.{arith}
@@ -7,7 +7,7 @@ use lib.ListN.{length}
 use Rattle.whole.specs.Row.{_⨟_}
 use Rattle.whole.specs.laws.Row.{both, stops, goes-on}
 use Rattle.frame_layout.specs.Reader.{beginFault, regionFault, endFault, frameFault, codesFault, tileFault, tilesFault, sizeAt, setPlace, endPlace, quantCount}
-use Rattle.frame_layout.specs.Reader.{setAt, tileAt, tileCount, dataOf}
+use Rattle.frame_layout.specs.Reader.{setAt, tileCount, dataOf}
 use Rattle.frame_blocks.specs.Blocks.{setFront}
 use Rattle.frame_blocks.specs.Tiles.{tileFront}
 use Rattle.frame_blocks.specs.laws.Blocks.{set-goes-on}

@@ -4,23 +4,35 @@ use mathlib.Core.Path.{_≡_, refl, ap, ap₂, sym, _∙_, subst}
 use mathlib.Core.Bool.{Bool}
 use mathlib.Core.List.{List, [], _∷_, _++_, map}
 use native.Mathlib.Omega.{arith}
-use native.Mathlib.Nat.{add-zero, add-assoc}
+use native.Mathlib.Nat.{add-zero}
 use lib.ListN.{length, getD, take, drop, length-append, length-drop, List·getD-append}
 use lib.Seq.{length-take-le, getD-take, getD-drop, getD-append-add, ext-getD, drop-at, take-append-seam, take-nil}
-use borrow.Author.Tests.{eqb-true, leb-true, ltb-true, eq-eqb, le-leb}
+use borrow.Author.Tests.{eqb-true, ltb-true, eq-eqb}
 use Rattle.whole.specs.Row.{_⨟_}
 use Rattle.whole.specs.laws.Row.{held, both, passes}
 use Rattle.wire.specs.Le.{le16, le32, bytes32, patch}
 use Rattle.wire.specs.laws.Le.{patch-length}
 use Rattle.bits.specs.laws.Bytes.{Bytes}
-use Rattle.frame_layout.specs.Bytes.{Tile, tileLen, tileOf}
-use Rattle.frame_layout.specs.Reader.{blockJudge, sizeAt, fixedHead, leastHead, codecJudge, codecFault, beginJudge, beginFault, regionJudge, lastJudge, rectCount}
-use Rattle.frame_layout.specs.Reader.{regionFault, setJudge, halvesFault, quantsFault, quantCount, tileCount, dataSize, setAt, dataOf, bodyJudge, tileAt, codesFault}
+use Rattle.frame_layout.specs.Reader.{blockJudge, sizeAt, fixedHead, leastHead, codecJudge, codecFault, beginJudge, beginFault, rectCount}
+use Rattle.frame_layout.specs.Reader.{
+  regionFault,
+  setJudge,
+  halvesFault,
+  quantsFault,
+  quantCount,
+  tileCount,
+  dataSize,
+  setAt,
+  dataOf,
+  bodyJudge,
+  tileAt,
+  codesFault,
+}
 use Rattle.frame_layout.specs.Reader.{tileFault, tilesFault, tilesIn, endFault, setPlace, endPlace, frameFault, frameTiles}
-use Rattle.frame_layout.specs.laws.Here.{Fits, four-bytes, le16-in, le32-in, byte-in, past, tile-here}
+use Rattle.frame_layout.specs.laws.Here.{four-bytes, le16-in, le32-in, byte-in, past, tile-here}
 use Rattle.frame_layout.specs.laws.Tiles.{none, least-none, fixed-none, Good, tile-none}
 use Rattle.frame_blocks.specs.Blocks.{rectsOf, setFields, setFront, RegionGood}
-use Rattle.frame_blocks.specs.Tiles.{tileFields, tileFront, TileSound}
+use Rattle.frame_blocks.specs.Tiles.{tileFields, tileFront}
 use Rattle.frame_blocks.specs.laws.Blocks.{fixed-good}
 use Rattle.frame_blocks.specs.laws.Tiles.{tile-goes-on, tile-sound}
 use Rattle.frame.specs.Frame.{frontFault}
@@ -217,8 +229,14 @@ module _ (m m′ T E : List ℕ) (sp from : ℕ) (a : Alike m m′ T E sp from) 
       (omega (arith, a .size)) (omega (arith, a .size, a .long, tiles, length-append T E)))
       (none _ _ (y .0 ∙ ap₂ codecJudge (sym (a .mid (sp + 6) (omega arith) (omega arith))) (sym (a .mid (sp + 7) (omega arith) (omega arith))))
       (none _ _
-      (rw (two (sp + 8) (omega arith) (omega arith), two (sp + 10) (omega arith) (omega arith), two (sp + 12) (omega arith) (omega arith),
-      two (sp + 16) (omega arith) (omega arith), a .mid (sp + 14) (omega arith) (omega arith), a .mid (sp + 15) (omega arith) (omega arith))
+      (rw (
+        two (sp + 8) (omega arith) (omega arith),
+        two (sp + 10) (omega arith) (omega arith),
+        two (sp + 12) (omega arith) (omega arith),
+        two (sp + 16) (omega arith) (omega arith),
+        a .mid (sp + 14) (omega arith) (omega arith),
+        a .mid (sp + 15) (omega arith) (omega arith),
+      )
       (set-resized et _ _ _ _ _ _ _ _ _ _ (w .0) (rw (a .size, a .bytes) refl)))
       (rw (a .mid (sp + 14) (omega arith) (omega arith))
       (w .1 ∙ sym (quants-same m′ m (5 * getD m (sp + 14) 0) (sp + 22) (λ k p q. a .high k p (omega (arith, q, tiles))))))))
@@ -285,8 +303,11 @@ module _ (m m′ T E : List ℕ) (sp from : ℕ) (a : Alike m m′ T E sp from) 
   rects-again =
       let n = le16 m 23 in
       let end : sp ≡ 14 + (15 + 8 * n) = far in
-      let c : le16 m′ 23 ≡ n = le16-same m′ m 23 (λ k p q. a .low k (omega (arith, end, q))) in
-      (c, rw c (part-same m′ m 25 (8 * n) (omega (arith, end, in-front)) (omega (arith, region .there, region .size)) (λ k p q. a .low k (omega (arith, end, q)))))
+      let c : le16 m′ 23 ≡ n = le16-same m′ m 23 (λ k p q. a .low k (omega (arith, end, q))) in (
+        c,
+        rw c (part-same m′ m 25 (8 * n) (omega (arith, end, in-front)) (omega (arith, region .there, region .size))
+            (λ k p q. a .low k (omega (arith, end, q)))),
+      )
 
 -- ---- the tiles
 

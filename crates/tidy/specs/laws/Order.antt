@@ -12,7 +12,21 @@ use Rattle.whole.specs.Row.{_!_⨾_, _⇒_∣_}
 use Rattle.whole.specs.laws.Row.{passes}
 use Rattle.wire.specs.Le.{patch, written}
 use Rattle.wire.specs.laws.Le.{patch-next, patch-front, patch-length}
-use Rattle.tidy.specs.Headers.{kindOf, isSync, placeOf, lengthOf, blockAt, waitingBytes, waits, heldOn, passedOn, storeAfter, flagOf, waitingBy, waitingAfter}
+use Rattle.tidy.specs.Headers.{
+  kindOf,
+  isSync,
+  placeOf,
+  lengthOf,
+  blockAt,
+  waitingBytes,
+  waits,
+  heldOn,
+  passedOn,
+  storeAfter,
+  flagOf,
+  waitingBy,
+  waitingAfter,
+}
 use Rattle.tidy.specs.Headers.{allOn, none}
 use Rattle.tidy.specs.laws.Headers.{kind-which, long-as, goes-held}
 use Rattle.tidy.specs.declared.headers.Waiting.{Waiting}

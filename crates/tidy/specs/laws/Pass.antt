@@ -1,11 +1,11 @@
 -- The frame passed on: whether a tidied one is tried, what is written where it is kept, and the call's ways out.
 use Prim.Native.Nat.{ℕ, zero, suc, _+_, _-_, _≤_, _<_}
-use mathlib.Core.Path.{_≡_, refl, ap, ap₂, sym, _∙_, subst}
+use mathlib.Core.Path.{_≡_, refl, ap, sym, _∙_}
 use mathlib.Core.Bool.{Bool, true, false, true≢false}
 use mathlib.Core.List.{List, _++_}
 use native.Mathlib.Omega.{arith}
 use native.Mathlib.Nat.{zero-add}
-use lib.Dec.{eqb, leb}
+use lib.Dec.{eqb}
 use lib.IntN.{ℤ, pos}
 use lib.ListN.{length, take, drop, replicate}
 use lib.Seq.{take-at, drop-append-add, drop-drop}
@@ -17,12 +17,11 @@ use Rattle.wire.specs.Wrote.{lengthSaid, outLeft}
 use Rattle.wire.specs.laws.Le.{patch-front}
 use Rattle.session.specs.Header.{ready}
 use Rattle.session.specs.declared.Session.{Session}
-use Rattle.frame_layout.specs.Reader.{frameFault, dataOf, tileCount, setPlace}
+use Rattle.frame_layout.specs.Reader.{dataOf, tileCount, setPlace}
 use Rattle.tidy.specs.Tidy.{faultFor, layoutFor, isTidied, tidyFrame, frameTidied, cutTiles, codesCut, tidyFault, cutSaid, listLeft, FrameTidied}
 use Rattle.tidy.specs.Put.{Puts, Laid, isDue}
 use Rattle.tidy.specs.laws.Layout.{parts-good, laid}
 use Rattle.tidy.specs.declared.frames.Put.{Put}
-use Rattle.tidy.specs.declared.frames.Tidied.{Tidied}
 
 -- ---- is it tried?
 
@@ -133,7 +132,8 @@ module _ (list message room : ℕ) where
   fault-none e h = search rows
 
 module _ (s : Session) (m out : List ℕ) (list : List ℤ) where
-  refused-by : (f x : ℕ) → x ≡ f → (x ≡ 0 → ⊥) → (0 ≡ lengthSaid f (tidyFrame s m)) × ((0 ≡ cutSaid f (codesCut s m)) × ((out ≡ outLeft f (tidyFrame s m) out) × (list ≡ listLeft f list)))
+  refused-by : (f x : ℕ) → x ≡ f → (x ≡ 0 → ⊥) → (0 ≡ lengthSaid f (tidyFrame s m)) ×
+      ((0 ≡ cutSaid f (codesCut s m)) × ((out ≡ outLeft f (tidyFrame s m) out) × (list ≡ listLeft f list)))
   unfolding lengthSaid cutSaid outLeft listLeft
   refused-by zero x e h = absurd (h e)
   refused-by (suc f) x e h = (refl, (refl, (refl, refl)))
@@ -144,7 +144,8 @@ module _ (s : Session) (m out : List ℕ) (list : List ℤ) where
       let k = refused-by (tidyFault (length list) (length m) (length out)) x e h in
       record { number = e; size = k .0; cut = k .1 .0; left = k .1 .1 .0; work = k .1 .1 .1 }
 
-  done-by : (f n k : ℕ) (o : List ℕ) (l : List ℤ) → 0 ≡ f → n ≡ 0 + length (tidyFrame s m) → k ≡ codesCut s m → o ≡ patch out 0 (tidyFrame s m) → l ≡ replicate 4096 (pos 0) →
+  done-by : (f n k : ℕ) (o : List ℕ) (l : List ℤ) → 0 ≡ f → n ≡ 0 + length (tidyFrame s m) → k ≡ codesCut s m → o ≡ patch out 0
+      (tidyFrame s m) → l ≡ replicate 4096 (pos 0) →
       (n ≡ lengthSaid f (tidyFrame s m)) × ((k ≡ cutSaid f (codesCut s m)) × ((o ≡ outLeft f (tidyFrame s m) out) × (l ≡ listLeft f list)))
   unfolding lengthSaid cutSaid outLeft listLeft
   done-by zero n k o l e a b c d = (a ∙ zero-add (length (tidyFrame s m)), (b, (c ∙ patch-front out (tidyFrame s m), d)))

@@ -5,8 +5,8 @@ use mathlib.Core.Bool.{Bool, true, false}
 use mathlib.Core.List.{List, [], _∷_, _++_, append-assoc, append-nil}
 use native.Mathlib.Omega.{arith}
 use native.Mathlib.Nat.{sub-zero, add-assoc, zero-add}
-use lib.ListN.{length, getD, take, drop, length-append, length-take, length-drop}
-use lib.Seq.{take-append-le, drop-append-le, take-take, take-all, drop-at, take-at, length-take-le}
+use lib.ListN.{length, getD, take, drop, length-append, length-drop}
+use lib.Seq.{take-append-le, drop-append-le, take-take, drop-at, take-at, length-take-le}
 use Rattle.whole.specs.Row.{_!_⨾_}
 use Rattle.whole.specs.laws.Row.{passes, fails}
 use Rattle.wire.specs.Le.{le16, le32, bytes16, bytes32, patch}
@@ -32,7 +32,8 @@ patch-before x y xs a b at k e f s h =
     let rest = b ++ drop (k + length b) xs in
     let t : take at x ≡ take at xs = ap (take at) e ∙ (take-append-le at (take k xs) rest (omega arith) ∙ take-take at k xs (omega arith)) in
     let d : drop (at + length a) x ≡ rest = rw (← s, e) (drop-at (take k xs) rest k l) in
-    let n : at + length (a ++ b) ≡ k + length b = ap (λ (z : ℕ). at + z) (length-append a b) ∙ (sym (add-assoc at (length a) (length b)) ∙ ap (λ (z : ℕ). z + length b) (sym s)) in
+    let n : at + length (a ++ b) ≡ k + length b = ap (λ (z : ℕ). at + z) (length-append a b) ∙
+    (sym (add-assoc at (length a) (length b)) ∙ ap (λ (z : ℕ). z + length b) (sym s)) in
     f ∙ (ap₂ (λ (p q : List ℕ). p ++ (a ++ q)) t d
     ∙ ap (λ (z : List ℕ). take at xs ++ z) (sym (append-assoc a b (drop (k + length b) xs)) ∙ ap (λ (z : ℕ). (a ++ b) ++ drop z xs) (sym n)))
 

@@ -1,21 +1,31 @@
 -- The page of promises, proved.
-use Prim.Native.Nat.{ℕ, _≤_}
+use Prim.Native.Nat.{ℕ, zero, suc, _+_, _≤_}
 use mathlib.Core.Path.{_≡_, refl, ap, sym, _∙_, subst}
 use mathlib.Core.Bool.{Bool, true, false, true≢false}
-use mathlib.Core.List.{List}
+use mathlib.Core.List.{List, _∷_, _++_}
 use native.Mathlib.Omega.{arith}
 use lib.Dec.{eqb}
 use lib.ListN.{length}
 use borrow.Author.Tests.{eqb-true, eq-eqb}
 use Rattle.whole.specs.Row.{_!_⨾_, _⇒_∣_}
-use Rattle.whole.specs.laws.Row.{passes, fails}
+use Rattle.whole.specs.laws.Row.{passes, fails, both}
+use Rattle.bits.specs.laws.Bytes.{Bytes}
+use Rattle.frame_layout.specs.Reader.{codesFault, tileFault, tilesFault, tileAt, sizeAt, frameFault, dataOf, tileCount, setPlace}
+use Rattle.frame_layout.specs.laws.Tiles.{none as no-fault}
+use Rattle.frame_blocks.specs.Judged.{judged}
+use Rattle.frame_blocks.specs.Tiles.{tileFront}
+use Rattle.frame_blocks.specs.laws.Tiles.{tile-goes-on}
 use Rattle.session.specs.Header.{ready}
 use Rattle.session.specs.declared.Session.{Session}
 use Rattle.tidy.specs.Tidy.{faultFor, layoutFor, isTidied, tidyFrame, frameTidied}
 use Rattle.tidy.specs.Put.{Laid}
-use Rattle.tidy.specs.laws.Layout.{parts-good, laid}
+use Rattle.tidy.specs.Headers.{kindOf, isSync, allOn, none}
+use Rattle.tidy.specs.laws.Layout.{tilesBy, parts-by, parts-good, laid, anyCode, front-alone}
+use Rattle.tidy.specs.laws.Mended.{Again, again}
+use Rattle.tidy.specs.laws.Order.{on-vcx, on-vxc, on-cvx, on-cxv, on-xvc, on-xcv}
+use Rattle.tidy.specs.laws.Lost.{nothing-lost}
 use Rattle.tidy.specs.laws.Put.{frame-shorter}
-use Rattle.tidy.specs.Request.{TidyFrames}
+use Rattle.tidy.specs.Request.{judgedLoosely, TidyFrames, ordersOf, EachOf, TidyHeaders}
 
 -- ---- by whether a frame is tidied
 
@@ -79,5 +89,89 @@ once s m = go (isTidied s m) refl
     go true e = accepted-kept s (tidyFrame s m) (ap (faultFor s) (tidied s m e) ∙ hold-all s m e .1 .1)
     go false e = ap (tidyFrame s) (kept s m e)
 
+-- ---- a tidied frame is what came, tidied
+
+-- a walk without a fault by any judge has none where every code is taken for good
+any-tiles : (judge : ℕ → List ℕ → ℕ) (w h q : ℕ) (d : List ℕ) (n at : ℕ) → 0 ≡ tilesFault judge w h q d n at → 0 ≡ tilesFault anyCode w h q d n at
+unfolding tilesFault
+any-tiles judge w h q d zero at e = e
+any-tiles judge w h q d (suc n) at e =
+    let p = both (tileFault judge w h q d at) (tilesFault judge w h q d n (at + sizeAt d at)) e in
+    let f = both (tileFront w h q d at) (codesFault judge (tileAt d at)) (p .0 ∙ tile-goes-on judge w h q d at) in
+    no-fault _ _ (f .0 ∙ front-alone w h q d at) (any-tiles judge w h q d n (at + sizeAt d at) (p .1))
+
+layout-none : (comp : ℕ → List ℕ → List ℕ → ℕ) (w h et : ℕ) (m : List ℕ) → 0 ≡ frameFault comp w h et m →
+    0 ≡ frameFault (λ (i : ℕ) (five code : List ℕ). 0) w h et m
+unfolding tilesBy
+layout-none comp w h et m e =
+    let p = parts-good comp w h et m e in
+    no-fault _ _ (p .front) (no-fault _ _ (any-tiles _ w h _ (dataOf m (setPlace m)) (tileCount m (setPlace m)) 0 (p .tiles)) (p .last))
+    ∙ sym (parts-by (λ (i : ℕ) (five code : List ℕ). 0) w h et m)
+
+as-is : (a b c d : Bool) → a ≡ true → c ≡ true → d ≡ true → (a ! false ⨾ b ⇒ false ∣ c ! false ⨾ d) ≡ false → b ≡ true
+unfolding _!_⨾_ _⇒_∣_
+as-is true true true true p q r e = refl
+as-is true false true true p q r e = sym e
+as-is false b c d p q r e = absurd (true≢false (sym p))
+as-is true b false d p q r e = absurd (true≢false (sym q))
+as-is true b true false p q r e = absurd (true≢false (sym r))
+
+module _ (s : Session) (m : List ℕ) (hb : Bytes m) where
+  by-layout : isTidied s m ≡ true → Again (λ (i : ℕ) (five code : List ℕ). 0) (s .width) (s .height) (s .mode) m (tidyFrame s m)
+  unfolding layoutFor
+  by-layout e =
+      subst (Again (λ (i : ℕ) (five code : List ℕ). 0) (s .width) (s .height) (s .mode) m) (sym (tidied s m e))
+      (again (λ (i : ℕ) (five code : List ℕ). 0) (s .width) (s .height) (s .mode) m hb (hold-all s m e .1 .0))
+
+  module _ (r : ready s ≡ true) (f : frameFault judgedLoosely (s .width) (s .height) (s .mode) m ≡ 0) where
+    accepted : faultFor s (frameTidied (s .mode) m) ≡ 0
+    unfolding faultFor judgedLoosely
+    accepted = sym (again judged (s .width) (s .height) (s .mode) m hb (sym f) .fault)
+
+    sound : layoutFor s m ≡ 0
+    unfolding layoutFor
+    sound = sym (layout-none judgedLoosely (s .width) (s .height) (s .mode) m (sym f))
+
+    as-came : isTidied s m ≡ false → faultFor s m ≡ 0
+    unfolding isTidied
+    as-came e =
+        eqb-true (faultFor s m) 0 (as-is (ready s) (eqb (faultFor s m) 0) (eqb (layoutFor s m) 0) (eqb (faultFor s (frameTidied (s .mode) m)) 0) r
+        (eq-eqb (layoutFor s m) 0 sound) (eq-eqb (faultFor s (frameTidied (s .mode) m)) 0 accepted) e)
+
+    mended : faultFor s (tidyFrame s m) ≡ 0
+    mended = go (isTidied s m) refl
+      where
+        go : (t : Bool) → isTidied s m ≡ t → faultFor s (tidyFrame s m) ≡ 0
+        go true e = ap (faultFor s) (tidied s m e) ∙ hold-all s m e .1 .1
+        go false e = ap (faultFor s) (kept s m e) ∙ as-came e
+
 pub tidyFrames : TidyFrames
-tidyFrames = record { accepted-kept = accepted-kept; others-kept = others-kept; once = once; never-longer = never-longer }
+tidyFrames = record {
+  accepted-kept = accepted-kept;
+  mended = mended;
+  same-tiles = λ s m hb e. by-layout s m hb e .tiles;
+  same-region = λ s m hb e. by-layout s m hb e .region;
+  same-sets = λ s m j hb e l. by-layout s m hb e .sets j l;
+  others-kept = others-kept;
+  once = once;
+  never-longer = never-longer;
+}
+
+-- ---- headers
+
+ordered : (s v c x store : List ℕ) → length store ≡ 35 → isSync s ≡ true → kindOf v ≡ 1 → kindOf c ≡ 2 → kindOf x ≡ 3 →
+    EachOf (λ (bs : List (List ℕ)). allOn none store (s ∷ bs) ≡ s ++ (v ++ (c ++ x))) (ordersOf v c x)
+unfolding EachOf ordersOf
+ordered s v c x store ls es ev ec ex = (
+  on-vcx s v c x store ls es ev ec ex,
+  (
+    on-vxc s v c x store ls es ev ec ex,
+    (
+      on-cvx s v c x store ls es ev ec ex,
+      (on-cxv s v c x store ls es ev ec ex, (on-xvc s v c x store ls es ev ec ex, (on-xcv s v c x store ls es ev ec ex, tt))),
+    ),
+  ),
+)
+
+pub tidyHeaders : TidyHeaders
+tidyHeaders = record { ordered = ordered; unchanged = on-vcx; nothing-lost = nothing-lost }

@@ -17,7 +17,13 @@ returns c =
     let c2 = c1 .before .before .before .before in
     let c3 = c2 .before .before .before .before in
     let a = c3 .args in
-    rw (c .before .before .put32-at2 .ensures, c1 .put32-at .ensures, c2 .copy .ensures, take-all (length (now (a .m)) - a .end) (drop (a .end) (now (a .m))) (omega (arith, length-drop (a .end) (now (a .m))))) refl
+    rw (
+      c .before .before .put32-at2 .ensures,
+      c1 .put32-at .ensures,
+      c2 .copy .ensures,
+      take-all (length (now (a .m)) - a .end) (drop (a .end) (now (a .m)))
+          (omega (arith, length-drop (a .end) (now (a .m)))),
+    ) refl
 
 pub close-frame-spec : {M : Type 1} → statement M
 close-frame-spec =

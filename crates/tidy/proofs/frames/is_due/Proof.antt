@@ -1,7 +1,6 @@
 -- Each answer is a row of `isDue`; a record that is ready is right, as the check of the message asks.
 use mathlib.Core.Path.{refl, ap, sym, _∙_}
 use lib.Dec.{eqb}
-use borrow.Author.Tests.{eq-eqb}
 use borrow.Author.Needs.{needs}
 use Rattle.whole.specs.laws.Row.{passes, fails, case-yes, case-no, eq-via, ne-via}
 use Rattle.session.specs.laws.Header.{ready-good}
@@ -20,7 +19,8 @@ unfolding isDue faultFor
 returns c =
     let c1 = c .before .before .before .before in
     let c2 = c1 .before in
-    passes _ _ _ _ (sym (c2 .is-ready .ensures) ∙ c1 .if1 .taken) (case-yes _ _ _ _ (eq-via _ _ 0 (c .before .before .message-fault .ensures) (c .if2 .taken)) refl)
+    passes _ _ _ _ (sym (c2 .is-ready .ensures) ∙ c1 .if1 .taken)
+    (case-yes _ _ _ _ (eq-via _ _ 0 (c .before .before .message-fault .ensures) (c .if2 .taken)) refl)
 
 layout-fault-requires : tie.Need-layout-fault-requires
 layout-fault-requires c κs =

@@ -36,7 +36,8 @@ returns-2 c =
     let c1 = c .before .before .before in
     let c2 = c1 .before in
     let c3 = c2 .before .before in
-    differ (now (c3 .args .a)) (now (c3 .args .b)) (c2 .loop .i) (c1 .loop-test .taken) (omega (arith, c1 .loop-test .taken, c2 .loop .inv .0)) (c .if2 .taken) ∙ sym (c2 .loop .inv .2)
+    differ (now (c3 .args .a)) (now (c3 .args .b)) (c2 .loop .i) (c1 .loop-test .taken) (omega (arith, c1 .loop-test .taken, c2 .loop .inv .0))
+    (c .if2 .taken) ∙ sym (c2 .loop .inv .2)
 
 loop-again : tie.Need-loop-again Inv-loop μ-loop
 loop-again c =
@@ -45,14 +46,16 @@ loop-again c =
     let c3 = c2 .before .before in (
       c2 .loop .inv .0,
       omega (arith, c1 .loop-test .taken),
-      c2 .loop .inv .2 ∙ agree (now (c3 .args .a)) (now (c3 .args .b)) (c2 .loop .i) (c1 .loop-test .taken) (omega (arith, c1 .loop-test .taken, c2 .loop .inv .0)) (c .if2 .left),
+      c2 .loop .inv .2 ∙ agree (now (c3 .args .a)) (now (c3 .args .b)) (c2 .loop .i) (c1 .loop-test .taken)
+          (omega (arith, c1 .loop-test .taken, c2 .loop .inv .0)) (c .if2 .left),
     )
 
 returns-3 : tie.Need-returns-3 Inv-loop μ-loop
 returns-3 c =
     let c1 = c .before in
     let c2 = c1 .before .before in
-    all-same (now (c2 .args .a)) (now (c2 .args .b)) (c1 .loop .i) (omega (arith, c .loop-test .left)) (omega (arith, c .loop-test .left, c1 .loop .inv .0)) ∙ sym (c1 .loop .inv .2)
+    all-same (now (c2 .args .a)) (now (c2 .args .b)) (c1 .loop .i) (omega (arith, c .loop-test .left))
+    (omega (arith, c .loop-test .left, c1 .loop .inv .0)) ∙ sym (c1 .loop .inv .2)
 
 pub is-same-spec : {M : Type 1} → statement M
 is-same-spec =

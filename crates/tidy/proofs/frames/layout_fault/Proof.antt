@@ -79,7 +79,8 @@ returns-3 c =
     let c6 = c5 .before .before in
     let a = c6 .args in
     layout-end (a .s) (now (a .m)) (c5 .front-fault .result) (c5 .front-fault .ensures) (c4 .if1 .left) (c3 .le32-at .result) (c3 .le32-at .ensures .0)
-    (c2 .set-layout .result) (c2 .set-layout .ensures) (c1 .before .if2 .left) (c1 .le32-at2 .result) (c .end-fault .result) (c1 .le32-at2 .ensures .0) (c .end-fault .ensures)
+    (c2 .set-layout .result) (c2 .set-layout .ensures) (c1 .before .if2 .left) (c1 .le32-at2 .result) (c .end-fault .result) (c1 .le32-at2 .ensures .0)
+    (c .end-fault .ensures)
 
 pub layout-fault-spec : {M : Type 1} → statement M
 layout-fault-spec =

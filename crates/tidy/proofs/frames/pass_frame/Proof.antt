@@ -127,10 +127,12 @@ returns-3 c =
     let c2 = c1 .before .before in
     let c3 = c2 .before .before .before .before in
     let a = c3 .args in
-    pass-kept (a .s) (now (a .m)) (now (a .out)) _ _ (due-not (a .s) (now (a .m)) (sym (c2 .is-due .ensures) ∙ c1 .if1 .left)) (c .before .before .keep2 .ensures)
+    pass-kept (a .s) (now (a .m)) (now (a .out)) _ _ (due-not (a .s) (now (a .m)) (sym (c2 .is-due .ensures) ∙ c1 .if1 .left))
+    (c .before .before .keep2 .ensures)
 
 pub pass-frame-spec : {M : Type 1} → statement M
 pass-frame-spec =
     tie.close
-    (tie.spec (λ c κs. search needs) put-frame-requires slice-reshare-prefix-message-fault slice-aggregate-message-fault message-fault-requires same-length same-length-2
+    (tie.spec (λ c κs. search needs) put-frame-requires slice-reshare-prefix-message-fault slice-aggregate-message-fault message-fault-requires same-length
+    same-length-2
     returns keep-requires same-length-3 same-length-4 returns-2 keep-requires-2 same-length-5 same-length-6 returns-3)

@@ -1,8 +1,7 @@
 -- What is read of a laid message (`found`) says where its parts stand; front, tiles and end make the frame (`frame-put`).
-use mathlib.Core.Path.{ap, sym, _∙_}
+use mathlib.Core.Path.{_∙_}
 use native.Mathlib.Omega.{arith}
 use denote.Ref.{now}
-use lib.ListN.{length}
 use borrow.Author.Needs.{needs}
 use Rattle.tidy.specs.laws.Put.{set-here, found, found-put, frame-put, tiles-shorter}
 use Rattle.tidy.proofs.frames.put_frame.Statement.{statement}
@@ -34,7 +33,8 @@ add-end : tie.Need-add-end
 add-end c =
     let c1 = c .before .before .before in
     let c2 = c1 .before .before .before in
-    let f = found (now (c2 .args .m)) _ _ _ _ (c2 .pre .1) (c1 .le32-at .ensures .0) (c .before .before .byte-at .ensures .0) (c .before .le16-at .ensures .0) (c .tile-data .ensures) in
+    let f = found (now (c2 .args .m)) _ _ _ _ (c2 .pre .1) (c1 .le32-at .ensures .0) (c .before .before .byte-at .ensures .0) (c .before .le16-at .ensures .0)
+    (c .tile-data .ensures) in
     omega (arith, f .places .inside, c2 .good)
 
 copy-requires : tie.Need-copy-requires
@@ -42,7 +42,8 @@ copy-requires c κs =
     let c1 = c .before .before .before in
     let c2 = c1 .before in
     let c3 = c2 .before .before .before in
-    let f = found (now (c3 .args .m)) _ _ _ _ (c3 .pre .1) (c2 .le32-at .ensures .0) (c1 .byte-at .ensures .0) (c .before .before .le16-at .ensures .0) (c .before .tile-data .ensures) in
+    let f = found (now (c3 .args .m)) _ _ _ _ (c3 .pre .1) (c2 .le32-at .ensures .0) (c1 .byte-at .ensures .0) (c .before .before .le16-at .ensures .0)
+    (c .before .tile-data .ensures) in
     (omega (arith, f .places .inside, c3 .pre .2), omega (arith, f .places .inside))
 
 put-tiles-requires : tie.Need-put-tiles-requires
@@ -53,7 +54,8 @@ put-tiles-requires c κs =
     let c4 = c3 .before in
     let c5 = c4 .before in
     let c6 = c5 .before .before .before in
-    let f = found (now (c6 .args .m)) _ _ _ _ (c6 .pre .1) (c5 .le32-at .ensures .0) (c4 .byte-at .ensures .0) (c3 .le16-at .ensures .0) (c2 .tile-data .ensures) in
+    let f = found (now (c6 .args .m)) _ _ _ _ (c6 .pre .1) (c5 .le32-at .ensures .0) (c4 .byte-at .ensures .0) (c3 .le16-at .ensures .0)
+    (c2 .tile-data .ensures) in
     (c6 .pre .0, f .few, f .whole, omega (arith, f .places .inside, c6 .pre .2, c1 .copy .kept .0))
 
 close-frame-requires : tie.Need-close-frame-requires
@@ -78,7 +80,8 @@ sub-t12 c =
     let c3 = c2 .before in
     let c4 = c3 .before in
     let c5 = c4 .before .before .before in
-    let f = found (now (c5 .args .m)) _ _ _ _ (c5 .pre .1) (c4 .le32-at .ensures .0) (c3 .byte-at .ensures .0) (c2 .le16-at .ensures .0) (c1 .tile-data .ensures) in
+    let f = found (now (c5 .args .m)) _ _ _ _ (c5 .pre .1) (c4 .le32-at .ensures .0) (c3 .byte-at .ensures .0) (c2 .le16-at .ensures .0)
+    (c1 .tile-data .ensures) in
     omega (arith, f .places .inside)
 
 add-t14 : tie.Need-add-t14

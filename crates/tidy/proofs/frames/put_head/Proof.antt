@@ -14,7 +14,8 @@ use Rattle.tidy.proofs.frames.put_head.Tie as tie
 
 add-put16-at : tie.Need-add-put16-at
 add-put16-at c =
-    let c1 = c .before .before .before .before .before .before .before .before .before .before .before .before .before .before .before .before .before .before .before .before .before .before .before .before .before .before .before .before .before .before .before .before in
+    let c1 = c .before .before .before .before .before .before .before .before .before .before .before .before .before .before .before .before .before
+    .before .before .before .before .before .before .before .before .before .before .before .before .before .before .before in
     omega (arith, c1 .pre .1, c1 .good)
 
 put16-at-requires-2 : tie.Need-put16-at-requires-2
@@ -26,7 +27,17 @@ put16-at-requires-2 c κs =
     let c5 = c4 .before .before .before .before .before .before in
     let c6 = c5 .before .before .before .before in
     let c7 = c6 .before .before .before .before .before .before in
-    omega (arith, c7 .pre .1, c6 .put16-at .kept .0, c5 .put32-at .kept .0, c4 .put-two8 .kept .0, c3 .put8-at .kept .0, c2 .put-two16 .kept .0, c1 .put-two162 .kept .0)
+    omega (
+      arith,
+      c7 .pre .1,
+      c6 .put16-at .kept .0,
+      c5 .put32-at .kept .0,
+      c4 .put-two8 .kept .0,
+      c3 .put8-at .kept .0,
+      c2 .put-two16 .kept .0,
+      c1
+          .put-two162 .kept .0,
+    )
 
 returns : tie.Need-returns
 unfolding bytes16 bytes32 tileAt
@@ -47,7 +58,8 @@ returns c =
     let w4 = patch-next _ _ _ _ _ _ _ w3 (c3 .put8-at .ensures) refl h in
     let w5 = patch-next _ _ _ _ _ _ _ w4 (c2 .put-two16 .ensures) refl h in
     let w6 = patch-next _ _ _ _ _ _ _ w5 (c1 .put-two162 .ensures) refl h in
-    head-put (tileAt (now (c9 .args .d)) (c9 .args .at)) (now (c9 .args .out)) _ (c9 .args .to) (c8 .le16-at .result) (c7 .le16-at2 .result) (c9 .args .ly) (c9 .args .lcb) (c9 .args .lcr)
+    head-put (tileAt (now (c9 .args .d)) (c9 .args .at)) (now (c9 .args .out)) _ (c9 .args .to) (c8 .le16-at .result) (c7 .le16-at2 .result) (c9 .args .ly)
+    (c9 .args .lcb) (c9 .args .lcr)
     (c8 .le16-at .ensures .0) (c7 .le16-at2 .ensures .0) (patch-next _ _ _ _ _ _ _ w6 (c .before .before .put16-at2 .ensures) refl h)
 
 pub put-head-spec : {M : Type 1} → statement M

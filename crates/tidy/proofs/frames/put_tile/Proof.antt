@@ -29,7 +29,17 @@ put-code-requires-2 c κs =
     let r = codes-room (now (a .d)) (a .at) (c3 .pre .1) in
     let y = tidyCodes .never-longer (a .mode) (now (c2 .code-part .result)) in (
       c1 .put-code .kept .1 .1 .0 ∙ c3 .pre .0,
-      omega (arith, r, c3 .pre .2, ap length (c2 .code-part .ensures), ap length (c .before .before .code-part2 .ensures), y, c1 .put-code .ensures .behind, c1 .put-code .kept .1 .1 .1 .0),
+      omega (
+        arith,
+        r,
+        c3 .pre .2,
+        ap length (c2 .code-part .ensures),
+        ap length
+            (c .before .before .code-part2 .ensures),
+        y,
+        c1 .put-code .ensures .behind,
+        c1 .put-code .kept .1 .1 .1 .0,
+      ),
     )
 
 put-code-requires-3 : tie.Need-put-code-requires-3
@@ -98,7 +108,8 @@ put-head-requires c κs =
 
 add-t17 : tie.Need-add-t17
 add-t17 c =
-    let c1 = c .before .before .before .before .before .before .before .before .before .before .before .before .before .before .before .before .before .before .before .before .before in
+    let c1 = c .before .before .before .before .before .before .before .before .before .before .before .before .before .before .before .before .before
+    .before .before .before .before in
     let c2 = c1 .before .before .before in
     let c3 = c2 .before .before .before .before in
     let c4 = c3 .before .before .before in

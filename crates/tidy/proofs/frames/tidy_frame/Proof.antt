@@ -5,7 +5,6 @@ use denote.Ref.{now}
 use lib.IntN.{pos}
 use lib.ListN.{replicate}
 use borrow.Author.Needs.{needs}
-use Rattle.whole.specs.laws.Row.{rows}
 use Rattle.tidy.specs.laws.Pass.{fault-2, fault-13, fault-none, call-refused, call-done}
 use Rattle.tidy.proofs.frames.tidy_frame.Statement.{statement}
 use Rattle.tidy.proofs.frames.tidy_frame.Tie as tie
@@ -44,7 +43,8 @@ returns-3 c =
     let c3 = c2 .before in
     let c4 = c3 .before .before .before in
     let a = c4 .args in
-    call-done (a .s) (now (a .message)) (now (a .out)) (now (a .list)) (c1 .pass-frame .result) _ _ (fault-none _ _ _ (c3 .if1 .left) (omega (arith, c2 .if2 .left)))
+    call-done (a .s) (now (a .message)) (now (a .out)) (now (a .list)) (c1 .pass-frame .result) _ _
+    (fault-none _ _ _ (c3 .if1 .left) (omega (arith, c2 .if2 .left)))
     (c1 .pass-frame .ensures) (c .before .clear .ensures ∙ ap (λ k. replicate k (pos 0)) (c1 .pass-frame .kept .1 .1 .0 ∙ c3 .if1 .left))
 
 pub tidy-frame-spec : {M : Type 1} → statement M

@@ -41,7 +41,8 @@ add-le32-at c =
     let c1 = c .before .before .before in
     let c2 = c1 .before .before in
     let a = c2 .args in
-    let g = tile-good (a .s .width) (a .s .height) (a .q) (now (a .d)) (c1 .loop .at) (c1 .loop .inv .1) (sym (c .if1 .left) ∙ c .before .tile-front .ensures) in
+    let g = tile-good (a .s .width) (a .s .height) (a .q) (now (a .d)) (c1 .loop .at) (c1 .loop .inv .1)
+    (sym (c .if1 .left) ∙ c .before .tile-front .ensures) in
     omega (arith, g .whole, c2 .good)
 
 le32-at-requires : tie.Need-le32-at-requires Inv-loop μ-loop
@@ -50,7 +51,8 @@ le32-at-requires c κs =
     let c1 = c .before .before .before in
     let c2 = c1 .before .before in
     let a = c2 .args in
-    let g = tile-good (a .s .width) (a .s .height) (a .q) (now (a .d)) (c1 .loop .at) (c1 .loop .inv .1) (sym (c .if1 .left) ∙ c .before .tile-front .ensures) in
+    let g = tile-good (a .s .width) (a .s .height) (a .q) (now (a .d)) (c1 .loop .at) (c1 .loop .inv .1)
+    (sym (c .if1 .left) ∙ c .before .tile-front .ensures) in
     omega (arith, g .whole, c2 .good)
 
 add-at : tie.Need-add-at Inv-loop μ-loop
@@ -59,7 +61,8 @@ add-at c =
     let c1 = c .before .before .before .before in
     let c2 = c1 .before .before in
     let a = c2 .args in
-    let g = tile-good (a .s .width) (a .s .height) (a .q) (now (a .d)) (c1 .loop .at) (c1 .loop .inv .1) (sym (c .before .if1 .left) ∙ c .before .before .tile-front .ensures) in
+    let g = tile-good (a .s .width) (a .s .height) (a .q) (now (a .d)) (c1 .loop .at) (c1 .loop .inv .1)
+    (sym (c .before .if1 .left) ∙ c .before .before .tile-front .ensures) in
     omega (arith, g .whole, c .le32-at .ensures, c2 .good)
 
 loop-again : tie.Need-loop-again Inv-loop μ-loop

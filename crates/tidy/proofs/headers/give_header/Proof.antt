@@ -1,5 +1,5 @@
 -- Refused, held, or passed on behind what waits: `gave-refused`, `gave-done`.
-use mathlib.Core.Path.{refl, ap, sym, _∙_}
+use mathlib.Core.Path.{ap, sym, _∙_}
 use native.Mathlib.Omega.{arith}
 use denote.Ref.{now}
 use lib.ListN.{length}
@@ -50,8 +50,10 @@ returns-2 c =
     let c9 = c8 .before .before .before .before in
     let a = c9 .args in
     let h = goes-held (a .w) (now (a .store)) (now (a .block)) (c6 .kind-of .result) (c6 .kind-of .ensures) (sym (c3 .is-waiting .ensures) ∙ c2 .if2 .taken) in
-    let n = next-is (a .w) (now (a .store)) (now (a .block)) (c6 .kind-of .result) (c6 .kind-of .ensures) _ _ (c5 .is-sync .ensures) (c4 .waiting-by .ensures) in
-    gave-done _ _ (a .w) _ (now (a .store)) (now (a .out)) _ _ _ _ _ (sym (c7 .if1 .left) ∙ c8 .header-fault .ensures) (c1 .hold .ensures .2 ∙ ap length (h .0)) n
+    let n = next-is (a .w) (now (a .store)) (now (a .block)) (c6 .kind-of .result) (c6 .kind-of .ensures) _ _ (c5 .is-sync .ensures)
+    (c4 .waiting-by .ensures) in
+    gave-done _ _ (a .w) _ (now (a .store)) (now (a .out)) _ _ _ _ _ (sym (c7 .if1 .left) ∙ c8 .header-fault .ensures)
+    (c1 .hold .ensures .2 ∙ ap length (h .0)) n
     (c1 .hold .ensures .0 ∙ h .1) (c1 .hold .ensures .1 ∙ ap (patch (now (a .out)) 0) (h .0))
 
 put-other-requires : tie.Need-put-other-requires
@@ -79,8 +81,10 @@ returns-3 c =
     let c9 = c8 .before .before .before .before in
     let a = c9 .args in
     let h = goes-other (a .w) (now (a .store)) (now (a .block)) (c6 .kind-of .result) (c6 .kind-of .ensures) (sym (c3 .is-waiting .ensures) ∙ c2 .if2 .left) in
-    let n = next-is (a .w) (now (a .store)) (now (a .block)) (c6 .kind-of .result) (c6 .kind-of .ensures) _ _ (c5 .is-sync .ensures) (c4 .waiting-by .ensures) in
-    gave-done _ _ (a .w) _ (now (a .store)) (now (a .out)) _ _ _ _ _ (sym (c7 .if1 .left) ∙ c8 .header-fault .ensures) (c1 .put-other .ensures .1 ∙ ap length (h .0)) n
+    let n = next-is (a .w) (now (a .store)) (now (a .block)) (c6 .kind-of .result) (c6 .kind-of .ensures) _ _ (c5 .is-sync .ensures)
+    (c4 .waiting-by .ensures) in
+    gave-done _ _ (a .w) _ (now (a .store)) (now (a .out)) _ _ _ _ _ (sym (c7 .if1 .left) ∙ c8 .header-fault .ensures)
+    (c1 .put-other .ensures .1 ∙ ap length (h .0)) n
     (h .1) (c1 .put-other .ensures .0 ∙ ap (patch (now (a .out)) 0) (h .0))
 
 pub give-header-spec : {M : Type 1} → statement M

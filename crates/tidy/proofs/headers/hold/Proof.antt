@@ -1,11 +1,8 @@
 -- The block has its place (`waits-fits`); with the third all three go on (`held-three`), else nothing (`held-none`).
-use mathlib.Core.Path.{ap, ap₂, sym, subst, _∙_}
+use mathlib.Core.Path.{_∙_}
 use native.Mathlib.Omega.{arith}
 use denote.Ref.{now}
-use lib.ListN.{length}
-use lib.Seq.{take-length}
 use borrow.Author.Needs.{needs}
-use Rattle.wire.specs.Le.{patch}
 use Rattle.tidy.specs.laws.Headers.{waits-fits, hold-none, hold-three}
 use Rattle.tidy.proofs.headers.hold.Statement.{statement}
 use Rattle.tidy.proofs.headers.hold.Tie as tie
@@ -22,7 +19,8 @@ returns c =
     let c2 = c1 .before in
     let c3 = c2 .before .before .before .before .before in
     let a = c3 .args in
-    hold-none (a .w) (now (a .block)) (now (a .store)) (now (a .out)) _ (a .k) (c2 .place-of .result) (c2 .place-of .ensures) (c1 .copy .ensures) (c .if1 .taken)
+    hold-none (a .w) (now (a .block)) (now (a .store)) (now (a .out)) _ (a .k) (c2 .place-of .result) (c2 .place-of .ensures) (c1 .copy .ensures)
+    (c .if1 .taken)
 
 copy-requires-2 : tie.Need-copy-requires-2
 copy-requires-2 c κs =
@@ -45,7 +43,8 @@ returns-2 c =
     let c3 = c2 .before in
     let c4 = c3 .before .before .before .before .before in
     let a = c4 .args in
-    hold-three (a .w) (now (a .block)) (now (a .store)) (now (a .out)) _ (a .k) (c3 .place-of .result) (c3 .place-of .ensures) (c2 .copy .ensures) _ (c1 .if1 .left)
+    hold-three (a .w) (now (a .block)) (now (a .store)) (now (a .out)) _ (a .k) (c3 .place-of .result) (c3 .place-of .ensures) (c2 .copy .ensures) _
+    (c1 .if1 .left)
     (c2 .copy .kept .0 ∙ c4 .pre .2) (c .before .before .copy2 .ensures)
 
 pub hold-spec : {M : Type 1} → statement M

@@ -1,5 +1,4 @@
 -- The block right behind what waits (`patch-next`).
-use mathlib.Core.Path.{ap, sym, _∙_}
 use native.Mathlib.Omega.{arith}
 use denote.Ref.{now}
 use borrow.Author.Needs.{needs}

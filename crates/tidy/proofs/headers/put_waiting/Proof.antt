@@ -1,5 +1,4 @@
 -- Two parts of the store, one behind the other (`waiting-put`).
-use mathlib.Core.Path.{refl}
 use native.Mathlib.Omega.{arith}
 use denote.Ref.{now}
 use borrow.Author.Needs.{needs}
@@ -50,4 +49,5 @@ returns c =
 pub put-waiting-spec : {M : Type 1} → statement M
 put-waiting-spec =
     tie.close
-    (tie.spec (λ c κs. search needs) (λ c κs. search needs) (λ c κs. search needs) copy-requires (λ c κs. search needs) copy-requires-2 add-result (λ c. search needs) returns)
+    (tie.spec (λ c κs. search needs) (λ c κs. search needs) (λ c κs. search needs) copy-requires (λ c κs. search needs) copy-requires-2 add-result
+    (λ c. search needs) returns)
