@@ -282,8 +282,9 @@ fn code(mode: u8, list: &[i32], p: &mut impl Sink) {
     while i < list.len() {
         let k = a.kp / 8;
         if k > 0 {
-            let zeros = list[i..].iter().take(1 << k).take_while(|&&x| x == 0).count();
-            if zeros >= 1 << k || i + zeros == list.len() {
+            let run = &list[i..list.len().min(i + (1 << k))];
+            let zeros = run.iter().position(|&x| x != 0).unwrap_or(run.len());
+            if zeros == run.len() {
                 p.put(1, 0);
                 i += 1 << k;
                 a.up(4);
@@ -701,10 +702,10 @@ impl Sink for Slot<'_> {
     fn put(&mut self, n: u32, v: u32) {
         self.acc = self.acc << n | u64::from(v);
         self.n += n;
-        while self.n >= 8 {
-            self.n -= 8;
-            self.out[self.at] = (self.acc >> self.n) as u8;
-            self.at += 1;
+        if self.n >= 32 {
+            self.n -= 32;
+            self.out[self.at..self.at + 4].copy_from_slice(&((self.acc >> self.n) as u32).to_be_bytes());
+            self.at += 4;
         }
     }
 
@@ -715,6 +716,22 @@ impl Sink for Slot<'_> {
             ones -= 20;
         }
         self.put(ones + 1 + kr, ((1 << ones) - 1) << (kr + 1) | g & ((1 << kr) - 1));
+    }
+}
+
+impl Slot<'_> {
+    /// What still waits, filled up with zeros; the place past it.
+    fn end(mut self) -> usize {
+        while self.n >= 8 {
+            self.n -= 8;
+            self.out[self.at] = (self.acc >> self.n) as u8;
+            self.at += 1;
+        }
+        if self.n > 0 {
+            self.out[self.at] = (self.acc << (8 - self.n)) as u8;
+            self.at += 1;
+        }
+        self.at
     }
 }
 
@@ -866,9 +883,7 @@ impl Picture<'_> {
                 self.component(tile, c, list, sheet);
                 let mut slot = Slot { out, at, acc: 0, n: 0 };
                 code(self.size.mode, list, &mut slot);
-                let spare = (8 - slot.n) % 8;
-                slot.put(spare, 0);
-                let end = slot.at;
+                let end = slot.end();
                 put16(out, from + 13 + 2 * c, end - at);
                 at = end;
             }
