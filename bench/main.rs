@@ -159,6 +159,9 @@ fn compare_writers(fs: &[Frame]) {
             let x = plain_write_frame(size, pixels, &mut l, &mut a);
             let y = write_frame_of(size, pixels, &mut l, &mut b);
             assert!(x.0 == 0 && x == y && a == b, "frames written differ: {x:?} {y:?}");
+            let mut c = vec![3u8; xurbalenz::frame_room(width, height)];
+            let z = write_frame_of(size, pixels, &mut l, &mut c);
+            assert!(x == z && c[..x.1] == a[..x.1] && c[x.1..].iter().all(|&b| b == 3), "frames written at once differ: {x:?} {z:?}");
             let x = plain_write_frame(size, pixels, &mut l, &mut a[..x.1 - 1]);
             let y = write_frame_of(size, pixels, &mut l, &mut b[..y.1 - 1]);
             assert!(x == (13, 0) && x == y && a == b, "refusals differ: {x:?} {y:?}");
@@ -221,9 +224,11 @@ fn cases<'a>(cs: &'a [Component], fs: &'a [Frame]) -> Vec<Case<'a>> {
         let size = Size { width: WIDTH, height: HEIGHT, mode: f.mode };
         let room = || (Lists::new(), vec![0u8; f.bytes.len()]);
         let ((mut k, mut a), (mut l, mut b)) = (room(), room());
+        let (mut n, mut c) = (Lists::new(), vec![0u8; xurbalenz::frame_room(WIDTH, HEIGHT)]);
         all.push((format!("write frame, {} screen, RLGR{}", f.name, if f.mode == 1 { 1 } else { 3 }), vec![
             ("plain", Box::new(move || { black_box(plain_write_frame(size, &f.pixels, &mut k, &mut a)); })),
             ("rattle", Box::new(move || { black_box(write_frame(f.mode, &f.pixels, &mut l, &mut b)); })),
+            ("at-once", Box::new(move || { black_box(write_frame(f.mode, &f.pixels, &mut n, &mut c)); })),
         ]));
     }
     all
