@@ -12,10 +12,11 @@ use Rattle.app_pictures.specs.declared.bmp.Packing.{Packing}
 abbrev pub rowSize : ℕ → ℕ
 rowSize width = 2 * (width + width % 2)
 
--- 5-6-5, and "words of 32 bits: R x 65536 + G x 256 + B" (02, request Thirteen)
+-- 5-6-5
 abbrev pub packed16 : Packing
 packed16 = record { bits = 16; red = 0xF800; green = 0x07E0; blue = 0x001F }
 
+-- "words of 32 bits: R x 65536 + G x 256 + B" (02, request Thirteen)
 abbrev pub packed32 : Packing
 packed32 = record { bits = 32; red = 0xFF0000; green = 0x00FF00; blue = 0x0000FF }
 

@@ -1,4 +1,5 @@
-// A picture of words of 16 bits (5-6-5) or of 32 (8-8-8) as a BMP file of as many bits a pixel: its head, and the words of a row as bytes. specs/Bmp has the layout.
+// A picture of words of 16 bits (5-6-5) or of 32 (8-8-8) as a BMP file of as many bits a pixel: its head, and the words of a row as bytes. specs/Bmp has the
+// layout.
 ghost use mathlib.Core.Path.{_≡_};
 ghost use Prim.Native.Nat.{_+_, _*_, _≤_, _<_};
 ghost use lib.ListN.{length};

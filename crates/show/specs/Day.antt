@@ -1,6 +1,6 @@
--- What `show` draws is a day (02, request Fourteen): the calls that are made, one after the other, on one record and one picture, of words of 16 or 32 bits. So all
--- that `Days` (day/specs/Days) says of a day holds of it: the picture at the end is the first with the accepted frames drawn over it, and the refused calls can be
--- struck out. `shown-day` (laws/Day) gives one for every stream that is shown, on either glass.
+-- What `show` draws is a day (02, request Fourteen): the calls that are made, one after the other, on one record and one picture, of words of 16 or 32 bits. So
+-- all that `Days` (day/specs/Days) says of a day holds of it: the picture at the end is the first with the accepted frames drawn over it, and the refused calls
+-- can be struck out. `shown-day` (laws/Day) gives one for every stream that is shown, on either glass.
 -- (01 is this project's scope document, 02 its change requests, 001 is MS-RDPRFX: README, "What 01 is".)
 use Prim.Native.Nat.{ℕ}
 use mathlib.Core.Path.{_≡_}

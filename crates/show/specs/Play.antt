@@ -1,7 +1,7 @@
--- A stream shown: whatever pieces the input gives, one after the other, each is given to the collector up to its end, and the parts that it hands on go to their
--- calls. 02, One: "A call stops at the end of what it hands on and says how many bytes it took; the rest is given again." A block of a foreign type, which the
--- collector refuses with 3, is passed over by its blockLen, and the collector starts anew behind it. All of it over a picture of either word size: 0 is 16 bits,
--- 1 is 32 (02, Thirteen).
+-- A stream shown: whatever pieces the input gives, one after the other, each is given to the collector up to its end, and the parts that it hands on go to
+-- their calls. 02, One: "A call stops at the end of what it hands on and says how many bytes it took; the rest is given again." A block of a foreign type,
+-- which the collector refuses with 3, is passed over by its blockLen, and the collector starts anew behind it. All of it over a picture of either word size: 0
+-- is 16 bits, 1 is 32 (02, Thirteen).
 use Prim.Native.Nat.{ℕ, _+_, _-_, _/_, _%_, _^_, _≤_}
 use mathlib.Core.Path.{_≡_}
 use mathlib.Core.Bool.{Bool, true, false}

@@ -1,7 +1,7 @@
 // The options of the program `show`:  show [FILE] [-o OUT.bmp|OUT.png] [-p OUT.pic] [-c N] [-g 16|32]
 
-// The arguments by their number, 0 for none; how many bytes are read at a time; the glass, 0 for words of 16 bits and 1 for words of 32; whether they are as the
-// usage says, each at most once.
+// The arguments by their number, 0 for none; how many bytes are read at a time; the glass, 0 for words of 16 bits and 1 for words of 32; whether they are as
+// the usage says, each at most once.
 pub struct Options {
     pub file: usize,
     pub out: usize,

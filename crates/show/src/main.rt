@@ -1,11 +1,11 @@
 // Shows a RemoteFX stream:  show [FILE] [-o OUT.bmp|OUT.png] [-p OUT.pic] [-c N] [-g 16|32]
 // The stream, header blocks and frames as they follow each other, comes from FILE or from standard input, N bytes at a time (65,536 where nothing is said), and
 // goes through the collector (document 02, request One), so that a stream of any length is shown: only the block or frame under way is held, at most 3,145,728
-// bytes; a longer one is 13. A line on standard error says what each call came to. At the end the picture goes to OUT.bmp, or to standard output, as a BMP (rows
-// from below), or to OUT.png, by the end of that name, as a PNG; and with -p also to OUT.pic: width and height of 2 bytes, then the words, all little-endian. The
-// session is opened for a glass of 16 bits (5-6-5, a BMP of 16 bits a pixel), or with -g 32 for one of 32 (8-8-8, a BMP of 32); -p has words of 16 bits only. The
-// picture starts black, and has at most 1,920 x 1,080 words of 16 bits, or 1,048,576 of 32: a program has 8 MB of stack and no other memory. The kit has no exit
-// status: where nothing is written, a line on standard error says why.
+// bytes; a longer one is 13. A line on standard error says what each call came to. At the end the picture goes to OUT.bmp, or to standard output, as a BMP
+// (rows from below), or to OUT.png, by the end of that name, as a PNG; and with -p also to OUT.pic: width and height of 2 bytes, then the words, all
+// little-endian. The session is opened for a glass of 16 bits (5-6-5, a BMP of 16 bits a pixel), or with -g 32 for one of 32 (8-8-8, a BMP of 32); -p has words
+// of 16 bits only. The picture starts black, and has at most 1,920 x 1,080 words of 16 bits, or 1,048,576 of 32: a program has 8 MB of stack and no other
+// memory. The kit has no exit status: where nothing is written, a line on standard error says why.
 mod args;
 mod drawing;
 mod drawing_32;

@@ -27,7 +27,8 @@ module _ (k : ℕ) (bytes : ℕ → List ℕ) (each : (v : ℕ) → length (byte
   -- one word more
   word-snoc : (ws : List ℕ) (i : ℕ) → i < length ws → wordBytes bytes (take (i + 1) ws) ≡ wordBytes bytes (take i ws) ++ bytes (getD ws i 0)
   unfolding wordBytes
-  word-snoc ws i h = rw (add-one, take-suc ws i 0 h, word-bytes-append) (ap (λ (t : List ℕ). wordBytes bytes (take i ws) ++ t) (append-nil (bytes (getD ws i 0))))
+  word-snoc ws i h =
+      rw (add-one, take-suc ws i 0 h, word-bytes-append) (ap (λ (t : List ℕ). wordBytes bytes (take i ws) ++ t) (append-nil (bytes (getD ws i 0))))
 
   pub word-next :
       (ws out x y : List ℕ) (i v : ℕ)

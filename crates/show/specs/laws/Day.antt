@@ -7,7 +7,6 @@ use mathlib.Core.List.{List, [], _∷_, _++_}
 use lib.Dec.{eqb}
 use Rattle.whole.specs.Row.{_⇒_∣_}
 use Rattle.session.specs.declared.Session.{Session}
-use Rattle.collect.specs.Collect.{HandOver}
 use Rattle.collect.specs.declared.Collected.{Collected}
 use Rattle.collect.specs.declared.Collected.the-variants.{More, Header, Frame, Refused}
 use Rattle.app_text.specs.First.{firstOf}
@@ -15,7 +14,7 @@ use Rattle.app_calls.specs.declared.given.Desk.{Desk}
 use Rattle.app_calls.specs.Given.{moved, headerDesk, frameDesk, deskPart, Scene, scene}
 use Rattle.day.specs.Day.{State, state, Asked, ask-header, ask-frame}
 use Rattle.day.specs.laws.Once.{endOf, end-append, plays}
-use Rattle.show.specs.Play.{placed, anewDesk, drawn, taken, handed, Shown, none, read, more, anew, ShownTo}
+use Rattle.show.specs.Play.{placed, anewDesk, drawn, handed, Shown, none, read, more, anew, ShownTo}
 use Rattle.show.specs.Day.{stateOf, DayShown}
 
 module _ (word : ℕ) where

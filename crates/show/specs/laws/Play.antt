@@ -1,5 +1,5 @@
 -- The steps of a stream that is shown, in the forms that the code has. Every law is over either word size.
-use Prim.Native.Nat.{ℕ, _+_, _-_, _/_, _%_, _^_, _≤_, _<_}
+use Prim.Native.Nat.{ℕ, _-_, _/_, _≤_}
 use mathlib.Core.Path.{_≡_, refl, ap, sym, subst, _∙_}
 use mathlib.Core.Bool.{Bool, true, false}
 use mathlib.Core.List.{List, []}
@@ -7,11 +7,10 @@ use native.Mathlib.Omega.{arith}
 use borrow.Author.Tests.{eq-eqb, ne-eqb, le-leb}
 use lib.Dec.{leb}
 use lib.ListN.{length, drop}
-use Rattle.whole.specs.Row.{_!_⨾_, _⇒_∣_}
+use Rattle.whole.specs.Row.{_⇒_∣_}
 use Rattle.whole.specs.laws.Row.{fails, passes, case-yes, case-no}
 use Rattle.session.specs.declared.Session.{Session}
-use Rattle.frame.specs.Frame.{callFault, frameNumber, framePicture}
-use Rattle.collect.specs.Collect.{HandOver, fresh, state, said, collectOf}
+use Rattle.collect.specs.Collect.{HandOver, state, said, collectOf}
 use Rattle.collect.specs.declared.Collector.{Collector}
 use Rattle.collect.specs.declared.Collected.{Collected}
 use Rattle.collect.specs.declared.Collected.the-variants.{More, Header, Frame, Refused}
@@ -20,7 +19,7 @@ use Rattle.app_text.specs.First.{firstOf}
 use Rattle.app_calls.specs.declared.given.Desk.{Desk}
 use Rattle.app_calls.specs.Calls.{headerLeft}
 use Rattle.app_calls.specs.Given.{moved, headerDesk, frameDesk, deskPart, Scene, scene}
-use Rattle.show.specs.Play.{placed, foreignOf, behindOf, anewDesk, settledDesk, frameDrawn, drawn, taken, played, handed}
+use Rattle.show.specs.Play.{placed, foreignOf, anewDesk, settledDesk, frameDrawn, drawn, taken, played}
 use Rattle.show.specs.Play.{Shown, none, read, more, anew, ShownTo, Filled, same, next, Given, Handed}
 
 -- ---- the piece
@@ -90,16 +89,6 @@ module _ (store : List ℕ) (a : Collected) where
     unfolding drawn
     drawn-frame k m pic′ e is f = way (Frame k) pic′ e (f ∙ ap (λ (x : List ℕ). frameDrawn word s x pic) is)
 
-pub frame-is :
-    (word : ℕ) (s : Session) (m pic pic′ : List ℕ) (j k l n : ℕ)
-    → pic′ ≡ framePicture (frameNumber (callFault word s (length pic) j k l n) s m) s m pic
-    → j ≡ 4096
-    → k ≡ 4096
-    → l ≡ 4096
-    → n ≡ 4096
-    → pic′ ≡ frameDrawn word s m pic
-frame-is word s m pic pic′ j k l n e a b c d = cc
-
 -- ---- a hand-over
 
 pub given-is :
@@ -133,7 +122,10 @@ handed-is d from r piece p x bytes store store′ n m a f e h g k =
 
 module _ (word : ℕ) (s : Scene) where
   filled-on :
-      (d e : Desk) (piece piece′ store pic : List ℕ) → Shown word s (scene d store pic) piece → Filled d piece e piece′ → Shown word s (scene e store pic) piece′
+      (d e : Desk) (piece piece′ store pic : List ℕ)
+      → Shown word s (scene d store pic) piece
+      → Filled d piece e piece′
+      → Shown word s (scene e store pic) piece′
   filled-on d _ piece _ store pic p same = p
   filled-on d _ piece _ store pic p (next new h) = read (scene d store pic) piece new p h
 

@@ -12,4 +12,7 @@ returns c =
     (given-is _ _ _ _ _ _ _ _ (t .collect .ensures) (s .advance .ensures) (c .before .before .part .ensures) (c .before .settle .ensures), refl)
 
 pub hand-over-spec : {M : Type 1} → statement M
-hand-over-spec = tie.close (tie.spec (λ c κs. search needs) (λ c κs. search needs) (λ c κs. search needs) (λ c κs. search needs) (λ c κs. search needs) (λ c. search needs) returns)
+hand-over-spec =
+    tie.close
+    (tie.spec (λ c κs. search needs) (λ c κs. search needs) (λ c κs. search needs) (λ c κs. search needs) (λ c κs. search needs) (λ c. search needs)
+    returns)

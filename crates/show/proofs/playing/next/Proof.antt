@@ -12,4 +12,6 @@ returns c =
     handed-is _ _ _ _ _ _ _ _ _ _ _ _ (t .fill .ensures) (s .before .first .ensures) (s .rest .ensures) (g .0) (g .1)
 
 pub next-spec : {M : Type 1} → statement M
-next-spec = tie.close (tie.spec (λ c κs. search needs) (λ c κs. search needs) (λ c κs. search needs) (λ c κs. search needs) (λ c. search needs) (λ c. search needs) returns)
+next-spec =
+    tie.close
+    (tie.spec (λ c κs. search needs) (λ c κs. search needs) (λ c κs. search needs) (λ c κs. search needs) (λ c. search needs) (λ c. search needs) returns)

@@ -17,4 +17,7 @@ returns-4 : tie.Need-returns-4
 returns-4 c = desk-refused _ _ _ _ (c .before .answer3 .given .1)
 
 pub part-spec : {M : Type 1} → statement M
-part-spec = tie.close (tie.spec (λ c. search needs) (λ c. search needs) (λ c κs. search needs) (λ c κs. search needs) (λ c. search needs) (λ c κs. search needs) (λ c. search needs) returns returns-2 returns-3 returns-4)
+part-spec =
+    tie.close
+    (tie.spec (λ c. search needs) (λ c. search needs) (λ c κs. search needs) (λ c κs. search needs) (λ c. search needs) (λ c κs. search needs)
+    (λ c. search needs) returns returns-2 returns-3 returns-4)
