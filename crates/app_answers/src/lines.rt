@@ -73,7 +73,14 @@ pub fn say_given(none: bool, c: Collector, s: Session, h: u64)
         app_text::lines::say(OUT, b"-");
     }
     say_row(&[c.refused as u64, c.held as u64, c.seen as u64]);
-    say_row(&[s.headers as u64, s.width as u64, s.height as u64, s.mode as u64]);
+    say_row(
+        &[
+            s.headers as u64,
+            s.width as u64,
+            s.height as u64,
+            s.mode as u64,
+        ],
+    );
     end_with(h);
 }
 
@@ -143,8 +150,23 @@ pub fn say_ack(number: u8, a: Ack)
     ensures { λ _. ⌜ Unit ⌝ }
 {
     say_first(number);
-    say_row(&[a.version as u64, a.source as u64, a.share as u64, a.pad as u64, a.stream as u64]);
-    say_row(&[a.uncompressed as u64, a.compression as u64, a.compressed as u64, a.frame as u64]);
+    say_row(
+        &[
+            a.version as u64,
+            a.source as u64,
+            a.share as u64,
+            a.pad as u64,
+            a.stream as u64,
+        ],
+    );
+    say_row(
+        &[
+            a.uncompressed as u64,
+            a.compression as u64,
+            a.compressed as u64,
+            a.frame as u64,
+        ],
+    );
     end();
 }
 

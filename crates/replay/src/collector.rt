@@ -65,12 +65,18 @@ fn take(k: Store, bytes: &[u8], store: &mut [u8]) -> Store {
     if store.len() < n {
         return none(k);
     }
-    after(k, app_answers::collected::take_call(k.c, bytes, &mut store[0..n]))
+    after(
+        k,
+        app_answers::collected::take_call(k.c, bytes, &mut store[0..n]),
+    )
 }
 
 // 'r': the reset.
 fn reset(k: Store, store: &[u8]) -> Store {
-    after(k, app_answers::collected::reset_call(app_text::loading::first(store, k.lent)))
+    after(
+        k,
+        app_answers::collected::reset_call(app_text::loading::first(store, k.lent)),
+    )
 }
 
 // One record but for 'g'.

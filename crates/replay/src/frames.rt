@@ -60,13 +60,7 @@ fn wider(s: Session, bytes: &[u8], wide: &mut [u32], words: usize, n: Lengths) -
 }
 
 // 'F', 'G', on the picture that is lent: false where the recording asks for more than there is.
-pub fn frame(
-    d: Desk,
-    bytes: &[u8],
-    n: Lengths,
-    picture: &mut [u16],
-    wide: &mut [u32],
-) -> bool {
+pub fn frame(d: Desk, bytes: &[u8], n: Lengths, picture: &mut [u16], wide: &mut [u32]) -> bool {
     if d.wide {
         return wider(d.s, bytes, wide, d.picture, n);
     }

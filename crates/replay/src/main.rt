@@ -77,14 +77,7 @@ fn plain(d: Desk, r: Record, m: &[u8], out: &mut [u8]) -> Desk {
 }
 
 // A frame call on a message, or on what was written last.
-fn framed(
-    d: Desk,
-    r: Record,
-    m: &[u8],
-    out: &[u8],
-    picture: &mut [u16],
-    wide: &mut [u32],
-) -> bool {
+fn framed(d: Desk, r: Record, m: &[u8], out: &[u8], picture: &mut [u16], wide: &mut [u32]) -> bool {
     let n = crate::frames::lengths(m);
     if r.letter == b'F' {
         return crate::frames::frame(d, crate::taking::one(m, r), n, picture, wide);

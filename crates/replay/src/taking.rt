@@ -31,8 +31,8 @@ fn first_of(letter: u8) -> usize {
     match letter {
         b'W' | b'b' => 8,
         b'g' => 4,
-        b'H' | b'F' | b'C' | b'Z' | b'y' | b's' | b't' | b'a' | b'd' | b'i' | b'q' | b'c'
-        | b'p' => 1,
+        b'H' | b'F' | b'C' | b'Z' | b'y' | b's' | b't' | b'a' | b'd' | b'i' | b'q' | b'c' | b'p' =>
+            1,
         _ => 0,
     }
 }

@@ -9,7 +9,11 @@ fn component(mode: usize, code: &[u8], len: usize) -> bool {
     if list.len() < len {
         return false;
     }
-    app_answers::writers::component_call(app_recording::read::byte_of(mode), code, &mut list[0..len]);
+    app_answers::writers::component_call(
+        app_recording::read::byte_of(mode),
+        code,
+        &mut list[0..len],
+    );
     true
 }
 
@@ -85,7 +89,11 @@ fn read_part(r: Record, m: &[u8]) -> bool {
     let letter = r.letter;
     let bytes = crate::taking::one(m, r);
     match letter {
-        b'C' => component(crate::taking::figure(m, 0), bytes, crate::taking::figure(m, 1)),
+        b'C' => component(
+            crate::taking::figure(m, 0),
+            bytes,
+            crate::taking::figure(m, 1),
+        ),
         b's' => settings(crate::taking::figure(m, 0), bytes),
         _ => capabilities(letter, bytes),
     }

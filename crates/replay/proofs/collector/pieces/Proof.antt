@@ -7,16 +7,17 @@ use Rattle.replay.proofs.collector.pieces.Statement.{statement}
 use Rattle.replay.proofs.collector.pieces.Tie as tie
 
 abbrev Inv-loop : tie.InvT-loop
-Inv-loop message cuts store₀ picture₀ n g₀ at₀ i₀ turns₀ store picture g at i turns = (length store ≡ length store₀) × (length picture ≡ length picture₀)
+Inv-loop message cuts store₀ picture₀ n g₀ at₀ i₀ turns₀ store picture g at i turns =
+    (length store ≡ length store₀) × (length picture ≡ length picture₀)
 
 abbrev μ-loop : tie.MeasureT-loop
 μ-loop message cuts store₀ picture₀ n g₀ at₀ i₀ turns₀ store picture g at i turns = turns
 
 sub-turns : tie.Need-sub-turns Inv-loop μ-loop
-sub-turns c = omega (arith, @loop-test .taken)
+sub-turns c = omega (arith, c .before .before .before .before .before .before .before .before .before .before .before .loop-test .taken)
 
 loop-less : tie.Need-loop-less Inv-loop μ-loop
-loop-less c = omega (arith, @loop-test .taken)
+loop-less c = omega (arith, c .before .before .before .before .before .before .before .before .before .before .before .loop-test .taken)
 
 pub pieces-spec : {M : Type 1} → statement M
 pieces-spec =

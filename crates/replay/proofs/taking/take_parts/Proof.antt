@@ -5,16 +5,36 @@ use Rattle.replay.proofs.taking.take_parts.Statement.{statement}
 use Rattle.replay.proofs.taking.take_parts.Tie as tie
 
 same-length : tie.Need-same-length
-same-length c = c .before .before .before .before .before .before .before .before .take-part3 .kept .0 ∙ (c .before .before .before .before .before .before .before .before .before .before .before .before .before .before .before .before .take-part2 .kept .0 ∙ (c .before .before .before .before .before .before .before .before .before .before .before .before .before .before .before .before .before .before .before .before .before .before .before .before .take-part .kept .0 ∙ c .before .before .before .before .before .before .before .before .before .before .before .before .before .before .before .before .before .before .before .before .before .before .before .before .before .before .before .before .before .before .before .before .take-message .kept .0))
+same-length c =
+    let e = c .before .before .before .before .before .before .before .before in
+    let b = e .before .before .before .before .before .before .before .before in
+    let a = b .before .before .before .before .before .before .before .before in
+    let h = a .before .before .before .before .before .before .before .before in
+    e .take-part3 .kept .0 ∙ (b .take-part2 .kept .0 ∙ (a .take-part .kept .0 ∙ h .take-message .kept .0))
 
 same-length-2 : tie.Need-same-length-2
-same-length-2 c = c .before .before .before .before .before .before .before .before .take-part3 .kept .1 .1 .0 ∙ (c .before .before .before .before .before .before .before .before .before .before .before .before .before .before .before .before .take-part2 .kept .1 .1 .0 ∙ (c .before .before .before .before .before .before .before .before .before .before .before .before .before .before .before .before .before .before .before .before .before .before .before .before .take-part .kept .1 .1 .0 ∙ c .before .before .before .before .before .before .before .before .before .before .before .before .before .before .before .before .before .before .before .before .before .before .before .before .before .before .before .before .before .before .before .before .take-message .kept .1 .1 .0))
+same-length-2 c =
+    let e = c .before .before .before .before .before .before .before .before in
+    let b = e .before .before .before .before .before .before .before .before in
+    let a = b .before .before .before .before .before .before .before .before in
+    let h = a .before .before .before .before .before .before .before .before in
+    e .take-part3 .kept .1 .1 .0 ∙ (b .take-part2 .kept .1 .1 .0 ∙ (a .take-part .kept .1 .1 .0 ∙ h .take-message .kept .1 .1 .0))
 
 same-length-3 : tie.Need-same-length-3
-same-length-3 c = c .before .before .before .before .before .before .before .take-part3 .kept .0 ∙ (c .before .before .before .before .before .before .before .before .before .before .before .before .before .before .before .take-part2 .kept .0 ∙ (c .before .before .before .before .before .before .before .before .before .before .before .before .before .before .before .before .before .before .before .before .before .before .before .take-part .kept .0 ∙ c .before .before .before .before .before .before .before .before .before .before .before .before .before .before .before .before .before .before .before .before .before .before .before .before .before .before .before .before .before .before .before .take-message .kept .0))
+same-length-3 c =
+    let e = c .before .before .before .before .before .before .before in
+    let b = e .before .before .before .before .before .before .before .before in
+    let a = b .before .before .before .before .before .before .before .before in
+    let h = a .before .before .before .before .before .before .before .before in
+    e .take-part3 .kept .0 ∙ (b .take-part2 .kept .0 ∙ (a .take-part .kept .0 ∙ h .take-message .kept .0))
 
 same-length-4 : tie.Need-same-length-4
-same-length-4 c = c .before .before .before .before .before .before .before .take-part3 .kept .1 .1 .0 ∙ (c .before .before .before .before .before .before .before .before .before .before .before .before .before .before .before .take-part2 .kept .1 .1 .0 ∙ (c .before .before .before .before .before .before .before .before .before .before .before .before .before .before .before .before .before .before .before .before .before .before .before .take-part .kept .1 .1 .0 ∙ c .before .before .before .before .before .before .before .before .before .before .before .before .before .before .before .before .before .before .before .before .before .before .before .before .before .before .before .before .before .before .before .take-message .kept .1 .1 .0))
+same-length-4 c =
+    let e = c .before .before .before .before .before .before .before in
+    let b = e .before .before .before .before .before .before .before .before in
+    let a = b .before .before .before .before .before .before .before .before in
+    let h = a .before .before .before .before .before .before .before .before in
+    e .take-part3 .kept .1 .1 .0 ∙ (b .take-part2 .kept .1 .1 .0 ∙ (a .take-part .kept .1 .1 .0 ∙ h .take-message .kept .1 .1 .0))
 
 pub take-parts-spec : {M : Type 1} → statement M
 take-parts-spec =
