@@ -1,17 +1,13 @@
-// The calls of a recording on the public functions of `panel`, each with its line of text: 01's number, its values, the record after it, and a hash of the
-// lent memory. Lent lists hold 7 before a call, and lent output A5. What 01 says of lent memory ("untouched", "only zeros") shows in the line. What each call
-// answers and leaves is the promise of the call inside (specs/Calls).
+// Header calls and frame calls on the public functions of `panel`, each with its line of text: 01's number, its values, the record after it, and a hash of the
+// lent memory. Lent lists hold 7 before a call. What 01 says of lent memory ("untouched", "only zeros") shows in the line. What each call answers and leaves is
+// the promise of the call inside (specs/Calls). The frame call is there for pictures of either word size.
 ghost use mathlib.Core.Path.{_≡_};
 ghost use lib.Dec.{leb};
 ghost use mathlib.Core.Bool.{false};
 ghost use Rattle.whole.specs.Row.{_!_⨾_};
 ghost use lib.ListN.{length};
-ghost use Rattle.code_write.specs.Write.{bytesOf, writeFault};
-ghost use Rattle.headers.specs.Headers.{headersOf, headersFault};
-ghost use Rattle.app_calls.specs.Calls.{componentLeft, WriterSaid, headerLeft, heard, fourBack, fits, FrameMade, pairFits, sentFault, sentBytes, FrameSent, AskedWritten};
-use quants::Quants;
+ghost use Rattle.app_calls.specs.Calls.{headerLeft, heard, fourBack, fits, FrameMade};
 use session::Session;
-use wire::Writing;
 
 // The line of a frame call: a recording's; or a short one, with a comma in front of all but the first part; or words, with the call's count.
 pub enum Line {
@@ -54,49 +50,6 @@ pub fn header_call(s: Session, message: &[u8]) -> Session
     let after = session::header_record(h, s);
     crate::lines::say_header(session::header_number(h), after);
     after
-}
-
-// One call of the component reader on a list lent.
-pub fn component_call(mode: u8, code: &[u8], list: &mut [i32])
-    ensures { λ _. ⌜ now (list .exit) ≡ componentLeft mode (now (code .entry)) (now (list .entry)) ⌝ }
-{
-    app_recording::lent::fill_list(list, 7);
-    let r = panel::read_component(mode, code, list);
-    crate::lines::say_hash(
-        code::read::reading_number(r),
-        code::read::reading_bits(r),
-        app_recording::lent::hash_list(list),
-    );
-}
-
-// One call of the component writer; the bytes that it wrote.
-pub fn writer_call(mode: u8, list: &[i32], out: &mut [u8]) -> usize
-    ensures { λ r. ⌜ WriterSaid (writeFault mode (now (list .entry)) (length (now (out .entry)))) (bytesOf mode (now (list .entry))) (now (out .entry)) (now (out .exit)) r ⌝ }
-{
-    app_recording::lent::fill_bytes(out, 0xA5);
-    let w = panel::write_component(mode, list, out);
-    let n = wire::writing_length(w);
-    crate::lines::say_hash(
-        wire::writing_number(w),
-        n,
-        app_recording::lent::hash_bytes(out),
-    );
-    n
-}
-
-// One call of the header writer; the bytes that it wrote.
-pub fn headers_call(width: usize, height: usize, mode: u8, out: &mut [u8]) -> usize
-    ensures { λ r. ⌜ WriterSaid (headersFault width height mode (length (now (out .entry)))) (headersOf width height mode) (now (out .entry)) (now (out .exit)) r ⌝ }
-{
-    app_recording::lent::fill_bytes(out, 0xA5);
-    let w = panel::write_headers(width, height, mode, out);
-    let n = wire::writing_length(w);
-    crate::lines::say_hash(
-        wire::writing_number(w),
-        n,
-        app_recording::lent::hash_bytes(out),
-    );
-    n
 }
 
 // A header call: 01's number, and the record after it.
@@ -193,7 +146,7 @@ fn frame_with_two(
     three: usize,
     l: Line,
 ) -> bool
-    ensures { λ r. ⌜ FrameMade (leb three 8192) s (now (message .entry)) (length (now (y .entry))) (length (now (cb .entry))) three (now (picture .entry)) (now (picture .exit)) r ⌝ }
+    ensures { λ r. ⌜ FrameMade 0 (leb three 8192) s (now (message .entry)) (length (now (y .entry))) (length (now (cb .entry))) three (now (picture .entry)) (now (picture .exit)) r ⌝ }
 {
     let mut space = [7i32; 8192];
     let mut scratch = [7i32; 4096];
@@ -224,7 +177,7 @@ fn frame_with_one(
     n: Lengths,
     l: Line,
 ) -> bool
-    ensures { λ r. ⌜ FrameMade (leb (n .two) 8192 ! false ⨾ leb (n .three) 8192) s (now (message .entry)) (length (now (y .entry))) (n .two) (n .three) (now (picture .entry)) (now (picture .exit)) r ⌝ }
+    ensures { λ r. ⌜ FrameMade 0 (leb (n .two) 8192 ! false ⨾ leb (n .three) 8192) s (now (message .entry)) (length (now (y .entry))) (n .two) (n .three) (now (picture .entry)) (now (picture .exit)) r ⌝ }
 {
     let mut space = [7i32; 8192];
     let cb: &mut [i32] = &mut space;
@@ -237,7 +190,7 @@ fn frame_with_one(
 
 // One frame call, on lists of these lengths; false where more is asked for than there is.
 pub fn frame_call(s: Session, message: &[u8], picture: &mut [u16], n: Lengths, l: Line) -> bool
-    ensures { λ r. ⌜ FrameMade (fits (n .one) (n .two) (n .three)) s (now (message .entry)) (n .one) (n .two) (n .three) (now (picture .entry)) (now (picture .exit)) r ⌝ }
+    ensures { λ r. ⌜ FrameMade 0 (fits (n .one) (n .two) (n .three)) s (now (message .entry)) (n .one) (n .two) (n .three) (now (picture .entry)) (now (picture .exit)) r ⌝ }
 {
     let mut space = [7i32; 8192];
     let y: &mut [i32] = &mut space;
@@ -248,66 +201,82 @@ pub fn frame_call(s: Session, message: &[u8], picture: &mut [u16], n: Lengths, l
     frame_with_one(s, message, picture, &mut y[0..one], n, l)
 }
 
-// What the frame writer is asked for, beside memory; `sets` where it is the one over luma's and chroma's quantisers, else they are luma's.
-pub struct Asked {
-    pub width: usize,
-    pub height: usize,
-    pub mode: u8,
-    pub index: u32,
-    pub q: Quants,
-    pub sets: bool,
-}
-
-// The one frame writer or the other.
-fn written_by(
-    a: Asked,
-    pixels: &[u8],
-    list: &mut [i32],
-    scratch: &mut [i32],
-    out: &mut [u8],
-) -> Writing
-    ensures { λ r. ⌜ AskedWritten a (now (pixels .entry)) (now (list .entry)) (now (list .exit)) (now (scratch .entry)) (now (scratch .exit)) (now (out .entry)) (now (out .exit)) r ⌝ }
-{
-    let q = a.q;
-    let w = a.width;
-    let h = a.height;
-    if a.sets {
-        return panel::write_frame_sets(w, h, a.mode, q, a.index, pixels, list, scratch, out);
+// The same for pictures of 32-bit words: the line of a frame call that was made.
+fn say_line_32(l: Line, s: Session, number: u8, tiles: usize, letter: u8, picture: &[u32]) {
+    match l {
+        Line::Recorded => crate::lines::say_frame(
+            number,
+            tiles,
+            letter,
+            s,
+            app_recording::lent::hash_wide(picture),
+        ),
+        Line::Short(before) => crate::lines::say_short_frame(before, number, tiles),
+        Line::Told(count) => app_text::lines::say_frame(count, number, tiles),
     }
-    let luma = q.luma;
-    panel::write_frame(w, h, a.mode, luma, a.index, pixels, list, scratch, out)
 }
 
-// The frame writer on an output of A5, with its second list, a part of one of 8,192; a count of bytes beyond any output, and nothing filled, where more is asked for.
-fn writer_with_one(a: Asked, pixels: &[u8], list: &mut [i32], two: usize, out: &mut [u8]) -> usize
-    ensures { λ r. ⌜ FrameSent (leb two 8192) (sentFault a (now (pixels .entry)) (length (now (list .entry))) two (length (now (out .entry)))) (sentBytes a (now (pixels .entry))) (now (out .entry)) (now (out .exit)) r ⌝ }
+// The frame call, with its third list, a part of one of 8,192; false where more is asked for.
+fn frame_with_two_32(
+    s: Session,
+    message: &[u8],
+    picture: &mut [u32],
+    y: &mut [i32],
+    cb: &mut [i32],
+    three: usize,
+    l: Line,
+) -> bool
+    ensures { λ r. ⌜ FrameMade 1 (leb three 8192) s (now (message .entry)) (length (now (y .entry))) (length (now (cb .entry))) three (now (picture .entry)) (now (picture .exit)) r ⌝ }
 {
     let mut space = [7i32; 8192];
-    let scratch: &mut [i32] = &mut space;
-    if scratch.len() < two {
-        return usize::MAX;
+    let mut scratch = [7i32; 4096];
+    let cr: &mut [i32] = &mut space;
+    if cr.len() < three {
+        return false;
     }
-    app_recording::lent::fill_bytes(out, 0xA5);
-    let w = written_by(a, pixels, list, &mut scratch[0..two], out);
-    let n = wire::writing_length(w);
-    let after = &scratch[..];
-    crate::lines::say_written(
-        wire::writing_number(w),
-        n,
-        pair_letter(list, &after[0..two]),
-        app_recording::lent::hash_bytes(out),
+    let r = panel::read_frame_32(s, message, picture, y, cb, &mut cr[0..three], &mut scratch);
+    let after = &cr[..];
+    let letter = work_letter(pair_letter(y, cb), pair_letter(&after[0..three], &scratch));
+    say_line_32(
+        l,
+        s,
+        frame::call::frame_number(r),
+        frame::call::frame_tiles(r),
+        letter,
+        picture,
     );
-    n
+    true
 }
 
-// One call of the frame writer, on lists of these lengths; the bytes that it wrote.
-pub fn frame_writer_call(a: Asked, pixels: &[u8], one: usize, two: usize, out: &mut [u8]) -> usize
-    ensures { λ r. ⌜ FrameSent (pairFits one two) (sentFault a (now (pixels .entry)) one two (length (now (out .entry)))) (sentBytes a (now (pixels .entry))) (now (out .entry)) (now (out .exit)) r ⌝ }
+// The same with its second list.
+fn frame_with_one_32(
+    s: Session,
+    message: &[u8],
+    picture: &mut [u32],
+    y: &mut [i32],
+    n: Lengths,
+    l: Line,
+) -> bool
+    ensures { λ r. ⌜ FrameMade 1 (leb (n .two) 8192 ! false ⨾ leb (n .three) 8192) s (now (message .entry)) (length (now (y .entry))) (n .two) (n .three) (now (picture .entry)) (now (picture .exit)) r ⌝ }
 {
     let mut space = [7i32; 8192];
-    let list: &mut [i32] = &mut space;
-    if list.len() < one {
-        return usize::MAX;
+    let cb: &mut [i32] = &mut space;
+    let two = n.two;
+    if cb.len() < two {
+        return false;
     }
-    writer_with_one(a, pixels, &mut list[0..one], two, out)
+    frame_with_two_32(s, message, picture, y, &mut cb[0..two], n.three, l)
+}
+
+// One frame call, on lists of these lengths; false where more is asked for than there is.
+pub fn frame_call_32(s: Session, message: &[u8], picture: &mut [u32], n: Lengths, l: Line) -> bool
+    ensures { λ r. ⌜ FrameMade 1 (fits (n .one) (n .two) (n .three)) s (now (message .entry)) (n .one) (n .two) (n .three) (now (picture .entry)) (now (picture .exit)) r ⌝ }
+{
+    let mut space = [7i32; 8192];
+    let y: &mut [i32] = &mut space;
+    let one = n.one;
+    if y.len() < one {
+        return false;
+    }
+    frame_with_one_32(s, message, picture, &mut y[0..one], n, l)
 }

@@ -1,8 +1,5 @@
-// The calls of the library made for a recording, each with the line that it answers (`calls`, `collected`, `capabilities`, `cabinet`, `lines`), and a stream given
-// to the collector, whose parts go to their calls (`given`). No customer links it.
-pub mod cabinet;
+// Header calls and frame calls of the library, each with the line that it answers (`calls`, `lines`), and a stream given to the collector, whose parts go to their
+// calls (`given`). The calls that only a recording makes are in `app_answers`. No customer links it.
 pub mod calls;
-pub mod capabilities;
-pub mod collected;
 pub mod given;
 pub mod lines;

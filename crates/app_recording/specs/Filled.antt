@@ -6,14 +6,14 @@ use mathlib.Core.List.{List}
 use lib.IntN.{ℤ}
 use lib.ListN.{length, getD, replicate}
 
--- the word at a place of a picture before a call
-unfoldable pub pictureWord : ℕ → ℕ → ℕ
-pictureWord seed i = (i % 65536 * 25173 + seed % 65536 * 13849 + 1) % 65536
+-- the word at a place of a picture before a call, below n
+unfoldable pub pictureWord : ℕ → ℕ → ℕ → ℕ
+pictureWord n seed i = (i % n * 25173 + seed % n * 13849 + 1) % n
 
 -- a picture of the same length that has that word at each place
-pub record Pictured (seed : ℕ) (before after : List ℕ) : Type 0 where
+pub record Pictured (n seed : ℕ) (before after : List ℕ) : Type 0 where
   pub long : length after ≡ length before
-  pub each : (i : ℕ) → i < length before → getD after i 0 ≡ pictureWord seed i
+  pub each : (i : ℕ) → i < length before → getD after i 0 ≡ pictureWord n seed i
 
 -- the answer to: is every number v?
 pub record AllAre (v : ℤ) (l : List ℤ) (r : Bool) : Type 0 where

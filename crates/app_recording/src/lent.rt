@@ -29,18 +29,35 @@ pub fn fill_bytes(out: &mut [u8], v: u8)
 }
 
 fn picture_word(i: usize, seed: usize) -> u16
-    ensures { λ r. ⌜ r ≡ pictureWord seed i ⌝ }
+    ensures { λ r. ⌜ r ≡ pictureWord 65536 seed i ⌝ }
 {
     (((i % 65536) * 25173 + (seed % 65536) * 13849 + 1) % 65536) as u16
 }
 
 // Fills a picture with words that are all over the place.
 pub fn fill_picture(picture: &mut [u16], seed: usize)
-    ensures { λ _. ⌜ Pictured seed (now (picture .entry)) (now (picture .exit)) ⌝ }
+    ensures { λ _. ⌜ Pictured 65536 seed (now (picture .entry)) (now (picture .exit)) ⌝ }
 {
     let mut i: usize = 0;
     while i < picture.len() {
         picture[i] = picture_word(i, seed);
+        i += 1;
+    }
+}
+
+fn picture_word_32(i: usize, seed: usize) -> u32
+    ensures { λ r. ⌜ r ≡ pictureWord 16777216 seed i ⌝ }
+{
+    (((i % 16777216) * 25173 + (seed % 16777216) * 13849 + 1) % 16777216) as u32
+}
+
+// The same for words of 32 bits, of which the upper eight are 0.
+pub fn fill_picture_32(picture: &mut [u32], seed: usize)
+    ensures { λ _. ⌜ Pictured 16777216 seed (now (picture .entry)) (now (picture .exit)) ⌝ }
+{
+    let mut i: usize = 0;
+    while i < picture.len() {
+        picture[i] = picture_word_32(i, seed);
         i += 1;
     }
 }
@@ -116,6 +133,12 @@ fn word64(x: u16) -> u64
     x as u64
 }
 
+fn wide64(x: u32) -> u64
+    ensures { λ r. ⌜ r ≡ x ⌝ }
+{
+    x as u64
+}
+
 // The hash of bytes.
 pub fn hash_bytes(s: &[u8]) -> u64
     ensures { λ r. ⌜ r ≡ hashOf hashed basis (now (s .entry)) ⌝ }
@@ -137,6 +160,19 @@ pub fn hash_words(s: &[u16]) -> u64
     let mut i: usize = 0;
     while i < s.len() {
         h = with_two(h, word64(s[i]));
+        i += 1;
+    }
+    h
+}
+
+// The hash of words of 32 bits, four bytes each, low byte first.
+pub fn hash_wide(s: &[u32]) -> u64
+    ensures { λ r. ⌜ r ≡ hashOf hashedFour basis (now (s .entry)) ⌝ }
+{
+    let mut h: u64 = 0xcbf29ce484222325;
+    let mut i: usize = 0;
+    while i < s.len() {
+        h = with_four(h, wide64(s[i]));
         i += 1;
     }
     h

@@ -1,4 +1,4 @@
-// The recording that `replay` reads from standard input: bytes, little-endian numbers of four bytes, lists run by run. No section of document 01 is made
+// The recording that `replay` reads from standard input: bytes and little-endian numbers of four bytes. No section of document 01 is made
 // true here. Where something is missing the input is no longer whole, and what is handed on then is judged by nobody. What reads comes from the outside,
 // of which no contract can speak.
 ghost use mathlib.Core.Path.{_≡_};
@@ -235,65 +235,4 @@ pub fn index_of(v: usize) -> u32
         return 4294967295;
     }
     v as u32
-}
-
-// Four bytes as a signed number.
-fn signed(v: usize) -> i32 {
-    if v < 2147483648 {
-        return v as i32;
-    }
-    if 4294967295 < v {
-        return 0;
-    }
-    -1 - (4294967295 - v) as i32
-}
-
-// The numbers of a list, run by run: where the input stands then, how many there are, and whether there was a place for each.
-pub struct Runs {
-    pub from: In,
-    pub count: usize,
-    pub fits: bool,
-}
-
-fn take_run(input: &mut [u8], r: Runs, list: &mut [i32]) -> Runs {
-    let g = take_two(input, r.from);
-    let from = g.from;
-    let at = r.count;
-    let times = g.b;
-    if list.len() < at {
-        return Runs {
-            from: from,
-            count: at,
-            fits: false,
-        };
-    }
-    if list.len() - at < times {
-        return Runs {
-            from: from,
-            count: at,
-            fits: false,
-        };
-    }
-    crate::lent::fill_list(&mut list[at..at + times], signed(g.a));
-    Runs {
-        from: from,
-        count: at + times,
-        fits: r.fits,
-    }
-}
-
-pub fn take_runs(input: &mut [u8], c: In, runs: usize, list: &mut [i32]) -> Runs
-    ensures { λ _. ⌜ Unit ⌝ }
-{
-    let mut r = Runs {
-        from: c,
-        count: 0,
-        fits: c.whole,
-    };
-    let mut left = runs;
-    while 0 < left && r.fits {
-        r = take_run(input, r, list);
-        left -= 1;
-    }
-    r
 }

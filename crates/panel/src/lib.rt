@@ -21,7 +21,7 @@ pub mod capabilities;
 pub mod collector;
 pub mod edge;
 pub mod short;
-pub mod tidy;
+pub mod filter;
 
 // Reads one header block, which is the whole message.
 pub fn read_header(s: Session, message: &[u8]) -> HeaderReading

@@ -1,111 +1,125 @@
 // Makes the calls of a recording (standard input) on the public functions of `panel`, and prints one line for each: 01's number, its values, the record, and a
-// hash of the lent memory. A record of the recording is a letter and little-endian numbers of four bytes, then bytes; lent lists hold 7 and lent output A5.
-// The records are in `records`, `frame_records`, `collector_records`, `caps_records` and `cabinet_records`, the calls and their lines in `app_calls`; here is the
-// loop.
-mod cabinet_records;
-mod caps_records;
-mod collector_records;
-mod frame_records;
+// hash of the lent memory. A record of the recording is a letter and little-endian numbers of four bytes, then bytes (`taking`); lent lists hold 7 and lent
+// output A5. A record is read whole before its call is made: a call gets the record's memory and, of the memory that is lent, only what it needs (`told`,
+// `wrote`, `known`, `frames`, `collector`). The calls and their lines are in `app_calls`; here is the loop.
+mod collector;
+mod frames;
+mod known;
 mod records;
+mod taking;
+mod told;
+mod wrote;
 
 use crate::records::Desk;
+use crate::records::Store;
+use crate::taking::Record;
 
-// One record for the collector, by its letter.
-fn collector_record(
-    d: Desk,
-    letter: u8,
-    input: &mut [u8],
-    message: &mut [u8],
-    store: &mut [u8],
-    picture: &mut [u16],
-) -> Desk {
+// A stream through the collector, on a picture of 16-bit words: recordings have no other.
+fn given(d: Desk, r: Record, m: &[u8], store: &mut [u8], picture: &mut [u16]) -> Desk {
+    if d.wide {
+        return crate::records::bad(d);
+    }
+    let e = app_calls::given::fresh(d.s, d.c);
+    let p = crate::collector::give(e, r, m, store, d.lent, picture, d.picture);
+    if !p.made {
+        return crate::records::bad(d);
+    }
+    crate::records::with_records(d, p.s, p.c)
+}
+
+// One record for the collector.
+fn collected(d: Desk, r: Record, m: &[u8], store: &mut [u8], picture: &mut [u16]) -> Desk {
+    if r.letter == b'g' {
+        return given(d, r, m, store, picture);
+    }
+    let c = d.c;
+    let k = Store {
+        c: c,
+        lent: d.lent,
+        filled: d.filled,
+    };
+    crate::records::with_store(d, crate::collector::stored(k, r, m, store))
+}
+
+// What a record does that makes no call: a new case, the end, a recording that is bad.
+fn other(d: Desk, letter: u8) -> Desk {
     match letter {
-        b'k' => crate::collector_records::set_collector(d, input, store),
-        b'l' => crate::collector_records::set_store(d, input, store),
-        b't' => crate::collector_records::take(d, input, message, store),
-        b'r' => crate::collector_records::reset(d, store),
-        b'g' => crate::collector_records::give(d, input, message, store, picture),
+        b'N' => crate::records::fresh(),
+        0 => crate::records::stopped(d),
         _ => crate::records::bad(d),
     }
 }
 
-// One record for capabilities, by its letter.
-fn caps_record(d: Desk, letter: u8, input: &mut [u8], message: &mut [u8], out: &mut [u8]) -> Desk {
+// How a record is answered: 1 by a line alone, 2 by output, 3 by another session record, 0 by none of them.
+fn kind_of(letter: u8) -> u8 {
     match letter {
-        b'a' => crate::caps_records::read_caps(d, input, message),
-        b'b' => crate::caps_records::write_caps(d, input, out),
-        b'd' => crate::caps_records::read_ack_cap(d, input, message),
-        b'e' => crate::caps_records::write_ack_cap(d, input, out),
-        b'i' => crate::caps_records::read_ack(d, input, message),
-        b'j' => crate::caps_records::write_ack(d, input, out),
-        _ => crate::records::bad(d),
+        b'C' | b'D' | b's' | b'S' | b'a' | b'd' | b'i' | b'c' | b'p' => 1,
+        b'W' | b'X' | b'w' | b'b' | b'e' | b'j' | b'Z' | b'y' | b'q' => 2,
+        b'R' | b'T' | b'H' | b'Y' => 3,
+        _ => 0,
     }
 }
 
-// One record for settings and two quantiser sets, by its letter.
-fn cabinet_record(
-    d: Desk,
-    letter: u8,
-    input: &mut [u8],
-    message: &mut [u8],
-    out: &mut [u8],
-) -> Desk {
-    match letter {
-        b's' => crate::cabinet_records::read_settings(d, input, message),
-        b'S' => crate::cabinet_records::read_again(d, input, out),
-        b'w' => crate::cabinet_records::write_settings(d, input, out),
-        b'y' => crate::frame_records::frame_writer(d, input, message, out, true),
-        _ => caps_record(d, letter, input, message, out),
-    }
-}
-
-// One record of 01's calls, by its letter.
-fn base_record(
-    d: Desk,
-    letter: u8,
-    input: &mut [u8],
-    message: &mut [u8],
-    out: &mut [u8],
-    picture: &mut [u16],
-) -> Desk {
-    match letter {
-        b'N' => crate::records::fresh(d.from),
-        b'R' => crate::records::set_record(d, input),
-        b'P' => crate::records::set_picture(d, input, picture),
-        b'H' => crate::records::header(d, input, message),
-        b'C' => crate::records::component(d, input, message),
-        b'D' => crate::records::component_again(d, input, out),
-        b'W' => crate::records::writer(d, input, out),
-        b'X' => crate::records::headers(d, input, out),
-        b'Y' => crate::records::headers_again(d, out),
-        b'F' => crate::frame_records::frame(d, input, message, picture),
-        b'G' => crate::frame_records::frame_again(d, input, out, picture),
-        b'Z' => crate::frame_records::frame_writer(d, input, message, out, false),
-        _ => cabinet_record(d, letter, input, message, out),
-    }
-}
-
-// An end of the input between two records is the end.
-fn step(
-    d: Desk,
-    input: &mut [u8],
-    message: &mut [u8],
-    out: &mut [u8],
-    store: &mut [u8],
-    picture: &mut [u16],
-) -> Desk {
-    let b = app_recording::read::next(input, d.from);
-    let from = b.from;
-    let letter = b.value;
-    if !from.whole {
-        return crate::records::stopped(d);
-    }
-    let e = crate::records::going(d, from);
-    match letter {
-        b'k' | b'l' | b't' | b'r' | b'g' => {
-            collector_record(e, letter, input, message, store, picture)
+// One record without a picture.
+fn plain(d: Desk, r: Record, m: &[u8], out: &mut [u8]) -> Desk {
+    match kind_of(r.letter) {
+        1 => {
+            let last = app_text::loading::first(out, d.written);
+            crate::records::after_told(d, crate::told::told(r, m, last))
         }
-        _ => base_record(e, letter, input, message, out, picture),
+        2 => crate::records::with_written(d, crate::wrote::wrote(r, m, out)),
+        3 => {
+            let last = app_text::loading::first(out, d.written);
+            crate::records::with_session(d, crate::known::known(d.s, r, m, last))
+        }
+        _ => other(d, r.letter),
+    }
+}
+
+// A frame call on a message, or on what was written last.
+fn framed(d: Desk, r: Record, m: &[u8], out: &[u8], picture: &mut [u16], wide: &mut [u32]) -> bool {
+    let n = crate::frames::lengths(m);
+    if r.letter == b'F' {
+        return crate::frames::frame(d, crate::taking::one(m, r), n, picture, wide);
+    }
+    let last = app_text::loading::first(out, d.written);
+    crate::frames::frame(d, last, n, picture, wide)
+}
+
+// One record but for the collector.
+fn drawn(
+    d: Desk,
+    r: Record,
+    m: &[u8],
+    out: &mut [u8],
+    picture: &mut [u16],
+    wide: &mut [u32],
+) -> Desk {
+    let letter = r.letter;
+    match letter {
+        b'P' => {
+            let n = crate::frames::set_picture(m, picture, wide);
+            crate::records::with_picture(d, n, crate::frames::is_wide(m))
+        }
+        b'F' | b'G' => crate::records::after_told(d, framed(d, r, m, out, picture, wide)),
+        _ => plain(d, r, m, out),
+    }
+}
+
+// One record.
+fn make(
+    d: Desk,
+    r: Record,
+    m: &[u8],
+    out: &mut [u8],
+    store: &mut [u8],
+    picture: &mut [u16],
+    wide: &mut [u32],
+) -> Desk {
+    let letter = r.letter;
+    match letter {
+        b'k' | b'l' | b't' | b'r' | b'g' => collected(d, r, m, store, picture),
+        _ => drawn(d, r, m, out, picture, wide),
     }
 }
 
@@ -116,11 +130,15 @@ fn run(
     out: &mut [u8],
     store: &mut [u8],
     picture: &mut [u16],
+    wide: &mut [u32],
 ) {
-    let mut d = crate::records::fresh(app_recording::read::start());
+    let mut from = app_recording::read::start();
+    let mut d = crate::records::fresh();
     let mut turns = u64::MAX;
     while 0 < turns && d.go {
-        d = step(d, input, message, out, store, picture);
+        let came = crate::taking::take(input, from, message);
+        d = make(d, came.record, message, out, store, picture, wide);
+        from = came.from;
         turns -= 1;
     }
 }
@@ -128,19 +146,28 @@ fn run(
 // The large ones come as arrays: their lengths are known without counting to a million.
 fn run_in(
     input: &mut [u8],
-    message: &mut [u8; 1048576],
+    message: &mut [u8; 1114112],
     out: &mut [u8; 1048576],
     store: &mut [u8; 1048576],
     picture: &mut [u16; 1048576],
+    wide: &mut [u32; 131072],
 ) {
-    run(input, message, out, store, picture);
+    run(input, message, out, store, picture, wide);
 }
 
 fn main() {
     let mut input = [0u8; 65536];
-    let mut message = [0u8; 1048576];
+    let mut message = [0u8; 1114112];
     let mut out = [0u8; 1048576];
     let mut store = [0u8; 1048576];
     let mut picture = [0u16; 1048576];
-    run_in(&mut input, &mut message, &mut out, &mut store, &mut picture);
+    let mut wide = [0u32; 131072];
+    run_in(
+        &mut input,
+        &mut message,
+        &mut out,
+        &mut store,
+        &mut picture,
+        &mut wide,
+    );
 }

@@ -1,57 +1,35 @@
-// The records of a recording but for frames, the collector and capabilities: a new case, the session record, a picture, and the calls on headers and
-// components. A record is a letter and
-// little-endian numbers of four bytes, then bytes. No section of document 01 is made true here: `replay` shows by these calls that the proved library does
-// what the recording says.
+// What goes on from record to record of a recording. No section of document 01 is made true here: `replay` shows by its calls that the proved library does what
+// the recording says.
 ghost use mathlib.Core.Path.{_≡_};
-ghost use Rattle.replay.specs.Desk.{goingDesk, stoppedDesk, freshDesk, recordsDesk, writtenDesk, pictureDesk, storeDesk};
-use app_recording::read::In;
+ghost use Rattle.replay.specs.Desk.{stoppedDesk, freshDesk, recordsDesk, writtenDesk, pictureDesk, storeDesk, toldDesk};
 use app_text::lines::OUT;
 use collect::Collector;
 use session::Session;
 
-// What goes on from record to record: the input, the session's record and the collector's, the words of picture that are lent, the bytes last written, of the
-// store's memory the bytes that are lent and those that were filled, and whether it goes on.
+// The session's record and the collector's, the words of picture that are lent and whether they have 32 bits, the bytes last written, of the store's memory the
+// bytes that are lent and those that were filled, and whether it goes on.
 pub struct Desk {
-    pub from: In,
     pub s: Session,
     pub c: Collector,
     pub picture: usize,
+    pub wide: bool,
     pub written: usize,
     pub lent: usize,
     pub filled: usize,
     pub go: bool,
 }
 
-// The next record.
-pub fn going(d: Desk, from: In) -> Desk
-    ensures { λ r. ⌜ r ≡ goingDesk d from ⌝ }
-{
-    let s = d.s;
-    let c = d.c;
-    Desk {
-        from: from,
-        s: s,
-        c: c,
-        picture: d.picture,
-        written: d.written,
-        lent: d.lent,
-        filled: d.filled,
-        go: true,
-    }
-}
-
 // No record more.
 pub fn stopped(d: Desk) -> Desk
     ensures { λ r. ⌜ r ≡ stoppedDesk d ⌝ }
 {
-    let from = d.from;
     let s = d.s;
     let c = d.c;
     Desk {
-        from: from,
         s: s,
         c: c,
         picture: d.picture,
+        wide: d.wide,
         written: d.written,
         lent: d.lent,
         filled: d.filled,
@@ -68,11 +46,10 @@ pub fn bad(d: Desk) -> Desk
 }
 
 // A new case: fresh records, no picture, nothing written, no store.
-pub fn fresh(from: In) -> Desk
-    ensures { λ r. ⌜ r ≡ freshDesk from ⌝ }
+pub fn fresh() -> Desk
+    ensures { λ r. ⌜ r ≡ freshDesk ⌝ }
 {
     Desk {
-        from: from,
         s: Session {
             headers: 0,
             mode: 0,
@@ -92,6 +69,7 @@ pub fn fresh(from: In) -> Desk
             seen: 0,
         },
         picture: 0,
+        wide: false,
         written: 0,
         lent: 0,
         filled: 0,
@@ -99,33 +77,37 @@ pub fn fresh(from: In) -> Desk
     }
 }
 
-fn with_session(d: Desk, from: In, s: Session) -> Desk
-    ensures { λ r. ⌜ r ≡ recordsDesk d from s (d .c) ⌝ }
+// After a call that leaves all as it was; bad where it could not be made.
+pub fn after_told(d: Desk, made: bool) -> Desk
+    ensures { λ r. ⌜ r ≡ toldDesk d made ⌝ }
 {
-    let c = d.c;
-    Desk {
-        from: from,
-        s: s,
-        c: c,
-        picture: d.picture,
-        written: d.written,
-        lent: d.lent,
-        filled: d.filled,
-        go: true,
+    if made {
+        return d;
     }
+    bad(d)
 }
 
-// After a call that wrote n bytes.
-pub fn with_written(d: Desk, from: In, n: usize) -> Desk
-    ensures { λ r. ⌜ r ≡ writtenDesk d from n ⌝ }
+// After header calls.
+pub fn with_session(d: Desk, s: Session) -> Desk
+    ensures { λ r. ⌜ r ≡ recordsDesk d s (d .c) ⌝ }
 {
+    with_records(d, s, d.c)
+}
+
+// After a call that wrote n bytes; bad where it could not be made, which is more bytes than there can be.
+pub fn with_written(d: Desk, n: usize) -> Desk
+    ensures { λ r. ⌜ r ≡ writtenDesk d n ⌝ }
+{
+    if n == usize::MAX {
+        return bad(d);
+    }
     let s = d.s;
     let c = d.c;
     Desk {
-        from: from,
         s: s,
         c: c,
         picture: d.picture,
+        wide: d.wide,
         written: n,
         lent: d.lent,
         filled: d.filled,
@@ -133,16 +115,20 @@ pub fn with_written(d: Desk, from: In, n: usize) -> Desk
     }
 }
 
-fn with_picture(d: Desk, from: In, n: usize) -> Desk
-    ensures { λ r. ⌜ r ≡ pictureDesk d from n ⌝ }
+// With a picture of n words lent.
+pub fn with_picture(d: Desk, n: usize, wide: bool) -> Desk
+    ensures { λ r. ⌜ r ≡ pictureDesk d n wide ⌝ }
 {
+    if n == usize::MAX {
+        return bad(d);
+    }
     let s = d.s;
     let c = d.c;
     Desk {
-        from: from,
         s: s,
         c: c,
         picture: n,
+        wide: wide,
         written: d.written,
         lent: d.lent,
         filled: d.filled,
@@ -151,14 +137,14 @@ fn with_picture(d: Desk, from: In, n: usize) -> Desk
 }
 
 // After calls through the collector.
-pub fn with_records(d: Desk, from: In, s: Session, c: Collector) -> Desk
-    ensures { λ r. ⌜ r ≡ recordsDesk d from s c ⌝ }
+pub fn with_records(d: Desk, s: Session, c: Collector) -> Desk
+    ensures { λ r. ⌜ r ≡ recordsDesk d s c ⌝ }
 {
     Desk {
-        from: from,
         s: s,
         c: c,
         picture: d.picture,
+        wide: d.wide,
         written: d.written,
         lent: d.lent,
         filled: d.filled,
@@ -166,189 +152,30 @@ pub fn with_records(d: Desk, from: In, s: Session, c: Collector) -> Desk
     }
 }
 
-// With a store of so many bytes lent, of memory of which so many are filled.
-pub fn with_store(d: Desk, from: In, c: Collector, lent: usize, filled: usize) -> Desk
-    ensures { λ r. ⌜ r ≡ storeDesk d from c lent filled ⌝ }
+// The collector's record, of the store's memory the bytes that are lent and those that are filled.
+pub struct Store {
+    pub c: Collector,
+    pub lent: usize,
+    pub filled: usize,
+}
+
+// With another store; bad where there is none so long.
+pub fn with_store(d: Desk, k: Store) -> Desk
+    ensures { λ r. ⌜ r ≡ storeDesk d k ⌝ }
 {
+    if k.lent == usize::MAX {
+        return bad(d);
+    }
     let s = d.s;
+    let c = k.c;
     Desk {
-        from: from,
         s: s,
         c: c,
         picture: d.picture,
+        wide: d.wide,
         written: d.written,
-        lent: lent,
-        filled: filled,
+        lent: k.lent,
+        filled: k.filled,
         go: true,
     }
-}
-
-// 'R': the session record, whatever it is.
-pub fn set_record(d: Desk, input: &mut [u8]) -> Desk {
-    let g = app_recording::read::take_four(input, d.from);
-    let from = g.from;
-    if !from.whole {
-        return bad(d);
-    }
-    let s = session::of_numbers(
-        app_recording::read::byte_of(g.a),
-        app_recording::read::word_of(g.b),
-        app_recording::read::word_of(g.c),
-        app_recording::read::byte_of(g.d),
-    );
-    with_session(d, from, s)
-}
-
-// 'P': a new picture.
-pub fn set_picture(d: Desk, input: &mut [u8], picture: &mut [u16]) -> Desk {
-    let g = app_recording::read::take_two(input, d.from);
-    let from = g.from;
-    let n = g.a;
-    if !from.whole {
-        return bad(d);
-    }
-    if picture.len() < n {
-        return bad(d);
-    }
-    app_recording::lent::fill_picture(&mut picture[0..n], g.b);
-    with_picture(d, from, n)
-}
-
-// The n bytes of a message, at most 262,144; one that is too long counts as cut.
-pub fn take_limited(input: &mut [u8], c: In, message: &mut [u8], n: usize) -> In {
-    if 262144 < n {
-        return In {
-            at: 0,
-            have: 0,
-            whole: false,
-        };
-    }
-    app_recording::read::take_message(input, c, message, n)
-}
-
-// 'H'
-pub fn header(d: Desk, input: &mut [u8], message: &mut [u8]) -> Desk {
-    let a = app_recording::read::number(input, d.from);
-    let from = take_limited(input, a.from, message, a.value);
-    if !from.whole {
-        return bad(d);
-    }
-    let s = app_calls::calls::header_call(d.s, app_text::loading::first(message, a.value));
-    with_session(d, from, s)
-}
-
-// The component reader on the part of a list that is lent; false where the recording asks for more than there is.
-fn component_on(mode: usize, code: &[u8], len: usize) -> bool {
-    let mut space = [0i32; 8192];
-    let list: &mut [i32] = &mut space;
-    if list.len() < len {
-        return false;
-    }
-    app_calls::calls::component_call(app_recording::read::byte_of(mode), code, &mut list[0..len]);
-    true
-}
-
-// 'C'
-pub fn component(d: Desk, input: &mut [u8], message: &mut [u8]) -> Desk {
-    let g = app_recording::read::take_three(input, d.from);
-    let from = take_limited(input, g.from, message, g.c);
-    if !from.whole {
-        return bad(d);
-    }
-    if component_on(g.a, app_text::loading::first(message, g.c), g.b) {
-        return going(d, from);
-    }
-    bad(d)
-}
-
-// 'D'
-pub fn component_again(d: Desk, input: &mut [u8], out: &[u8]) -> Desk {
-    let a = app_recording::read::number(input, d.from);
-    let from = a.from;
-    if !from.whole {
-        return bad(d);
-    }
-    if component_on(a.value, app_text::loading::first(out, d.written), 4096) {
-        return going(d, from);
-    }
-    bad(d)
-}
-
-// The component writer on the first n numbers of a list; a count of bytes beyond the output where the recording asks for more than there is.
-fn writer_part(mode: usize, list: &[i32], n: usize, out: &mut [u8], room: usize) -> usize {
-    if list.len() < n {
-        return usize::MAX;
-    }
-    if out.len() < room {
-        return usize::MAX;
-    }
-    app_calls::calls::writer_call(
-        app_recording::read::byte_of(mode),
-        &list[0..n],
-        &mut out[0..room],
-    )
-}
-
-// What a 'W' came to: the bytes written, and where the input stands.
-struct Wrote {
-    count: usize,
-    from: In,
-}
-
-fn writer_asked(input: &mut [u8], c: In, out: &mut [u8]) -> Wrote {
-    let mut space = [0i32; 8192];
-    let list: &mut [i32] = &mut space;
-    let g = app_recording::read::take_three(input, c);
-    let r = app_recording::read::take_runs(input, g.from, g.c, list);
-    let from = r.from;
-    if r.fits && from.whole {
-        return Wrote {
-            count: writer_part(g.a, list, r.count, out, g.b),
-            from: from,
-        };
-    }
-    Wrote {
-        count: usize::MAX,
-        from: from,
-    }
-}
-
-// 'W'
-pub fn writer(d: Desk, input: &mut [u8], out: &mut [u8]) -> Desk {
-    let w = writer_asked(input, d.from, out);
-    let from = w.from;
-    let n = w.count;
-    if out.len() < n {
-        return bad(d);
-    }
-    with_written(d, from, n)
-}
-
-// 'X'
-pub fn headers(d: Desk, input: &mut [u8], out: &mut [u8]) -> Desk {
-    let g = app_recording::read::take_four(input, d.from);
-    let from = g.from;
-    let room = g.d;
-    if !from.whole {
-        return bad(d);
-    }
-    if out.len() < room {
-        return bad(d);
-    }
-    let k = app_calls::calls::headers_call(
-        g.a,
-        g.b,
-        app_recording::read::byte_of(g.c),
-        &mut out[0..room],
-    );
-    with_written(d, from, k)
-}
-
-// 'Y': the four blocks of 'X', each to a header call.
-pub fn headers_again(d: Desk, out: &[u8]) -> Desk {
-    if d.written < 47 {
-        return bad(d);
-    }
-    let s = app_calls::calls::headers_back_call(d.s, out);
-    with_session(d, d.from, s)
 }

@@ -7,6 +7,7 @@ use native.Mathlib.Omega.{arith}
 use lib.ListN.{length, take, drop, length-drop}
 use lib.Seq.{take-all}
 use borrow.Author.Tests.{lt-ltb, le-ltb}
+use Rattle.whole.specs.Row.{_⇒_∣_}
 use Rattle.whole.specs.laws.Row.{fails, passes}
 use Rattle.session.specs.declared.Session.{Session}
 use Rattle.session.specs.declared.HeaderReading.{HeaderReading}
@@ -20,6 +21,7 @@ use Rattle.app_text.specs.First.{firstOf}
 use Rattle.app_calls.specs.declared.calls.Lengths.{Lengths}
 use Rattle.app_calls.specs.declared.given.Desk.{Desk}
 use Rattle.app_calls.specs.Calls.{headerLeft, fits, FrameMade}
+use Rattle.app_calls.specs.laws.Calls.{made-narrow}
 use Rattle.app_calls.specs.Given.{started, moved, headerDesk, frameDesk, deskPart, shown, picturePart, partPlayed, Scene, scene, taken, played}
 use Rattle.app_calls.specs.Given.{sceneAfter, sceneGiven, givenTo}
 
@@ -58,11 +60,12 @@ module _ (n : Lengths) (store : List ℕ) (d r : Desk) (a : Collected) (pic : Li
 
   pub part-frame :
       (k : ℕ) (m pic′ : List ℕ) (b : Bool) → a ≡ Frame k → m ≡ firstOf store k →
-      FrameMade (fits (n .one) (n .two) (n .three)) (d .s) m (n .one) (n .two) (n .three) pic pic′ b → r ≡ frameDesk d → partPlayed n store d a pic pic′ r
+      FrameMade 0 (fits (n .one) (n .two) (n .three)) (d .s) m (n .one) (n .two) (n .three) pic pic′ b → r ≡ frameDesk d → partPlayed n store d a pic pic′ r
   unfolding deskPart picturePart shown
   part-frame k m pic′ b e is p f = record {
     desk = f ∙ ap (deskPart store d) (sym e);
-    picture = p .picture ∙ (ap (λ (x : List ℕ). shown n (d .s) x pic) is ∙ ap (λ (x : Collected). picturePart n store d x pic) (sym e));
+    picture = p .picture ∙ (ap (λ (x : List ℕ). fits (n .one) (n .two) (n .three) ⇒ x ∣ pic) (made-narrow (d .s) m (n .one) (n .two) (n .three) pic)
+        ∙ (ap (λ (x : List ℕ). shown n (d .s) x pic) is ∙ ap (λ (x : Collected). picturePart n store d x pic) (sym e)));
   }
 
 -- ---- a hand-over

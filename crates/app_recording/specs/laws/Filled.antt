@@ -50,8 +50,8 @@ all-of v l i h g f p = record {
 
 -- ---- one picture, and one answer, alone meet the promises
 
-pub pictured-once : (seed : ℕ) (before a b : List ℕ) → Pictured seed before a → Pictured seed before b → a ≡ b
-pictured-once seed before a b p q =
+pub pictured-once : (n seed : ℕ) (before a b : List ℕ) → Pictured n seed before a → Pictured n seed before b → a ≡ b
+pictured-once n seed before a b p q =
     ext-getD 0 a b (p .long ∙ sym (q .long)) (λ i h. let k : i < length before = omega (arith, h, p .long) in p .each i k ∙ sym (q .each i k))
 
 pub all-are-once : (v : ℤ) (l : List ℤ) (r s : Bool) → AllAre v l r → AllAre v l s → r ≡ s

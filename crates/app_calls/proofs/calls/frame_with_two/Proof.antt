@@ -5,11 +5,11 @@ use Rattle.app_calls.proofs.calls.frame_with_two.Statement.{statement}
 use Rattle.app_calls.proofs.calls.frame_with_two.Tie as tie
 
 returns : tie.Need-returns
-returns c = three-not _ _ _ _ _ _ (c .before .if1 .taken)
+returns c = three-not _ _ _ _ _ _ _ (c .before .if1 .taken)
 
 returns-2 : tie.Need-returns-2
 returns-2 c =
-    three-made _ _ _ _ _ _ _ _ _ _ _
+    three-made _ _ _ _ _ _ _ _ _ _ _ _
     (c .before .before .before .before .before .before .before .before .before .before .before .before .before .before .before .before .before .before
     .before .before .before .before .before .before .before .if1 .left)
     (c .before .before .before .before .before .before .before .before .before .before .before .before .before .before .before .before .before .before

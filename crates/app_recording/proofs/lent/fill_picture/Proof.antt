@@ -11,7 +11,7 @@ use Rattle.app_recording.proofs.lent.fill_picture.Tie as tie
 
 abbrev Inv-loop : tie.InvT-loop
 Inv-loop picture₀ seed i₀ picture i =
-    (i ≤ length picture₀) × (length picture ≡ length picture₀) × ((n : ℕ) → n < i → getD picture n 0 ≡ pictureWord seed n)
+    (i ≤ length picture₀) × (length picture ≡ length picture₀) × ((n : ℕ) → n < i → getD picture n 0 ≡ pictureWord 65536 seed n)
 
 abbrev μ-loop : tie.MeasureT-loop
 μ-loop picture₀ seed i₀ picture i = length picture₀ - i
@@ -24,7 +24,7 @@ loop-again c =
     let s = c .before .before in (
       omega arith,
       simp length-set (s .loop .inv .1),
-      put-any 0 (λ n. n) (pictureWord _) (s .loop .picture) (s .loop .i) (c .picture-word .result)
+      put-any 0 (λ n. n) (pictureWord 65536 _) (s .loop .picture) (s .loop .i) (c .picture-word .result)
           (omega arith) (λ n k e. omega arith) (c .picture-word .ensures) (s .loop .inv .2),
     )
 
