@@ -20,8 +20,8 @@ pub mod cabinet;
 pub mod capabilities;
 pub mod collector;
 pub mod edge;
-pub mod short;
 pub mod filter;
+pub mod short;
 
 // Reads one header block, which is the whole message.
 pub fn read_header(s: Session, message: &[u8]) -> HeaderReading
