@@ -1,5 +1,5 @@
--- A frame passed on, as a C program meets it: the number is returned, length and count are stored behind the last two references, lists are lent. The session is the
--- one that the four headers of this size and mode make.
+-- A frame passed on, as a C program meets it: the number is returned, length and count are stored behind the last two references, lists are lent. The
+-- session is the one that the four headers of this size and mode make.
 -- (01 is this project's scope document, 02 its change requests, 001 is MS-RDPRFX: README, "What 01 is".)
 use Prim.Native.Nat.{ℕ}
 use mathlib.Core.List.{List}

@@ -128,5 +128,5 @@ pub load-row-spec : {M : Type 1} → statement M
 load-row-spec =
     tie.close
     (tie.spec Inv-loop μ-loop (λ c. omega arith) (λ c. omega arith) (λ c κs. omega arith) mul-from mul-from-2 loop-holds (λ c. omega arith) (λ c. omega arith)
-    (λ c. omega arith) (λ c. omega arith) column-requires mul-bytes-at add-bytes-at bytes-at-requires mul-t24 add-t25 mul-t26 slice-set-from-work (λ c. omega arith) (λ c. omega arith)
-    loop-again same-length returns)
+    (λ c. omega arith) (λ c. omega arith) column-requires mul-bytes-at add-bytes-at bytes-at-requires mul-t24 add-t25 mul-t26 slice-set-from-work
+    (λ c. omega arith) (λ c. omega arith) loop-again same-length returns)

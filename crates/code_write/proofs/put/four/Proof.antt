@@ -71,7 +71,9 @@ returns-5 c =
     four-all l j (j + 4) refl z4
 
 folded-at-requires-4 : tie.Need-folded-at-requires-4
-folded-at-requires-4 c κs = (omega (arith, c .before .before .before .before .before .before .pre .1), c .before .before .before .before .before .before .pre .0)
+folded-at-requires-4 c κs =
+    let s = c .before .before .before .before .before .before in
+    (omega (arith, s .pre .1), s .pre .0)
 
 pub four-spec : {M : Type 1} → statement M
 four-spec =

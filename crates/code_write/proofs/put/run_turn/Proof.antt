@@ -98,7 +98,8 @@ returns-2 c =
     let n : r .result ≡ min (length l) (a .s .i + 1 * 2 ^ (a .s .kp / 8) % 2 ^ 64) = rw (length-map (a .xs .now) foldZ) (r .ensures) in
     let h : a .s .i + z .result < r .result = omega (arith, c .before .before .before .before .before .before .before .if1 .left) in
     let e = next-run l (a .s) (a .rlgr3) (s .pre .1) _ (z .result) (r .result) q (z .ensures) n h (v .result) (v .ensures) in
-    onward-run (a .rlgr3) l (a .out .now) (a .s) _ _ (z .result) (v .result) e (c .before .before .before .before .put-run .ensures) (omega arith) (c .before .less .ensures) (c .kr-after .ensures)
+    onward-run (a .rlgr3) l (a .out .now) (a .s) _ _ (z .result) (v .result) e
+    (c .before .before .before .before .put-run .ensures) (omega arith) (c .before .less .ensures) (c .kr-after .ensures)
 
 sub-kr-after : tie.Need-sub-kr-after
 sub-kr-after c =
@@ -111,13 +112,22 @@ sub-kr-after c =
     let q = shift-one (a .s .kp / 8) (omega (arith, w .kps)) in
     let r = c .before .before .before .before .before .before .before .run-end in
     let n : r .result ≡ min (length l) (a .s .i + 1 * 2 ^ (a .s .kp / 8) % 2 ^ 64) = rw (length-map (a .xs .now) foldZ) (r .ensures) in
-    next-some l (a .s) (a .rlgr3) (s .pre .1) _ (z .result) (r .result) q (z .ensures) n (omega (arith, c .before .before .before .before .before .before .if1 .left)) (v .result) (v .ensures)
+    next-some l (a .s) (a .rlgr3) (s .pre .1) _ (z .result) (r .result) q (z .ensures) n
+    (omega (arith, c .before .before .before .before .before .before .if1 .left)) (v .result) (v .ensures)
 
 add-t11 : tie.Need-add-t11
-add-t11 c = let w = c .before .before .before .before .before .before .before .before .before .pre .0 in omega (arith, w .few, c .before .before .before .before .before .before .run-end .ensures, c .before .before .before .before .before .if1 .left)
+add-t11 c =
+    let i = c .before .before .before .before .before in
+    let r = i .before in
+    let w = r .before .before .before .pre .0 in
+    omega (arith, w .few, r .run-end .ensures, i .if1 .left)
 
 add-t10 : tie.Need-add-t10
-add-t10 c = let w = c .before .before .before .before .before .before .before .before .before .pre .0 in omega (arith, w .few, c .before .before .before .before .before .before .run-end .ensures, c .before .before .before .before .before .if1 .left)
+add-t10 c =
+    let i = c .before .before .before .before .before in
+    let r = i .before in
+    let w = r .before .before .before .pre .0 in
+    omega (arith, w .few, r .run-end .ensures, i .if1 .left)
 
 pub run-turn-spec : {M : Type 1} → statement M
 run-turn-spec =

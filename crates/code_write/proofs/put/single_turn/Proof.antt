@@ -25,7 +25,8 @@ returns c =
     let a = s .args in
     let v = c .before .before .before .before .before .before .folded-at in
     let e = next-single (map foldZ (a .xs .now)) (a .s) (v .result) (s .pre .1) (v .ensures) in
-    onward-single false (map foldZ (a .xs .now)) (a .out .now) (a .s) _ _ (v .result) e (c .before .before .before .before .put-single .ensures) refl (c .before .kp-one .ensures) (c .kr-after .ensures)
+    onward-single false (map foldZ (a .xs .now)) (a .out .now) (a .s) _ _ (v .result) e
+    (c .before .before .before .before .put-single .ensures) refl (c .before .kp-one .ensures) (c .kr-after .ensures)
 
 pub single-turn-spec : {M : Type 1} → statement M
 single-turn-spec =

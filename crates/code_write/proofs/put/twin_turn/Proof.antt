@@ -29,7 +29,8 @@ add-kr-after : tie.Need-add-kr-after
 add-kr-after c =
     let s = c .before .before .before .before .before .before .before .before in
     let w = s .pre .0 in
-    omega (arith, c .before .before .before .before .before .before .folded-at .ensures, c .before .before .before .before .before .folded-or .ensures, w .range (s .args .s .i), w .range (s .args .s .i + 1))
+    let o = c .before .before .before .before .before in
+    omega (arith, o .before .folded-at .ensures, o .folded-or .ensures, w .range (s .args .s .i), w .range (s .args .s .i + 1))
 
 returns : tie.Need-returns
 returns c =
@@ -38,7 +39,8 @@ returns c =
     let f = c .before .before .before .before .before .before .before .folded-at in
     let g = c .before .before .before .before .before .before .folded-or in
     let e = next-twin (map foldZ (a .xs .now)) (a .s) (f .result) (g .result) (s .pre .1) (f .ensures) (g .ensures) in
-    onward-twin true (map foldZ (a .xs .now)) (a .out .now) (a .s) _ _ (f .result) (g .result) e (c .before .before .before .before .put-twin .ensures) refl (c .before .kp-two .ensures)
+    onward-twin true (map foldZ (a .xs .now)) (a .out .now) (a .s) _ _ (f .result) (g .result) e
+    (c .before .before .before .before .put-twin .ensures) refl (c .before .kp-two .ensures)
     (c .kr-after .ensures)
 
 pub twin-turn-spec : {M : Type 1} → statement M

@@ -18,6 +18,7 @@ loop-again c = (search needs, search needs, search needs, search needs)
 pub give-spec : {M : Type 1} → statement M
 give-spec =
     tie.close
-    (tie.spec Inv-loop μ-loop (λ c κs. tt) (λ c κs. search needs) (λ c. (refl, refl, refl, refl)) (λ c κs. tt) (λ c. search needs) (λ c. search needs) loop-again
+    (tie.spec Inv-loop μ-loop (λ c κs. tt) (λ c κs. search needs) (λ c. (refl, refl, refl, refl)) (λ c κs. tt) (λ c. search needs) (λ c. search needs)
+    loop-again
     (λ c. search needs) (λ c. search needs) (λ c. search needs) (λ c. search needs) (λ c. search needs)
     (λ c. search needs) (λ c. search needs) (λ c. search needs) (λ c. search needs) (λ c. search needs))
