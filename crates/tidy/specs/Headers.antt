@@ -89,8 +89,7 @@ none = record { on = 0; first = 0; second = 0 }
 -- ---- what the calls promise
 
 -- refusals, by the store's length, what waits, the bytes that may go on and the room for them: 2 where the store is not 35 bytes or a number of what waits
--- is none
--- of the three, 13 where the output is too short
+-- is none of the three, 13 where the output is too short
 unfoldable pub headerFault : ℕ → Waiting → ℕ → ℕ → ℕ
 headerFault store w most room = eqb store 35 ! 2 ⨾ leb (w .first) 3 ! 2 ⨾ leb (w .second) 3 ! 2 ⨾ leb most room ! 13 ⨾ 0
 

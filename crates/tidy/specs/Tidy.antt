@@ -1,14 +1,13 @@
 -- A frame as the filter in front of the panel passes it on: byte for byte where the panel accepts it; with its codes tidied and "lengths of tile, tileset
--- and data
--- size filled in again" where it is accepted then; and whatever else it is, as it came, "to be refused by number".
+-- and data size filled in again" where it is accepted then; and whatever else it is, as it came, "to be refused by number".
 -- (01 is this project's scope document, 02 its change requests, 001 is MS-RDPRFX: README, "What 01 is".)
 use Prim.Native.Nat.{ℕ, zero, suc, _+_, _*_}
 use mathlib.Core.Path.{_≡_}
 use mathlib.Core.Bool.{Bool, true, false}
 use mathlib.Core.List.{List, [], _∷_, _++_}
 use lib.Dec.{leb, eqb}
-use lib.IntN.{ℤ}
-use lib.ListN.{length, take, drop}
+use lib.IntN.{ℤ, pos}
+use lib.ListN.{length, take, drop, replicate}
 use Rattle.whole.specs.Row.{_!_⨾_, _⇒_∣_}
 use Rattle.wire.specs.Le.{bytes32, patch}
 use Rattle.wire.specs.Wrote.{lengthSaid, outLeft}
@@ -109,7 +108,7 @@ cutSaid (suc f) n = 0
 
 -- the work list: untouched where the call is refused, else zeros
 unfoldable pub listLeft : ℕ → List ℤ → List ℤ
-listLeft zero list = lib.ListN.replicate 4096 (lib.IntN.pos 0)
+listLeft zero list = replicate 4096 (pos 0)
 listLeft (suc f) list = list
 
 pub record FrameTidied (s : Session) (m : List ℕ) (list list′ : List ℤ) (out out′ : List ℕ) (r : Tidied) : Type 0 where

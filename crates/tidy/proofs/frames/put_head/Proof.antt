@@ -35,8 +35,7 @@ put16-at-requires-2 c κs =
       c4 .put-two8 .kept .0,
       c3 .put8-at .kept .0,
       c2 .put-two16 .kept .0,
-      c1
-          .put-two162 .kept .0,
+      c1 .put-two162 .kept .0,
     )
 
 returns : tie.Need-returns

@@ -34,8 +34,7 @@ put-code-requires-2 c κs =
         r,
         c3 .pre .2,
         ap length (c2 .code-part .ensures),
-        ap length
-            (c .before .before .code-part2 .ensures),
+        ap length (c .before .before .code-part2 .ensures),
         y,
         c1 .put-code .ensures .behind,
         c1 .put-code .kept .1 .1 .1 .0,
