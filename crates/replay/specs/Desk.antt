@@ -7,8 +7,8 @@ use Rattle.session.specs.declared.Session.{Session}
 use Rattle.session.specs.Header.{recordOf}
 use Rattle.collect.specs.Collect.{fresh}
 use Rattle.collect.specs.declared.Collector.{Collector}
+use Rattle.replay.specs.declared.collector.Store.{Store}
 use Rattle.replay.specs.declared.records.Desk.{Desk}
-use Rattle.replay.specs.declared.records.Store.{Store}
 
 abbrev pub desk : Session → Collector → ℕ → Bool → ℕ → ℕ → ℕ → Desk
 desk s c picture wide written lent filled =

@@ -1,10 +1,16 @@
 // The records of a recording for the collector (document 02, request One): a fresh one over a store, another length of the store, a hand-over, a reset, and a
 // stream in pieces whose parts go to their calls. A store holds A5 where nothing was gathered in it.
-use crate::records::Store;
-use crate::taking::Record;
 use app_calls::calls::Lengths;
+use app_records::taking::Record;
 use collect::Collector;
 use session::Session;
+
+// The collector's record, of the store's memory the bytes that are lent and those that are filled.
+pub struct Store {
+    pub c: Collector,
+    pub lent: usize,
+    pub filled: usize,
+}
 
 // There is no store so long.
 fn none(k: Store) -> Store {
@@ -83,9 +89,9 @@ fn reset(k: Store, store: &[u8]) -> Store {
 pub fn stored(k: Store, r: Record, m: &[u8], store: &mut [u8]) -> Store {
     let letter = r.letter;
     match letter {
-        b'k' => set_collector(k, store, crate::taking::figure(m, 0)),
-        b'l' => set_store(k, store, crate::taking::figure(m, 0)),
-        b't' => take(k, crate::taking::one(m, r), store),
+        b'k' => set_collector(k, store, app_records::taking::figure(m, 0)),
+        b'l' => set_store(k, store, app_records::taking::figure(m, 0)),
+        b't' => take(k, app_records::taking::one(m, r), store),
         _ => reset(k, store),
     }
 }
@@ -100,7 +106,7 @@ fn size_at(cuts: &[u8], i: usize) -> usize {
     if cuts.len() / 4 <= i {
         return usize::MAX;
     }
-    crate::taking::figure(cuts, i)
+    app_records::taking::figure(cuts, i)
 }
 
 // The next bytes of a message from a place on, as many as are asked for, or all that are left.
@@ -166,12 +172,12 @@ fn play(
     store: &mut [u8],
     picture: &mut [u16],
 ) -> Played {
-    let n = crate::frames::lengths(m);
+    let n = app_records::frames::lengths(m);
     if !lists_fit(n) {
         return unplayed(e);
     }
-    let cuts = crate::taking::one(m, r);
-    let g = pieces(e, crate::taking::two(m, r), cuts, store, picture, n);
+    let cuts = app_records::taking::one(m, r);
+    let g = pieces(e, app_records::taking::two(m, r), cuts, store, picture, n);
     said(g, app_recording::lent::hash_words(picture))
 }
 

@@ -1,18 +1,14 @@
 // Makes the calls of a recording (standard input) on the public functions of `panel`, and prints one line for each: 01's number, its values, the record, and a
 // hash of the lent memory. A record of the recording is a letter and little-endian numbers of four bytes, then bytes (`taking`); lent lists hold 7 and lent
-// output A5. A record is read whole before its call is made: a call gets the record's memory and, of the memory that is lent, only what it needs (`told`,
-// `wrote`, `known`, `frames`, `collector`). The calls and their lines are in `app_calls`; here is the loop.
+// output A5. A record is read whole before its call is made: a call gets the record's memory and, of the memory that is lent, only what it needs
+// (`app_records`). The calls and their lines are in `app_calls` and `app_answers`; here is the loop.
 mod collector;
-mod frames;
-mod known;
 mod records;
-mod taking;
-mod told;
-mod wrote;
 
+use crate::collector::Store;
 use crate::records::Desk;
-use crate::records::Store;
-use crate::taking::Record;
+use app_calls::calls::Lengths;
+use app_records::taking::Record;
 
 // A stream through the collector, on a picture of 16-bit words: recordings have no other.
 fn given(d: Desk, r: Record, m: &[u8], store: &mut [u8], picture: &mut [u16]) -> Desk {
@@ -65,25 +61,30 @@ fn plain(d: Desk, r: Record, m: &[u8], out: &mut [u8]) -> Desk {
     match kind_of(r.letter) {
         1 => {
             let last = app_text::loading::first(out, d.written);
-            crate::records::after_told(d, crate::told::told(r, m, last))
+            crate::records::after_told(d, app_records::told::told(r, m, last))
         }
-        2 => crate::records::with_written(d, crate::wrote::wrote(r, m, out)),
+        2 => crate::records::with_written(d, app_records::wrote::wrote(r, m, out)),
         3 => {
             let last = app_text::loading::first(out, d.written);
-            crate::records::with_session(d, crate::known::known(d.s, r, m, last))
+            crate::records::with_session(d, app_records::known::known(d.s, r, m, last))
         }
         _ => other(d, r.letter),
     }
 }
 
+// A frame call on the picture that is lent.
+fn framed_on(d: Desk, bytes: &[u8], n: Lengths, picture: &mut [u16], wide: &mut [u32]) -> bool {
+    app_records::frames::frame(d.s, bytes, n, d.picture, d.wide, picture, wide)
+}
+
 // A frame call on a message, or on what was written last.
 fn framed(d: Desk, r: Record, m: &[u8], out: &[u8], picture: &mut [u16], wide: &mut [u32]) -> bool {
-    let n = crate::frames::lengths(m);
+    let n = app_records::frames::lengths(m);
     if r.letter == b'F' {
-        return crate::frames::frame(d, crate::taking::one(m, r), n, picture, wide);
+        return framed_on(d, app_records::taking::one(m, r), n, picture, wide);
     }
     let last = app_text::loading::first(out, d.written);
-    crate::frames::frame(d, last, n, picture, wide)
+    framed_on(d, last, n, picture, wide)
 }
 
 // One record but for the collector.
@@ -98,8 +99,8 @@ fn drawn(
     let letter = r.letter;
     match letter {
         b'P' => {
-            let n = crate::frames::set_picture(m, picture, wide);
-            crate::records::with_picture(d, n, crate::frames::is_wide(m))
+            let n = app_records::frames::set_picture(m, picture, wide);
+            crate::records::with_picture(d, n, app_records::frames::is_wide(m))
         }
         b'F' | b'G' => crate::records::after_told(d, framed(d, r, m, out, picture, wide)),
         _ => plain(d, r, m, out),
@@ -136,7 +137,7 @@ fn run(
     let mut d = crate::records::fresh();
     let mut turns = u64::MAX;
     while 0 < turns && d.go {
-        let came = crate::taking::take(input, from, message);
+        let came = app_records::taking::take(input, from, message);
         d = make(d, came.record, message, out, store, picture, wide);
         from = came.from;
         turns -= 1;

@@ -2,6 +2,7 @@
 // the recording says.
 ghost use mathlib.Core.Path.{_≡_};
 ghost use Rattle.replay.specs.Desk.{stoppedDesk, freshDesk, recordsDesk, writtenDesk, pictureDesk, storeDesk, toldDesk};
+use crate::collector::Store;
 use app_text::lines::OUT;
 use collect::Collector;
 use session::Session;
@@ -150,13 +151,6 @@ pub fn with_records(d: Desk, s: Session, c: Collector) -> Desk
         filled: d.filled,
         go: true,
     }
-}
-
-// The collector's record, of the store's memory the bytes that are lent and those that are filled.
-pub struct Store {
-    pub c: Collector,
-    pub lent: usize,
-    pub filled: usize,
 }
 
 // With another store; bad where there is none so long.

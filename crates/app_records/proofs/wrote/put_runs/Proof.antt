@@ -3,8 +3,8 @@ use mathlib.Core.Path.{_≡_, refl}
 use native.Mathlib.Omega.{arith}
 use borrow.Author.Needs.{needs}
 use lib.ListN.{length}
-use Rattle.replay.proofs.wrote.put_runs.Statement.{statement}
-use Rattle.replay.proofs.wrote.put_runs.Tie as tie
+use Rattle.app_records.proofs.wrote.put_runs.Statement.{statement}
+use Rattle.app_records.proofs.wrote.put_runs.Tie as tie
 
 abbrev Inv-loop : tie.InvT-loop
 Inv-loop runs list₀ at₀ i₀ turns₀ list at i turns = length list ≡ length list₀

@@ -1,8 +1,8 @@
 -- Input and memory keep their lengths through the calls that read; all else is safe as it stands.
 use mathlib.Core.Path.{_∙_}
 use borrow.Author.Needs.{needs}
-use Rattle.replay.proofs.taking.take_parts.Statement.{statement}
-use Rattle.replay.proofs.taking.take_parts.Tie as tie
+use Rattle.app_records.proofs.taking.take_parts.Statement.{statement}
+use Rattle.app_records.proofs.taking.take_parts.Tie as tie
 
 same-length : tie.Need-same-length
 same-length c =

@@ -3,8 +3,8 @@ use native.Mathlib.Omega.{arith}
 use Prim.Native.Nat.{_-_}
 use Rattle.code.specs.laws.Fold.{less-fits}
 use borrow.Author.Needs.{needs}
-use Rattle.replay.proofs.wrote.signed.Statement.{statement}
-use Rattle.replay.proofs.wrote.signed.Tie as tie
+use Rattle.app_records.proofs.wrote.signed.Statement.{statement}
+use Rattle.app_records.proofs.wrote.signed.Tie as tie
 
 sub-result : tie.Need-sub-result
 sub-result c = less-fits (4294967295 - c .before .before .args .v) (omega arith)

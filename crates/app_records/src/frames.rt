@@ -1,6 +1,5 @@
 // The records of a recording on a picture: another picture ('P'), a frame call on a message ('F'), and one on what the frame writer wrote ('G'). Lists and
 // pictures have the lengths and the picture the word size that the recording says.
-use crate::records::Desk;
 use app_calls::calls::Lengths;
 use app_calls::calls::Line;
 use session::Session;
@@ -59,10 +58,18 @@ fn wider(s: Session, bytes: &[u8], wide: &mut [u32], words: usize, n: Lengths) -
     app_calls::calls::frame_call_32(s, bytes, &mut wide[0..words], n, Line::Recorded)
 }
 
-// 'F', 'G', on the picture that is lent: false where the recording asks for more than there is.
-pub fn frame(d: Desk, bytes: &[u8], n: Lengths, picture: &mut [u16], wide: &mut [u32]) -> bool {
-    if d.wide {
-        return wider(d.s, bytes, wide, d.picture, n);
+// 'F', 'G', on the picture that is lent, of so many words of 16 or of 32 bits: false where the recording asks for more than there is.
+pub fn frame(
+    s: Session,
+    bytes: &[u8],
+    n: Lengths,
+    words: usize,
+    is_wide: bool,
+    picture: &mut [u16],
+    wide: &mut [u32],
+) -> bool {
+    if is_wide {
+        return wider(s, bytes, wide, words, n);
     }
-    narrow(d.s, bytes, picture, d.picture, n)
+    narrow(s, bytes, picture, words, n)
 }

@@ -4,8 +4,8 @@ use mathlib.Core.Path.{_≡_, refl}
 use native.Mathlib.Omega.{arith}
 use borrow.Author.Needs.{needs}
 use lib.ListN.{length, length-set}
-use Rattle.replay.proofs.told.put_picks.Statement.{statement}
-use Rattle.replay.proofs.told.put_picks.Tie as tie
+use Rattle.app_records.proofs.told.put_picks.Statement.{statement}
+use Rattle.app_records.proofs.told.put_picks.Tie as tie
 
 abbrev Inv-loop : tie.InvT-loop
 Inv-loop bytes list₀ n i₀ list i = (n ≤ length list₀) × (length list ≡ length list₀)
