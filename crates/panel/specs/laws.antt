@@ -3,3 +3,4 @@ pub mod Capabilities
 pub mod Collector
 pub mod Edge
 pub mod Short
+pub mod Tidy
