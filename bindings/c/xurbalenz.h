@@ -334,7 +334,7 @@ uint8_t xurbalenz_write_headers(size_t width, size_t height, uint8_t mode, uint8
  * Judged in this order: size or mode (5), a quantiser outside 6 to 15 (7), pixels_len, list_len or scratch_len (2), then component by
  * component a value that a reader would refuse (9) and a code over 65,535 bytes (6), then out (13). No picture leads to 9 or 6; that is
  * proved. So with good arguments and XURBALENZ_FRAME_ROOM bytes of out every picture is written, and it is written at once: with less room the frame is
- * measured before its first byte goes out, which takes nearly twice as long.
+ * measured before its first byte goes out, which takes nearly twice the instructions.
  *
  * Afterwards, besides what holds for every writer: list and scratch are untouched on 5, 7 and 2, and hold only zeros after every other
  * answer, done too.
