@@ -1,9 +1,11 @@
 pub mod Cases
 pub mod Going
 pub mod Item
+pub mod Length
 pub mod Once
 pub mod Pack
 pub mod Pen
 pub mod Signed
+pub mod Span
 pub mod Write
 pub mod Writing

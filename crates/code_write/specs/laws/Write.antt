@@ -1,31 +1,24 @@
 -- Laws of the component writer: the range of a list, the bytes at a place, and one law for each answer.
 -- Assumes nothing.
-use Prim.Native.Nat.{ℕ, zero, suc, _+_, _-_, _/_, _≤_, _<_, _^_, min}
+use Prim.Native.Nat.{ℕ, zero, suc, _+_, _-_, _/_, _≤_, _<_, min}
 use mathlib.Core.Path.{_≡_, refl, sym, ap, ap₂, subst, _∙_}
-use mathlib.Core.Bool.{Bool, true, false, _&&_}
+use mathlib.Core.Bool.{Bool, true, false}
 use mathlib.Core.List.{List, [], _∷_, _++_, map, append-assoc, append-nil}
 use native.Mathlib.Omega.{arith}
-use native.Mathlib.Numerals.{add-one}
-use borrow.Author.Tests.{le-leb, lt-leb, leb-true, ltb-true, ltb-false, eq-eqb, eqb-true}
+use borrow.Author.Tests.{le-leb, lt-leb, leb-true, eq-eqb, eqb-true}
 use lib.Dec.{leb, eqb}
-use lib.IntN.{ℤ, pos, negsuc, natAbs}
-use lib.Signed.{ltZ, leZ, mag}
-use lib.ListN.{length, take, drop, getD, replicate, drop-of-length-le, length-append, length-take, take-append-drop}
-use lib.Seq.{drop-cons, drop-drop, length-take-le}
-use mir.Syntax.{w32}
-use mir.Val.{SFits, ofZ, toZ}
-use mir.Facts.{toZ-ofZ}
-use Rattle.whole.specs.Row.{_!_⨾_}
+use lib.IntN.{ℤ, pos, natAbs}
+use lib.ListN.{length, take, drop, getD, replicate, length-append, length-take, take-append-drop}
+use lib.Seq.{drop-drop, length-take-le}
 use Rattle.whole.specs.Among.{among, Among}
 use Rattle.whole.specs.laws.Among.{numbers}
-use Rattle.whole.specs.laws.Test.{test-l}
-use Rattle.whole.specs.laws.Row.{held, passes, fails, stops, goes-on}
+use Rattle.whole.specs.laws.Row.{held, passes, fails, stops, goes-on, both}
 use Rattle.wire.specs.Le.{patch}
 use Rattle.wire.specs.laws.Le.{patch-front}
 use Rattle.wire.specs.Mode.{isMode}
 use Rattle.wire.specs.Wrote.{Wrote}
-use Rattle.wire.specs.laws.Wrote.{refused, done}
-use Rattle.wire.specs.declared.Writing.the-variants.{Done, Refused}
+use Rattle.wire.specs.laws.Wrote.{done}
+use Rattle.wire.specs.declared.Writing.the-variants.{Done}
 use Rattle.bits.specs.Bits.{bitsOf, numBits}
 use Rattle.bits.specs.Bytes.{Written}
 use Rattle.bits.specs.laws.Bytes.{Bytes, written-once}
@@ -61,52 +54,6 @@ module _ (mode : ℕ) (zs : List ℤ) where
   bytes-only s h w = packed-once s (code mode zs) h w
 
 -- ---- the range
-
--- a number's test, as the code has it
-pub near-low : (x : ℤ) → SFits w32 x → ltZ (toZ w32 (ofZ w32 x)) (negsuc 32766) ≡ true → false ≡ leb (natAbs x) 32767
-near-low x f h = go x (test-l (negsuc 32766) true f h)
-  where
-    go : (x : ℤ) → ltZ x (negsuc 32766) ≡ true → false ≡ leb (natAbs x) 32767
-    go (pos n) e = let z : _≡_ {A = ℕ} 0 1 = cc in absurd (omega arith)
-    go (negsuc n) e = sym (lt-leb (suc n) 32767 (omega (arith, ltb-true 32766 n e)))
-
-pub near-high : (x : ℤ) → SFits w32 x → ltZ (toZ w32 (ofZ w32 x)) (negsuc 32766) ≡ false → leZ (toZ w32 (ofZ w32 x)) (pos 32767) ≡ leb (natAbs x) 32767
-near-high x f h = ap (λ (z : ℤ). leZ z (pos 32767)) (toZ-ofZ f) ∙ go x (test-l (negsuc 32766) false f h)
-  where
-    go : (x : ℤ) → ltZ x (negsuc 32766) ≡ false → leZ x (pos 32767) ≡ leb (natAbs x) 32767
-    go (pos n) e = refl
-    go (negsuc n) e = sym (le-leb (suc n) 32767 (omega (arith, ltb-false 32766 n e)))
-
--- the test of a number that was read from a list
-pub near-read : (z : ℤ) (r b : Bool) → mag z < 2 ^ 31 → r ≡ leb (natAbs (toZ w32 (ofZ w32 z))) 32767 → r ≡ b → leb (natAbs z) 32767 ≡ b
-near-read z r b f e h =
-    let fits : SFits w32 z = record { sfits = f } in
-    sym (e ∙ ap (λ (x : ℤ). leb (natAbs x) 32767) (toZ-ofZ fits)) ∙ h
-
-and-row : (a : Bool) (r : Bool) → (a ! false ⨾ r) ≡ (a && r)
-unfolding _!_⨾_
-and-row true r = refl
-and-row false r = refl
-
-and-three : (a b c : Bool) → (a && (b && c)) ≡ ((a && b) && c)
-and-three true b c = refl
-and-three false b c = refl
-
-and-true : (a : Bool) → a ≡ (a && true)
-and-true true = refl
-and-true false = refl
-
--- one number more, and none
-pub range-next : (zs : List ℤ) (i : ℕ) (good n : Bool) → i < length zs → leb (natAbs (getD zs i (pos 0))) 32767 ≡ n →
-    (good && allInRange (drop i zs)) ≡ ((good && n) && allInRange (drop (i + 1) zs))
-unfolding allInRange
-range-next zs i good n h e =
-    rw (drop-cons zs i (pos 0) h, add-one i)
-    (ap (λ (b : Bool). good && b) (and-row _ _ ∙ ap (λ (b : Bool). b && allInRange (drop (suc i) zs)) e) ∙ and-three good n _)
-
-pub range-past : (zs : List ℤ) (i : ℕ) (good : Bool) → length zs ≤ i → good ≡ (good && allInRange (drop i zs))
-unfolding allInRange
-range-past zs i good h = rw (drop-of-length-le zs h) (and-true good)
 
 true-false : (true ≡ false → ⊥)
 true-false e = let z : _≡_ {A = ℕ} 0 1 = cc in omega arith
@@ -249,36 +196,55 @@ pub write-among : (mode : ℕ) (zs : List ℤ) (room : ℕ) → Among (0 ∷ 5 �
 unfolding writeFault askFault codeFault among
 write-among mode zs room = search numbers depth 9
 
--- ---- one law for each answer of the call
+-- ---- one law for each way out of the judging
 
-module _ (mode : ℕ) (zs : List ℤ) (out : List ℕ) where
-  pub write-call : (x : ℕ) → x ≡ askFault mode (length zs) → (x ≡ 0 → ⊥) → Wrote (writeFault mode zs (length out)) (bytesOf mode zs) out out (Refused x)
+module _ (mode : ℕ) (zs : List ℤ) (room : ℕ) where
+  pub judge-call : (x : ℕ) → x ≡ askFault mode (length zs) → (x ≡ 0 → ⊥) → x ≡ writeFault mode zs room
   unfolding writeFault
-  write-call x e h = refused _ x _ out (stops _ _ _ (λ z. h (e ∙ z)) e) h
+  judge-call x e h = stops _ _ _ (λ z. h (e ∙ z)) e
 
-  module _ (x : ℕ) (c : x ≡ askFault mode (length zs)) (z : x ≡ 0) (s : Sized) (q : s ≡ sizedOf (codeFault mode zs) (length (bytesOf mode zs))) where
-    m : Measures (codeFault mode zs) (length (bytesOf mode zs)) s
-    m = sized-measures (codeFault mode zs) (length (bytesOf mode zs)) s q
-
-    pub write-component : (s .number ≡ 0 → ⊥) → Wrote (writeFault mode zs (length out)) (bytesOf mode zs) out out (Refused (s .number))
+  module _ (x : ℕ) (c : x ≡ askFault mode (length zs)) (z : x ≡ 0) where
+    -- a component without a fault that has room
+    pub judge-fine : Fine mode zs → length (bytesOf mode zs) ≤ room → 0 ≡ writeFault mode zs room
     unfolding writeFault
-    write-component h = refused _ (s .number) _ out (goes-on _ _ _ (sym c ∙ z) (stops _ _ _ (λ y. h (m .number ∙ y)) (m .number))) h
+    judge-fine f l =
+        goes-on _ _ _ (sym c ∙ z)
+        (goes-on _ _ _ (sym (is-fine mode zs f)) (passes _ _ _ _ (le-leb (length (bytesOf mode zs)) room l) refl))
 
-    pub write-room : s .number ≡ 0 → length out < s .size → Wrote (writeFault mode zs (length out)) (bytesOf mode zs) out out (Refused 13)
-    unfolding writeFault
-    write-room h l =
-        let k = m .size h in
-        refused _ 13 _ out
-        (goes-on _ _ _ (sym c ∙ z)
-        (goes-on _ _ _ (sym (m .number) ∙ h) (fails _ _ _ _ (lt-leb (length (bytesOf mode zs)) (length out) (omega arith)) refl))) (λ y. omega arith)
+    module _ (s : Sized) (q : s ≡ sizedOf (codeFault mode zs) (length (bytesOf mode zs))) where
+      m : Measures (codeFault mode zs) (length (bytesOf mode zs)) s
+      m = sized-measures (codeFault mode zs) (length (bytesOf mode zs)) s q
 
-    pub write-done :
-        s .number ≡ 0 → s .size ≤ length out → (out′ : List ℕ) (k : ℕ) → out′ ≡ patch out 0 (bytesOf mode zs) → k ≡ 0 + length (bytesOf mode zs) →
-        Wrote (writeFault mode zs (length out)) (bytesOf mode zs) out out′ (Done k)
-    unfolding writeFault
-    write-done h l out′ k p e =
-        let n = m .size h in
-        done _ k _ out out′
-        (goes-on _ _ _ (sym c ∙ z)
-        (goes-on _ _ _ (sym (m .number) ∙ h) (passes _ _ _ _ (le-leb (length (bytesOf mode zs)) (length out) (omega arith)) refl))) (e ∙ omega arith)
-        (p ∙ patch-front out (bytesOf mode zs))
+      pub judge-component : (s .number ≡ 0 → ⊥) → s .number ≡ writeFault mode zs room
+      unfolding writeFault
+      judge-component h = goes-on _ _ _ (sym c ∙ z) (stops _ _ _ (λ y. h (m .number ∙ y)) (m .number))
+
+      pub judge-room : s .number ≡ 0 → room < s .size → 13 ≡ writeFault mode zs room
+      unfolding writeFault
+      judge-room h l =
+          let k = m .size h in
+          goes-on _ _ _ (sym c ∙ z)
+          (goes-on _ _ _ (sym (m .number) ∙ h) (fails _ _ _ _ (lt-leb (length (bytesOf mode zs)) room (omega arith)) refl))
+
+      pub judge-done : s .number ≡ 0 → s .size ≤ room → 0 ≡ writeFault mode zs room
+      judge-done h l = let k = m .size h in judge-fine (fine mode zs (sym h ∙ m .number)) (omega arith)
+
+-- ---- what no fault means, and the written bytes
+
+pub record Clear (mode : ℕ) (zs : List ℤ) (room : ℕ) : Type 0 where
+  pub asked : Called mode (length zs)
+  pub fine : Fine mode zs
+  pub fits : length (bytesOf mode zs) ≤ room
+
+pub clear : (mode : ℕ) (zs : List ℤ) (room : ℕ) → 0 ≡ writeFault mode zs room → Clear mode zs room
+unfolding writeFault
+clear mode zs room e =
+    let a = both (askFault mode (length zs)) _ e in
+    let b = both (codeFault mode zs) _ (a .1) in
+    let r = held (leb (length (bytesOf mode zs)) room) 13 0 0 (λ z. omega arith) (b .1) in
+    record { asked = called mode (length zs) (a .0); fine = fine mode zs (b .0); fits = leb-true (length (bytesOf mode zs)) room (r .0) }
+
+pub write-done :
+    (mode : ℕ) (zs : List ℤ) (out out′ : List ℕ) (k : ℕ) → 0 ≡ writeFault mode zs (length out) → out′ ≡ patch out 0 (bytesOf mode zs) →
+    k ≡ 0 + length (bytesOf mode zs) → Wrote (writeFault mode zs (length out)) (bytesOf mode zs) out out′ (Done k)
+write-done mode zs out out′ k f p e = done _ k _ out out′ f (e ∙ omega arith) (p ∙ patch-front out (bytesOf mode zs))
