@@ -75,10 +75,12 @@ const KINDS: [&str; 4] = ["flat", "sparse", "dense", "text"];
 
 fn components() -> Vec<Component> {
     let mut seed = screens::Seed(0x9e3779b97f4a7c15);
+    let mut out = vec![0; 65536];
     let make = |c: usize| {
         let (kind, mode) = (c % 4, if c / 4 % 2 == 0 { 1 } else { 4 });
         let list = screens::component(kind, &mut seed);
-        Component { mode, kind, code: plain::write_component(mode, &list), list }
+        let size = plain::write_component(mode, &list, &mut out);
+        Component { mode, kind, code: out[..size].to_vec(), list }
     };
     (0..1000).map(make).collect()
 }
@@ -106,8 +108,12 @@ fn frames() -> Vec<Frame> {
 fn compare(cs: &[Component], fs: &[Frame]) {
     let (mut a, mut b, mut out) = (vec![7; PLACES], vec![9; PLACES], vec![0u8; 65536]);
     for c in cs {
-        let (number, size) = write_component(c.mode, &c.list, &mut out);
-        assert!(number == 0 && out[..size] == c.code, "codes differ");
+        for room in [c.code.len(), 65535] {
+            out.fill(5);
+            let (number, size) = write_component(c.mode, &c.list, &mut out[..room]);
+            assert!(number == 0 && out[..size] == c.code && out[size..].iter().all(|&b| b == 5), "codes differ");
+        }
+        assert!(write_component(c.mode, &c.list, &mut out[..c.code.len() - 1]) == (13, 0), "refusals differ");
         assert!(plain::read_component(c.mode, &c.code, &mut a).0 == 0 && a == c.list, "plain Rust does not read its own code");
         for code in [&c.code[..], &c.code[..c.code.len() / 2], &[&c.code[..], &[0]].concat()] {
             for mode in [1, 4] {
@@ -189,10 +195,13 @@ fn cases<'a>(cs: &'a [Component], fs: &'a [Frame]) -> Vec<Case<'a>> {
             reading(format!("read 125 components, {}, RLGR{}", KINDS[kind], if mode == 1 { 1 } else { 3 }), cs.iter().filter(|c| c.mode == mode && c.kind == kind).collect());
         }
     }
-    let mut out = vec![0u8; 65536];
+    let room = || vec![0u8; 65536];
+    let (mut a, mut b, mut d) = (room(), room(), room());
     all.push(("write 1,000 components".into(), vec![
-        ("plain", Box::new(move || for c in cs { black_box(plain::write_component(c.mode, &c.list)); })),
-        ("rattle", Box::new(move || for c in cs { black_box(write_component(c.mode, &c.list, black_box(&mut out))); })),
+        ("plain", Box::new(move || for c in cs { black_box(plain::write_component(c.mode, &c.list, black_box(&mut a))); })),
+        ("rattle", Box::new(move || for c in cs { black_box(write_component(c.mode, &c.list, black_box(&mut b))); })),
+        // no byte of room more than the code has: it is measured first
+        ("measured", Box::new(move || for c in cs { black_box(write_component(c.mode, &c.list, black_box(&mut d[..c.code.len()]))); })),
     ]));
     for f in fs {
         let size = Size { width: WIDTH, height: HEIGHT, mode: f.mode };
@@ -305,7 +314,7 @@ marks!(mark_00 0, mark_01 1, mark_02 2, mark_03 3, mark_04 4, mark_05 5, mark_06
     mark_12 12, mark_13 13, mark_14 14, mark_15 15, mark_16 16, mark_17 17, mark_18 18, mark_19 19, mark_20 20, mark_21 21, mark_22 22,
     mark_23 23, mark_24 24, mark_25 25, mark_26 26, mark_27 27, mark_28 28, mark_29 29, mark_30 30, mark_31 31, mark_32 32, mark_33 33,
     mark_34 34, mark_35 35, mark_36 36, mark_37 37, mark_38 38, mark_39 39, mark_40 40, mark_41 41, mark_42 42, mark_43 43, mark_44 44,
-    mark_45 45, mark_46 46, mark_47 47, mark_48 48, mark_49 49, mark_50 50, mark_51 51, mark_52 52, mark_53 53, mark_54 54, mark_55 55);
+    mark_45 45, mark_46 46, mark_47 47, mark_48 48, mark_49 49, mark_50 50, mark_51 51, mark_52 52, mark_53 53, mark_54 54, mark_55 55, mark_56 56);
 
 fn count(all: &mut [Case]) {
     let mut k = 0;

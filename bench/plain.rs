@@ -1,5 +1,5 @@
 // A plain Rust decoder and encoder of the same work, for the benchmark only: written from document 01 as one would write it in
-// Rust, with a bit reader on a u64, slices of i32, no unsafe, no heap but in `read_frame_shadow` and `write_component`. Nothing of it is proved or taken from the crates.
+// Rust, with a bit reader on a u64, slices of i32, no unsafe, no heap but in `read_frame_shadow`. Nothing of it is proved or taken from the crates.
 // Document 01's odd step of the wavelet is the sample's (docs/DECISIONS.md, 1).
 
 pub const TILE: usize = 64;
@@ -231,20 +231,22 @@ trait Sink {
     fn golomb(&mut self, kr: u32, g: u32);
 }
 
-/// Bytes behind one another.
-struct Pen {
-    out: Vec<u8>,
+/// Bytes in a lent list, from a place on.
+struct Slot<'a> {
+    out: &'a mut [u8],
+    at: usize,
     acc: u64,
     n: u32,
 }
 
-impl Sink for Pen {
+impl Sink for Slot<'_> {
     fn put(&mut self, n: u32, v: u32) {
         self.acc = self.acc << n | u64::from(v);
         self.n += n;
-        while self.n >= 8 {
-            self.n -= 8;
-            self.out.push((self.acc >> self.n) as u8);
+        if self.n >= 32 {
+            self.n -= 32;
+            self.out[self.at..self.at + 4].copy_from_slice(&((self.acc >> self.n) as u32).to_be_bytes());
+            self.at += 4;
         }
     }
 
@@ -254,8 +256,23 @@ impl Sink for Pen {
             self.put(20, (1 << 20) - 1);
             ones -= 20;
         }
-        // the last ones, the zero and the low bits at once: at most 31 bits
         self.put(ones + 1 + kr, ((1 << ones) - 1) << (kr + 1) | g & ((1 << kr) - 1));
+    }
+}
+
+impl Slot<'_> {
+    /// What still waits, filled up with zeros; the place past it.
+    fn end(mut self) -> usize {
+        while self.n >= 8 {
+            self.n -= 8;
+            self.out[self.at] = (self.acc >> self.n) as u8;
+            self.at += 1;
+        }
+        if self.n > 0 {
+            self.out[self.at] = (self.acc << (8 - self.n)) as u8;
+            self.at += 1;
+        }
+        self.at
     }
 }
 
@@ -291,9 +308,7 @@ fn code(mode: u8, list: &[i32], p: &mut impl Sink) {
                 continue;
             }
             let x = list[i + zeros];
-            p.put(1, 1);
-            p.put(k, zeros as u32);
-            p.put(1, u32::from(x < 0));
+            p.put(k + 2, (1 << k | zeros as u32) << 1 | u32::from(x < 0));
             a.put(p, x.unsigned_abs() - 1);
             i += zeros + 1;
             a.down(6);
@@ -322,12 +337,11 @@ fn code(mode: u8, list: &[i32], p: &mut impl Sink) {
     }
 }
 
-pub fn write_component(mode: u8, list: &[i32]) -> Vec<u8> {
-    let mut p = Pen { out: Vec::new(), acc: 0, n: 0 };
-    code(mode, list, &mut p);
-    let spare = (8 - p.n) % 8;
-    p.put(spare, 0);
-    p.out
+/// The code in a lent list, which has room for it: how many bytes it has. Nothing is judged.
+pub fn write_component(mode: u8, list: &[i32], out: &mut [u8]) -> usize {
+    let mut slot = Slot { out, at: 0, acc: 0, n: 0 };
+    code(mode, list, &mut slot);
+    slot.end()
 }
 
 // ---- bands
@@ -687,51 +701,6 @@ impl Sink for Count {
 
     fn golomb(&mut self, kr: u32, g: u32) {
         self.0 += ((g >> kr) + 1 + kr) as usize;
-    }
-}
-
-/// Bytes in a lent list, from a place on.
-struct Slot<'a> {
-    out: &'a mut [u8],
-    at: usize,
-    acc: u64,
-    n: u32,
-}
-
-impl Sink for Slot<'_> {
-    fn put(&mut self, n: u32, v: u32) {
-        self.acc = self.acc << n | u64::from(v);
-        self.n += n;
-        if self.n >= 32 {
-            self.n -= 32;
-            self.out[self.at..self.at + 4].copy_from_slice(&((self.acc >> self.n) as u32).to_be_bytes());
-            self.at += 4;
-        }
-    }
-
-    fn golomb(&mut self, kr: u32, g: u32) {
-        let mut ones = g >> kr;
-        while ones > 20 {
-            self.put(20, (1 << 20) - 1);
-            ones -= 20;
-        }
-        self.put(ones + 1 + kr, ((1 << ones) - 1) << (kr + 1) | g & ((1 << kr) - 1));
-    }
-}
-
-impl Slot<'_> {
-    /// What still waits, filled up with zeros; the place past it.
-    fn end(mut self) -> usize {
-        while self.n >= 8 {
-            self.n -= 8;
-            self.out[self.at] = (self.acc >> self.n) as u8;
-            self.at += 1;
-        }
-        if self.n > 0 {
-            self.out[self.at] = (self.acc << (8 - self.n)) as u8;
-            self.at += 1;
-        }
-        self.at
     }
 }
 

@@ -3,7 +3,7 @@
  *
  * A real peer beside us: FreeRDP reads what our writer makes, and our reader reads what FreeRDP makes (tidied); pictures are compared, pixel by pixel, in
  * 5-6-5. compare.c says what is compared and what fails. --quick leaves out the size of 1,024 x 768. --times compares nothing, and times both sides (times.c),
- * best of N rounds (31). Under an emulator a time says nothing, so there none is printed: XURBALENZ_HOST, set by peer/run, is what `uname -m` says outside.
+ * best of N rounds (31). Under an emulator a time says nothing, so there none is printed: XURBALENZ_EMULATED, set by peer/run, says `yes` there, and nothing elsewhere.
  * --count does once what --times does, between marks, for peer/run to count instructions.
  *
  * Status: 0 if nothing failed, 1 if something did, 2 where the call is wrong.
@@ -31,10 +31,10 @@ void make_room(Stream *s)
 /* Whether the processor outside is one that runs this program itself. */
 static int native(void)
 {
-    const char *host = getenv("XURBALENZ_HOST");
-    if (host && strcmp(host, "x86_64") == 0) return 1;
-    printf("peer: no times: %s\n", host ? "the program is emulated on this machine, and emulated times say nothing; they are to be taken on an x86-64 machine"
-                                        : "XURBALENZ_HOST does not say what machine this is; peer/run sets it");
+    const char *emulated = getenv("XURBALENZ_EMULATED");
+    if (emulated && !*emulated) return 1;
+    printf("peer: no times: %s\n", emulated ? "the program is emulated on this machine, and emulated times say nothing"
+                                            : "XURBALENZ_EMULATED does not say whether this program is emulated; peer/run sets it");
     return 0;
 }
 
