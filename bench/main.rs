@@ -196,11 +196,12 @@ fn cases<'a>(cs: &'a [Component], fs: &'a [Frame]) -> Vec<Case<'a>> {
         }
     }
     let room = || vec![0u8; 65536];
-    let (mut a, mut b, mut d) = (room(), room(), room());
+    let (mut a, mut b, mut d, mut e) = (room(), room(), room(), room());
     all.push(("write 1,000 components".into(), vec![
         ("plain", Box::new(move || for c in cs { black_box(plain::write_component(c.mode, &c.list, black_box(&mut a))); })),
         ("rattle", Box::new(move || for c in cs { black_box(write_component(c.mode, &c.list, black_box(&mut b))); })),
-        // no byte of room more than the code has: it is measured first
+        // no byte of room more than the code has, and a refusal leaves the output untouched: it is measured first
+        ("plain-measured", Box::new(move || for c in cs { black_box(plain::write_component_within(c.mode, &c.list, black_box(&mut e[..c.code.len()]))); })),
         ("measured", Box::new(move || for c in cs { black_box(write_component(c.mode, &c.list, black_box(&mut d[..c.code.len()]))); })),
     ]));
     for f in fs {
@@ -314,7 +315,7 @@ marks!(mark_00 0, mark_01 1, mark_02 2, mark_03 3, mark_04 4, mark_05 5, mark_06
     mark_12 12, mark_13 13, mark_14 14, mark_15 15, mark_16 16, mark_17 17, mark_18 18, mark_19 19, mark_20 20, mark_21 21, mark_22 22,
     mark_23 23, mark_24 24, mark_25 25, mark_26 26, mark_27 27, mark_28 28, mark_29 29, mark_30 30, mark_31 31, mark_32 32, mark_33 33,
     mark_34 34, mark_35 35, mark_36 36, mark_37 37, mark_38 38, mark_39 39, mark_40 40, mark_41 41, mark_42 42, mark_43 43, mark_44 44,
-    mark_45 45, mark_46 46, mark_47 47, mark_48 48, mark_49 49, mark_50 50, mark_51 51, mark_52 52, mark_53 53, mark_54 54, mark_55 55, mark_56 56);
+    mark_45 45, mark_46 46, mark_47 47, mark_48 48, mark_49 49, mark_50 50, mark_51 51, mark_52 52, mark_53 53, mark_54 54, mark_55 55, mark_56 56, mark_57 57);
 
 fn count(all: &mut [Case]) {
     let mut k = 0;

@@ -344,6 +344,16 @@ pub fn write_component(mode: u8, list: &[i32], out: &mut [u8]) -> usize {
     slot.end()
 }
 
+/// The same, but measured first: nothing is written where it has no room.
+pub fn write_component_within(mode: u8, list: &[i32], out: &mut [u8]) -> Result<usize, u8> {
+    let mut bits = Count(0);
+    code(mode, list, &mut bits);
+    if out.len() < (bits.0 + 7) / 8 {
+        return Err(ROOM);
+    }
+    Ok(write_component(mode, list, out))
+}
+
 // ---- bands
 
 /// Where each band ends, and where in the set its quantiser stands.
