@@ -209,8 +209,8 @@ fn run(s: &[u8], c: State, left: usize) -> Element
     judged(s, next, 32766 < g, left <= z, Element::One(z, v, t))
 }
 
-// "always k = floor(kp/8)". (Public for the filter in front of the panel, `tidy_code`.)
-pub fn element(s: &[u8], rlgr3: bool, c: State, left: usize) -> Element
+// "always k = floor(kp/8)"
+fn element(s: &[u8], rlgr3: bool, c: State, left: usize) -> Element
     requires { ⌜ (length (now s) ≤ 65535) × (c .at ≤ 524280) × (c .kp ≤ 80) × (c .krp ≤ 80) ⌝ }
     ensures { λ r. ⌜ r ≡ elemOf rlgr3 (c .kp) (c .krp) left (c .at) (bitsOf (now (s .entry))) ⌝ }
 {

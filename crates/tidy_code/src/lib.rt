@@ -1,7 +1,6 @@
 // Two habits of other encoders' component codes, mended in front of the panel: bits behind a code that is complete, and a last pair whose second value has no
 // place. A component whose bytes mean a list by this reading is written as document 01's own code of that list; any other is kept byte for byte
-// (specs/Loose; specs/Request says what this makes true). Elements are read by the plain decoder's function: the reader's own has one caller, and is compiled
-// into its loop, where a second caller would cost every frame.
+// (specs/Loose; specs/Request says what this makes true). Elements are read by `element`, the filter's own.
 ghost use mathlib.Core.Path.{_≡_};
 ghost use Prim.Native.Nat.{_+_, _≤_, _<_, min};
 ghost use lib.ListN.{length, replicate, set};
@@ -12,6 +11,8 @@ ghost use Rattle.code.specs.Fold.{unfoldZ};
 ghost use Rattle.tidy_code.specs.Loose.{placesFor, looseList, meantEnd, tidyCode, Answers, LooselyRead};
 use code::element::Element;
 use code::element::State;
+
+mod element;
 
 // How many places the next element is given: a pair has two, also where one is left.
 fn places(kp: usize, left: usize) -> usize
@@ -57,7 +58,7 @@ fn fill(s: &[u8], rlgr3: bool, list: &mut [i32]) -> bool
     let mut i: usize = 0;
     while i < n {
         let kp = c.kp;
-        match plain_code::element(s, rlgr3, c, places(kp, n - i)) {
+        match element::read_element(s, rlgr3, c, places(kp, n - i)) {
             Element::Refused(r) => {
                 return false;
             }

@@ -5,7 +5,6 @@ use mathlib.Core.Path.{_≡_, refl}
 use native.Mathlib.Omega.{arith}
 use lib.ListN.{length}
 use Rattle.bits.specs.Bits.{bitsOf}
-use Rattle.bits.specs.laws.Bit.{length-bitsOf}
 use Rattle.tidy_code.specs.laws.Fill.{Filling, Met, met, filling-start, filling-length, filling-end, filling-bad, end-inside}
 use borrow.Author.Needs.{needs}
 use Rattle.tidy_code.proofs.fill.Statement.{statement}
@@ -22,23 +21,22 @@ loop-holds c =
     let a = c .before .args in
     filling-start (a .rlgr3) (length (a .list .now)) (bitsOf (a .s .now)) (a .list .now) refl (c .before .pre .2)
 
-element-requires : tie.Need-element-requires Inv-loop μ-loop
-element-requires c κs =
+read-element-requires : tie.Need-read-element-requires Inv-loop μ-loop
+read-element-requires c κs =
     let l = c .before .before .loop in
-    let s = c .before .before .before .before in
-    (s .pre .0, omega (arith, s .pre .0, l .inv .inside, length-bitsOf (s .args .s .now)), l .inv .kps, l .inv .krs)
+    (c .before .before .before .before .pre .0, l .inv .kps, l .inv .krs)
 
 -- the element that was read
 told :
-    (r : tie.After-element Inv-loop μ-loop) →
+    (r : tie.After-read-element Inv-loop μ-loop) →
     let l = r .before .before .before .loop in
     let a = r .before .before .before .before .before .args in
-    Met (a .rlgr3) (length (a .list .now)) (bitsOf (a .s .now)) (l .list) (l .c) (l .i) (r .element .result)
+    Met (a .rlgr3) (length (a .list .now)) (bitsOf (a .s .now)) (l .list) (l .c) (l .i) (r .read-element .result)
 told r =
     let l = r .before .before .before .loop in
     let a = r .before .before .before .before .before .args in
     met (a .rlgr3) (length (a .list .now)) (bitsOf (a .s .now)) (l .list) (l .c) (l .i) (l .inv) (r .before .before .loop-test .taken)
-    (r .before .places .result) (r .element .result) (r .before .places .ensures) (r .element .ensures)
+    (r .before .places .result) (r .read-element .result) (r .before .places .ensures) (r .read-element .ensures)
 
 -- the list has kept its length
 kept : (l : tie.At-loop Inv-loop μ-loop) → let a = l .before .before .args in length (l .loop .list) ≡ length (a .list .now)
@@ -152,6 +150,6 @@ returns-2 c =
 pub fill-spec : {M : Type 1} → statement M
 fill-spec =
     tie.close
-    (tie.spec Inv-loop μ-loop loop-holds (λ c. search needs) (λ c κs. search needs) element-requires (λ c. search needs) same-length returns
+    (tie.spec Inv-loop μ-loop loop-holds (λ c. search needs) (λ c κs. search needs) read-element-requires (λ c. search needs) same-length returns
     (λ c. search needs) (λ c κs. search needs) loop-less loop-again (λ c. search needs) add-store store-requires add-i add-i-2 loop-less-2 loop-again-2
     (λ c. search needs) store-requires-2 add-store-2 store-requires-3 past-requires-2 loop-less-3 loop-again-3 mul-result sub-result same-length-2 returns-2)
