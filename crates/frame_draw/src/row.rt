@@ -1,6 +1,6 @@
 // Drawing, the sentence of document 01's "Blocks" on which words of the picture are changed, with document 02's request Three on a
-// region with no rectangles. A pixel row of a tile goes over the rectangles once: what each holds of the row is
-// noted; then (`paint`, `paint_32`) each word is stored once, where tile, channel and rectangle agree. No picture is carried here.
+// region with no rectangles. A pixel row of a tile goes over the rectangles once: what each holds of the row is noted, up to the first
+// that holds all of it; then (`paint`, `paint_32`) each word is stored once, where tile, channel and rectangle agree. No picture is carried here.
 ghost use mathlib.Core.Path.{_≡_};
 ghost use Prim.Native.Nat.{ℕ, _+_, _*_, _-_, _≤_, _<_, min, max};
 ghost use lib.ListN.{length, replicate};
@@ -105,9 +105,9 @@ fn row_first(rects: &[u8], clips: &[i32], n: usize, w: usize, tx: usize, py: usi
     n
 }
 
-// What the rectangles hold of a tile's pixel row, noted, in notes that have none yet; says whether it has a word that is drawn. They are noted from the
-// first that has a word of it on, and to the last: to ask at each whether the row is full costs more than it saves. A region with none is one rectangle over
-// the whole channel.
+// What the rectangles hold of a tile's pixel row, noted, in notes that have none yet; says whether it has a word that is drawn. From the first
+// rectangle that has a word of it on, they are left at the first that holds all of the row that lies in the channel; a region with none is
+// one rectangle over the whole channel.
 pub fn note_row(rects: &[u8], clips: &[i32], s: Strip, ends: &mut [u8]) -> bool
     requires { ⌜ (s .tx < 65536) × Clips (now rects) (s .n) (s .w) (s .tx) (now clips) × (now ends ≡ replicate 64 0) ⌝ }
     ensures { λ r. ⌜ RowNoted (now (rects .entry)) (s .n) (s .w) (s .tx) (s .py) (now (ends .exit)) r ⌝ }
@@ -116,8 +116,8 @@ pub fn note_row(rects: &[u8], clips: &[i32], s: Strip, ends: &mut [u8]) -> bool
     let tx = s.tx;
     let py = s.py;
     let n = s.n;
+    let part = crate::clip::part_of(w, tx);
     if n == 0 {
-        let part = crate::clip::part_of(w, tx);
         note(crate::clip::Span { from: 0, to: part }, ends);
         return true;
     }
@@ -126,8 +126,12 @@ pub fn note_row(rects: &[u8], clips: &[i32], s: Strip, ends: &mut [u8]) -> bool
         return false;
     }
     let mut k = first;
-    while k < n {
-        note(crate::clip::clip_span(clips, py, k), ends);
+    'rectangles: while k < n {
+        let p = crate::clip::clip_span(clips, py, k);
+        note(p, ends);
+        if wide(ends[0]) == part {
+            break 'rectangles;
+        }
         k += 1;
     }
     true

@@ -193,6 +193,24 @@ module _ (rects : List ℕ) (w tx py : ℕ) where
   pub noted-all : (n k : ℕ) (ends : List ℕ) → k ≤ n → n ≤ k → Noted rects k w tx py ends → Noted rects n w tx py ends
   noted-all n k ends l m g = let e : k ≡ n = omega arith in subst (λ (z : ℕ). Noted rects z w tx py ends) e g
 
+  -- the first that holds the whole part: the others add nothing
+  pub noted-whole : (n k : ℕ) (ends : List ℕ) → k ≤ n → Noted rects k w tx py ends → getD ends 0 0 ≡ partOf w tx → Noted rects n w tx py ends
+  unfolding spanned rowTo
+  noted-whole n k ends l g e =
+      record {
+        fit = g .fit;
+        words = λ x m.
+            same _ _
+            (λ q.
+            let a = held (ltb (64 * tx + x) w) false _ true true≢false (sym q ∙ g .words x m) in
+            sym (passes _ _ _ _ (a .0) (sym (some-wider _ k n 0 (sym (a .1)) l))))
+            (λ q.
+            let a = held (ltb (64 * tx + x) w) false _ true true≢false (sym q) in
+            let b = ltb-true x (partOf w tx) (sym (in-part w tx x m) ∙ a .0) in
+            let c = far-least ends 0 (x + 1) (omega arith) in
+            lt-ltb x (far ends (x + 1)) (omega arith));
+      }
+
   -- the notes of a row, by the three ways that they are made: some rectangle has a word of it ..
   pub row-noted : (n : ℕ) (ends : List ℕ) → 0 < n → Noted rects n w tx py ends → RowNoted rects n w tx py ends true
   unfolding rowTo rowOn
