@@ -3,11 +3,14 @@
 -- (01 is this project's scope document, 02 its change requests, 001 is MS-RDPRFX: README, "What 01 is".)
 use Prim.Native.Nat.{ℕ, _+_, _<_, _≤_}
 use mathlib.Core.Path.{_≡_}
-use mathlib.Core.Bool.{true}
+use mathlib.Core.Bool.{true, false}
 use mathlib.Core.List.{List, [], _∷_, _++_, map}
+use lib.Dec.{eqb}
 use lib.ListN.{length}
 use Rattle.bits.specs.laws.Bytes.{Bytes}
-use Rattle.session.specs.Header.{ready}
+use Rattle.whole.specs.Row.{_!_⨾_}
+use Rattle.wire.specs.Le.{le16}
+use Rattle.session.specs.Header.{ready, headerFault}
 use Rattle.session.specs.declared.Session.{Session}
 use Rattle.frame_layout.specs.Reader.{frameFault, frameTiles, rectCount, setAt, setPlace, quantCount}
 use Rattle.frame_blocks.specs.Blocks.{rectsOf}
@@ -59,7 +62,9 @@ total [] = 0
 total (b ∷ bs) = length b + total bs
 
 pub record TidyHeaders : Type 1 where
-  -- "Headers put into 01's order": a sync, then the three in any order, go on as sync, versions, channels, context
+  -- the syncs that open the wait are those that the panel takes, whatever its record is: by their type, and with no fault in them
+  pub sync-good : (s : Session) (b : List ℕ) → isSync b ≡ (eqb (le16 b 0) 0xCCC0 ! false ⨾ eqb (headerFault s b) 0)
+  -- "Headers put into 01's order": a good sync, then the three in any order, go on as sync, versions, channels, context
   pub ordered :
       (s v c x store : List ℕ) → length store ≡ 35 → isSync s ≡ true → kindOf v ≡ 1 → kindOf c ≡ 2 → kindOf x ≡ 3 →
       EachOf (λ (bs : List (List ℕ)). allOn none store (s ∷ bs) ≡ s ++ (v ++ (c ++ x))) (ordersOf v c x)

@@ -22,6 +22,7 @@ use Rattle.tidy.specs.Put.{Laid}
 use Rattle.tidy.specs.Headers.{kindOf, isSync, allOn, none}
 use Rattle.tidy.specs.laws.Layout.{tilesBy, parts-by, parts-good, laid, anyCode, front-alone}
 use Rattle.tidy.specs.laws.Mended.{Again, again}
+use Rattle.tidy.specs.laws.Sync.{sync-good}
 use Rattle.tidy.specs.laws.Order.{on-vcx, on-vxc, on-cvx, on-cxv, on-xvc, on-xcv}
 use Rattle.tidy.specs.laws.Lost.{nothing-lost}
 use Rattle.tidy.specs.laws.Put.{frame-shorter}
@@ -174,4 +175,4 @@ ordered s v c x store ls es ev ec ex = (
 )
 
 pub tidyHeaders : TidyHeaders
-tidyHeaders = record { ordered = ordered; unchanged = on-vcx; nothing-lost = nothing-lost }
+tidyHeaders = record { sync-good = sync-good; ordered = ordered; unchanged = on-vcx; nothing-lost = nothing-lost }
