@@ -89,6 +89,34 @@ allOn w store (b ∷ bs) = passedOn w store b ++ allOn (waitingAfter w b) (store
 abbrev pub none : Waiting
 none = record { on = 0; first = 0; second = 0 }
 
+-- ---- the same by blocks alone
+
+-- versions, channels and context in any order: three kinds, no two alike, and none of them 0
+unfoldable pub isThree : ℕ → ℕ → ℕ → Bool
+isThree i j k =
+    eqb i 0 ⇒ false ∣
+    eqb j 0 ⇒ false ∣ eqb j i ⇒ false ∣
+    eqb k 0 ⇒ false ∣ eqb k i ⇒ false ∣ eqb k j ⇒ false ∣
+    true
+
+-- a good sync, and behind it the three
+unfoldable pub isGroup : List ℕ → List ℕ → List ℕ → List ℕ → Bool
+isGroup s a b c = isSync s ! false ⨾ isThree (kindOf a) (kindOf b) (kindOf c)
+
+-- of the three the one of a kind
+unfoldable pub ofKind : ℕ → List ℕ → List ℕ → List ℕ → List ℕ
+ofKind k a b c = eqb (kindOf a) k ⇒ a ∣ eqb (kindOf b) k ⇒ b ∣ c
+
+-- the blocks that go on: in each group versions, channels and context behind their sync, every other block as it came
+unfoldable pub blocksOn : List (List ℕ) → List (List ℕ)
+blocksOn [] = []
+blocksOn (s ∷ []) = s ∷ []
+blocksOn (s ∷ a ∷ []) = s ∷ a ∷ []
+blocksOn (s ∷ a ∷ b ∷ []) = s ∷ a ∷ b ∷ []
+blocksOn (s ∷ a ∷ b ∷ c ∷ rest) =
+    isGroup s a b c ! (s ∷ blocksOn (a ∷ b ∷ c ∷ rest)) ⨾
+    (s ∷ ofKind 1 a b c ∷ ofKind 2 a b c ∷ ofKind 3 a b c ∷ blocksOn rest)
+
 -- ---- what the calls promise
 
 -- refusals, by the store's length, what waits, the bytes that may go on and the room for them: 2 where the store is not 35 bytes or a number of what waits
