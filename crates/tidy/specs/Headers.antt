@@ -1,15 +1,16 @@
--- "Headers put into 01's order": behind a sync the next three header blocks wait until versions, channels and context are all there, and then go on in this
--- order; if another block comes before that, what waits goes on as it came, and the block behind it. Nothing is lost and nothing is made up.
+-- "Headers put into 01's order": behind a good sync the next three header blocks wait until versions, channels and context are all there, and then go on in
+-- this order; if another block comes before that, what waits goes on as it came, and the block behind it. Nothing is lost and nothing is made up.
 -- (01 is this project's scope document, 02 its change requests, 001 is MS-RDPRFX: README, "What 01 is".)
 use Prim.Native.Nat.{ℕ, zero, suc, _+_}
 use mathlib.Core.Path.{_≡_}
 use mathlib.Core.Bool.{Bool, true, false}
 use mathlib.Core.List.{List, [], _∷_, _++_}
-use lib.Dec.{ltb, leb, eqb}
+use lib.Dec.{leb, eqb}
 use lib.ListN.{length, take, drop}
 use Rattle.whole.specs.Row.{_!_⨾_, _⇒_∣_}
 use Rattle.wire.specs.Le.{le16, patch}
 use Rattle.wire.specs.Wrote.{lengthSaid, outLeft}
+use Rattle.session.specs.Header.{recordOf, headerFault as panelFault}
 use Rattle.tidy.specs.declared.headers.Waiting.{Waiting}
 use Rattle.tidy.specs.declared.headers.Gave.{Gave}
 
@@ -24,8 +25,10 @@ kindBy type long =
 unfoldable pub kindOf : List ℕ → ℕ
 kindOf b = kindBy (le16 b 0) (length b)
 
+-- a good sync: what a session just opened takes, for nothing else is due to it ("Headers come in table order; a good sync is always due"), and what every
+-- other session takes as well (`sync-good`). A sync that the panel refuses, for its length, magic or version, opens no wait
 unfoldable pub isSync : List ℕ → Bool
-isSync b = ltb (length b) 2 ⇒ false ∣ eqb (le16 b 0) 0xCCC0
+isSync b = eqb (panelFault (recordOf 0 0 0 0 0) b) 0
 
 -- the three have a place each in a store of 35 bytes, in 01's order
 unfoldable pub placeOf : ℕ → ℕ
@@ -41,7 +44,7 @@ blockAt store k = take (lengthOf k) (drop (placeOf k) store)
 unfoldable pub waitingBytes : Waiting → List ℕ → List ℕ
 waitingBytes w store = blockAt store (w .first) ++ blockAt store (w .second)
 
--- does a block of this kind wait? Behind a sync, and no other of its kind waits
+-- does a block of this kind wait? Behind a good sync, and no other of its kind waits
 unfoldable pub waits : Waiting → ℕ → Bool
 waits w k =
     eqb (w .on) 1 ! false ⨾
@@ -65,7 +68,7 @@ storeAfter w store b = waits w (kindOf b) ! store ⨾ patch store (placeOf (kind
 unfoldable pub flagOf : Bool → ℕ
 flagOf sync = sync ⇒ 1 ∣ 0
 
--- a sync opens the wait, the third of the three or any other block ends it
+-- a good sync opens the wait, the third of the three or any other block ends it
 unfoldable pub waitingBy : Waiting → ℕ → Bool → Waiting
 waitingBy w k sync =
     waits w k ! record { on = flagOf sync; first = 0; second = 0 } ⨾
@@ -85,6 +88,34 @@ allOn w store (b ∷ bs) = passedOn w store b ++ allOn (waitingAfter w b) (store
 -- nothing waits
 abbrev pub none : Waiting
 none = record { on = 0; first = 0; second = 0 }
+
+-- ---- the same by blocks alone
+
+-- versions, channels and context in any order: three kinds, no two alike, and none of them 0
+unfoldable pub isThree : ℕ → ℕ → ℕ → Bool
+isThree i j k =
+    eqb i 0 ⇒ false ∣
+    eqb j 0 ⇒ false ∣ eqb j i ⇒ false ∣
+    eqb k 0 ⇒ false ∣ eqb k i ⇒ false ∣ eqb k j ⇒ false ∣
+    true
+
+-- a good sync, and behind it the three
+unfoldable pub isGroup : List ℕ → List ℕ → List ℕ → List ℕ → Bool
+isGroup s a b c = isSync s ! false ⨾ isThree (kindOf a) (kindOf b) (kindOf c)
+
+-- of the three the one of a kind
+unfoldable pub ofKind : ℕ → List ℕ → List ℕ → List ℕ → List ℕ
+ofKind k a b c = eqb (kindOf a) k ⇒ a ∣ eqb (kindOf b) k ⇒ b ∣ c
+
+-- the blocks that go on: in each group versions, channels and context behind their sync, every other block as it came
+unfoldable pub blocksOn : List (List ℕ) → List (List ℕ)
+blocksOn [] = []
+blocksOn (s ∷ []) = s ∷ []
+blocksOn (s ∷ a ∷ []) = s ∷ a ∷ []
+blocksOn (s ∷ a ∷ b ∷ []) = s ∷ a ∷ b ∷ []
+blocksOn (s ∷ a ∷ b ∷ c ∷ rest) =
+    isGroup s a b c ! (s ∷ blocksOn (a ∷ b ∷ c ∷ rest)) ⨾
+    (s ∷ ofKind 1 a b c ∷ ofKind 2 a b c ∷ ofKind 3 a b c ∷ blocksOn rest)
 
 -- ---- what the calls promise
 

@@ -3,7 +3,8 @@ pub mod Layout
 pub mod Put
 pub mod Pass
 pub mod Headers
+pub mod Sync
+pub mod Blocks
 pub mod Order
-pub mod Lost
 pub mod Mended
 pub mod Request

@@ -1,4 +1,4 @@
-// Header blocks put into 01's order: behind a sync the next three wait in a store of 35 bytes until versions, channels and context are all there.
+// Header blocks put into 01's order: behind a good sync the next three wait in a store of 35 bytes until versions, channels and context are all there.
 // Nothing is lost: where another block comes before that, what waits goes on as it came, and the block behind it.
 ghost use mathlib.Core.Path.{_≡_};
 ghost use mathlib.Core.Bool.{true};
@@ -9,7 +9,7 @@ ghost use Rattle.wire.specs.Le.{patch};
 ghost use Rattle.tidy.specs.Headers.{kindBy, kindOf, isSync, placeOf, lengthOf, waitingBytes, waits, waitingBy, waitingAfter, heldOn};
 ghost use Rattle.tidy.specs.Headers.{passedOn, storeAfter, flagOf, headerFault, none, GaveOn};
 
-// Whether blocks wait (behind a sync), and which: 1 versions, 2 channels, 3 context, 0 none.
+// Whether blocks wait (behind a good sync), and which: 1 versions, 2 channels, 3 context, 0 none.
 pub struct Waiting {
     pub on: u8,
     pub first: u8,
@@ -57,13 +57,11 @@ fn kind_of(block: &[u8]) -> u8
     kind_by(wire::le16_at(block, 0), block.len())
 }
 
+// A good sync: a session just opened takes this block, and no other.
 fn is_sync(block: &[u8]) -> bool
     ensures { λ r. ⌜ r ≡ isSync (now (block .entry)) ⌝ }
 {
-    if block.len() < 2 {
-        return false;
-    }
-    wire::le16_at(block, 0) == 0xCCC0
+    session::header_number(session::take_header(session::open(0), block)) == 0
 }
 
 // The place of each of the three in the store.

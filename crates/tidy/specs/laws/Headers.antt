@@ -7,12 +7,16 @@ use native.Mathlib.Omega.{arith}
 use lib.Dec.{eqb}
 use lib.ListN.{length, take, drop, length-append, length-drop}
 use lib.Seq.{length-take-le, take-length}
-use borrow.Author.Tests.{eqb-true, leb-true, eq-eqb, ne-eqb, lt-ltb, le-ltb}
+use borrow.Author.Tests.{eqb-true, leb-true, eq-eqb, ne-eqb}
 use Rattle.whole.specs.Row.{_!_⨾_, _⇒_∣_}
 use Rattle.whole.specs.laws.Row.{passes, fails, held, case-yes, case-no}
 use Rattle.wire.specs.Le.{le16, patch}
 use Rattle.wire.specs.Wrote.{lengthSaid, outLeft}
 use Rattle.wire.specs.laws.Le.{patch-next, patch-none, patch-front}
+use Rattle.session.specs.Header.{recordOf, headerNumber, headerReading, headerFault as panelFault}
+use Rattle.session.specs.laws.Header.{reading-number}
+use Rattle.session.specs.declared.Session.{Session}
+use Rattle.session.specs.declared.HeaderReading.{HeaderReading}
 use Rattle.tidy.specs.Headers.{kindBy, kindOf, isSync, placeOf, lengthOf, blockAt, waitingBytes, waits, heldOn, passedOn, storeAfter, flagOf, waitingBy}
 use Rattle.tidy.specs.Headers.{waitingAfter, headerFault, waitingSaid, storeLeft, GaveOn}
 use Rattle.tidy.specs.declared.headers.Waiting.{Waiting}
@@ -85,13 +89,11 @@ kind-short b l =
     rw (ne-eqb (length b) 10 (λ e. omega arith), ne-eqb (length b) 12 (λ e. omega arith), ne-eqb (length b) 13 (λ e. omega arith))
     (none-of (eqb (le16 b 0) 0xCCC1) (eqb (le16 b 0) 0xCCC2) (eqb (le16 b 0) 0xCCC3))
 
-pub sync-short : (b : List ℕ) → suc (length b) ≤ 2 → false ≡ isSync b
+-- the number that a session just opened answers says whether a block is a good sync
+pub sync-is : (s : Session) (b : List ℕ) (r : HeaderReading) (n : ℕ) → s ≡ recordOf 0 0 0 0 0 → r ≡ headerReading s b → n ≡ headerNumber r →
+    eqb n 0 ≡ isSync b
 unfolding isSync
-sync-short b l = case-yes _ _ _ _ (lt-ltb (length b) 2 l) refl
-
-pub sync-long : (b : List ℕ) (t : ℕ) → 2 ≤ length b → t ≡ le16 b 0 → eqb t 0xCCC0 ≡ isSync b
-unfolding isSync
-sync-long b t l e = case-no _ _ _ _ (le-ltb (length b) 2 l) (ap (λ (k : ℕ). eqb k 0xCCC0) e)
+sync-is s b r n e f g = ap (λ (k : ℕ). eqb k 0) (g ∙ (ap headerNumber f ∙ (reading-number s b ∙ ap (λ (z : Session). panelFault z b) e)))
 
 -- ---- what waits
 

@@ -75,6 +75,21 @@ pub cut-few : (et : ℕ) (code : List ℕ) → cutCode et code ≤ 1
 unfolding cutCode
 cut-few et code = at-most-1 (sameBytes (tidyCode et code) code)
 
+-- a component's code that was put ends no later than it did as it came, and counts once at most
+pub record Coded (part : List ℕ) (to : ℕ) (out out′ : List ℕ) (p : Put) : Type 0 where
+  pub ends : p .to ≤ to + length part
+  pub few : p .cut ≤ 1
+  pub long : length out′ ≡ length out
+
+pub coded :
+    (et : ℕ) {to : ℕ} {code part out out′ : List ℕ} {p : Put} → code ≡ part → Puts (tidyCode et code) (cutCode et code) to out out′ p →
+    length out′ ≡ length out → Coded part to out out′ p
+coded et {code = code} e h l = record {
+  ends = omega (arith, h .behind, tidyCodes .never-longer et code, ap length e);
+  few = omega (arith, h .counts, cut-few et code);
+  long = l;
+}
+
 -- ---- a tile
 
 -- a whole tile is as long as its head says

@@ -2,7 +2,7 @@
 use Prim.Native.Nat.{ℕ, zero, suc, _+_, _≤_}
 use mathlib.Core.Path.{_≡_, refl, ap, sym, _∙_, subst}
 use mathlib.Core.Bool.{Bool, true, false, true≢false}
-use mathlib.Core.List.{List, _∷_, _++_}
+use mathlib.Core.List.{List, [], _∷_, _++_, append-nil, flatten}
 use native.Mathlib.Omega.{arith}
 use lib.Dec.{eqb}
 use lib.ListN.{length}
@@ -19,11 +19,12 @@ use Rattle.session.specs.Header.{ready}
 use Rattle.session.specs.declared.Session.{Session}
 use Rattle.tidy.specs.Tidy.{faultFor, layoutFor, isTidied, tidyFrame, frameTidied}
 use Rattle.tidy.specs.Put.{Laid}
-use Rattle.tidy.specs.Headers.{kindOf, isSync, allOn, none}
+use Rattle.tidy.specs.Headers.{kindOf, isSync, allOn, none, isThree, isGroup, ofKind, blocksOn}
 use Rattle.tidy.specs.laws.Layout.{tilesBy, parts-by, parts-good, laid, anyCode, front-alone}
 use Rattle.tidy.specs.laws.Mended.{Again, again}
-use Rattle.tidy.specs.laws.Order.{on-vcx, on-vxc, on-cvx, on-cxv, on-xvc, on-xcv}
-use Rattle.tidy.specs.laws.Lost.{nothing-lost}
+use Rattle.tidy.specs.laws.Sync.{sync-good}
+use Rattle.tidy.specs.laws.Blocks.{same-blocks, twice-once}
+use Rattle.tidy.specs.laws.Order.{bytes-on}
 use Rattle.tidy.specs.laws.Put.{frame-shorter}
 use Rattle.tidy.specs.Request.{judgedLoosely, TidyFrames, ordersOf, EachOf, TidyHeaders}
 
@@ -159,19 +160,33 @@ tidyFrames = record {
 
 -- ---- headers
 
-ordered : (s v c x store : List ℕ) → length store ≡ 35 → isSync s ≡ true → kindOf v ≡ 1 → kindOf c ≡ 2 → kindOf x ≡ 3 →
-    EachOf (λ (bs : List (List ℕ)). allOn none store (s ∷ bs) ≡ s ++ (v ++ (c ++ x))) (ordersOf v c x)
-unfolding EachOf ordersOf
-ordered s v c x store ls es ev ec ex = (
-  on-vcx s v c x store ls es ev ec ex,
-  (
-    on-vxc s v c x store ls es ev ec ex,
+module _ (s v c x store : List ℕ) (ls : length store ≡ 35) (es : isSync s ≡ true) (ev : kindOf v ≡ 1) (ec : kindOf c ≡ 2) (ex : kindOf x ≡ 3) where
+  sent : (bs : List (List ℕ)) → blocksOn (s ∷ bs) ≡ s ∷ v ∷ c ∷ x ∷ [] → allOn none store (s ∷ bs) ≡ s ++ (v ++ (c ++ x))
+  unfolding flatten
+  sent bs e = bytes-on store (s ∷ bs) ls ∙ (ap flatten e ∙ ap (λ z. s ++ (v ++ (c ++ z))) (append-nil x))
+
+  ordered : EachOf (λ (bs : List (List ℕ)). allOn none store (s ∷ bs) ≡ s ++ (v ++ (c ++ x))) (ordersOf v c x)
+  unfolding EachOf ordersOf blocksOn isGroup isThree ofKind _!_⨾_ _⇒_∣_
+  ordered = (
+    sent _ (rw (es, ev, ec, ex) refl),
     (
-      on-cvx s v c x store ls es ev ec ex,
-      (on-cxv s v c x store ls es ev ec ex, (on-xvc s v c x store ls es ev ec ex, (on-xcv s v c x store ls es ev ec ex, tt))),
+      sent _ (rw (es, ev, ec, ex) refl),
+      (
+        sent _ (rw (es, ev, ec, ex) refl),
+        (sent _ (rw (es, ev, ec, ex) refl), (sent _ (rw (es, ev, ec, ex) refl), (sent _ (rw (es, ev, ec, ex) refl), tt))),
+      ),
     ),
-  ),
-)
+  )
+
+  unchanged : allOn none store (s ∷ v ∷ c ∷ x ∷ []) ≡ s ++ (v ++ (c ++ x))
+  unfolding EachOf ordersOf
+  unchanged = ordered .0
 
 pub tidyHeaders : TidyHeaders
-tidyHeaders = record { ordered = ordered; unchanged = on-vcx; nothing-lost = nothing-lost }
+tidyHeaders = record {
+  sync-good = sync-good;
+  ordered = ordered;
+  unchanged = unchanged;
+  nothing-lost = λ store bs l. (bytes-on store bs l, same-blocks bs);
+  once = twice-once;
+}

@@ -1,4 +1,4 @@
--- Each code has room, as none is longer than it came (`codes-room`, `never-longer`); codes and head make the tile (`tile-put`).
+-- Each code has room, as none is longer than it came (`codes-room`, `coded`); codes and head make the tile (`tile-put`).
 use mathlib.Core.Path.{ap, _∙_}
 use native.Mathlib.Omega.{arith}
 use denote.Ref.{now}
@@ -6,8 +6,7 @@ use lib.ListN.{length}
 use borrow.Author.Needs.{needs}
 use Rattle.frame_layout.specs.Reader.{tileAt}
 use Rattle.frame_blocks.specs.Tiles.{codePart}
-use Rattle.tidy_code.specs.laws.Request.{tidyCodes}
-use Rattle.tidy.specs.laws.Put.{codes-room, cut-few, tile-put}
+use Rattle.tidy.specs.laws.Put.{coded, codes-room, tile-put}
 use Rattle.tidy.proofs.frames.put_tile.Statement.{statement}
 use Rattle.tidy.proofs.frames.put_tile.Tie as tie
 
@@ -25,21 +24,9 @@ put-code-requires-2 c κs =
     let c1 = c .before .before .before .before .before .before in
     let c2 = c1 .before .before .before in
     let c3 = c2 .before .before .before in
-    let a = c3 .args in
-    let r = codes-room (now (a .d)) (a .at) (c3 .pre .1) in
-    let y = tidyCodes .never-longer (a .mode) (now (c2 .code-part .result)) in (
-      c1 .put-code .kept .1 .1 .0 ∙ c3 .pre .0,
-      omega (
-        arith,
-        r,
-        c3 .pre .2,
-        ap length (c2 .code-part .ensures),
-        ap length (c .before .before .code-part2 .ensures),
-        y,
-        c1 .put-code .ensures .behind,
-        c1 .put-code .kept .1 .1 .1 .0,
-      ),
-    )
+    let r = codes-room _ _ (c3 .pre .1) in
+    let y = coded (c3 .args .mode) (c2 .code-part .ensures) (c1 .put-code .ensures) (c1 .put-code .kept .1 .1 .1 .0) in
+    (c1 .put-code .kept .1 .1 .0 ∙ c3 .pre .0, omega (arith, r, c3 .pre .2, y, ap length (c .before .before .code-part2 .ensures)))
 
 put-code-requires-3 : tie.Need-put-code-requires-3
 unfolding codePart
@@ -49,25 +36,11 @@ put-code-requires-3 c κs =
     let c3 = c2 .before .before .before .before in
     let c4 = c3 .before .before .before in
     let c5 = c4 .before .before .before in
-    let a = c5 .args in
-    let r = codes-room (now (a .d)) (a .at) (c5 .pre .1) in
-    let y = tidyCodes .never-longer (a .mode) (now (c4 .code-part .result)) in
-    let cb = tidyCodes .never-longer (a .mode) (now (c2 .code-part2 .result)) in (
+    let r = codes-room _ _ (c5 .pre .1) in
+    let y = coded (c5 .args .mode) (c4 .code-part .ensures) (c3 .put-code .ensures) (c3 .put-code .kept .1 .1 .1 .0) in
+    let cb = coded (c5 .args .mode) (c2 .code-part2 .ensures) (c1 .put-code2 .ensures) (c1 .put-code2 .kept .1 .1 .1 .0) in (
       c1 .put-code2 .kept .1 .1 .0 ∙ (c3 .put-code .kept .1 .1 .0 ∙ c5 .pre .0),
-      omega (
-        arith,
-        r,
-        c5 .pre .2,
-        ap length (c4 .code-part .ensures),
-        ap length (c2 .code-part2 .ensures),
-        ap length (c .before .before .code-part3 .ensures),
-        y,
-        cb,
-        c3 .put-code .ensures .behind,
-        c3 .put-code .kept .1 .1 .1 .0,
-        c1 .put-code2 .ensures .behind,
-        c1 .put-code2 .kept .1 .1 .1 .0,
-      ),
+      omega (arith, r, c5 .pre .2, y, cb, ap length (c .before .before .code-part3 .ensures)),
     )
 
 put-head-requires : tie.Need-put-head-requires
@@ -80,30 +53,11 @@ put-head-requires c κs =
     let c5 = c4 .before .before .before .before in
     let c6 = c5 .before .before .before in
     let c7 = c6 .before .before .before in
-    let a = c7 .args in
-    let r = codes-room (now (a .d)) (a .at) (c7 .pre .1) in
-    let y = tidyCodes .never-longer (a .mode) (now (c6 .code-part .result)) in
-    let cb = tidyCodes .never-longer (a .mode) (now (c4 .code-part2 .result)) in
-    let cr = tidyCodes .never-longer (a .mode) (now (c2 .code-part3 .result)) in (
-      omega (arith, r, c7 .pre .1 .there),
-      omega (
-        arith,
-        r,
-        c7 .pre .2,
-        ap length (c6 .code-part .ensures),
-        ap length (c4 .code-part2 .ensures),
-        ap length (c2 .code-part3 .ensures),
-        y,
-        cb,
-        cr,
-        c5 .put-code .ensures .behind,
-        c5 .put-code .kept .1 .1 .1 .0,
-        c3 .put-code2 .ensures .behind,
-        c3 .put-code2 .kept .1 .1 .1 .0,
-        c1 .put-code3 .ensures .behind,
-        c1 .put-code3 .kept .1 .1 .1 .0,
-      ),
-    )
+    let r = codes-room _ _ (c7 .pre .1) in
+    let y = coded (c7 .args .mode) (c6 .code-part .ensures) (c5 .put-code .ensures) (c5 .put-code .kept .1 .1 .1 .0) in
+    let cb = coded (c7 .args .mode) (c4 .code-part2 .ensures) (c3 .put-code2 .ensures) (c3 .put-code2 .kept .1 .1 .1 .0) in
+    let cr = coded (c7 .args .mode) (c2 .code-part3 .ensures) (c1 .put-code3 .ensures) (c1 .put-code3 .kept .1 .1 .1 .0) in
+    (omega (arith, r, c7 .pre .1 .there), omega (arith, r, c7 .pre .2, y, cb, cr))
 
 add-t17 : tie.Need-add-t17
 add-t17 c =
@@ -113,14 +67,9 @@ add-t17 c =
     let c3 = c2 .before .before .before .before in
     let c4 = c3 .before .before .before in
     let c5 = c4 .before .before .before in
-    let a = c5 .args in
-    omega (
-      arith,
-      c3 .put-code .ensures .counts,
-      c1 .put-code2 .ensures .counts,
-      cut-few (a .mode) (now (c4 .code-part .result)),
-      cut-few (a .mode) (now (c2 .code-part2 .result)),
-    )
+    let y = coded (c5 .args .mode) (c4 .code-part .ensures) (c3 .put-code .ensures) (c3 .put-code .kept .1 .1 .1 .0) in
+    let cb = coded (c5 .args .mode) (c2 .code-part2 .ensures) (c1 .put-code2 .ensures) (c1 .put-code2 .kept .1 .1 .1 .0) in
+    omega (arith, y, cb)
 
 add-t31 : tie.Need-add-t31
 add-t31 c =
@@ -131,16 +80,10 @@ add-t31 c =
     let c5 = c4 .before .before .before .before in
     let c6 = c5 .before .before .before in
     let c7 = c6 .before .before .before in
-    let a = c7 .args in
-    omega (
-      arith,
-      c5 .put-code .ensures .counts,
-      c3 .put-code2 .ensures .counts,
-      c1 .put-code3 .ensures .counts,
-      cut-few (a .mode) (now (c6 .code-part .result)),
-      cut-few (a .mode) (now (c4 .code-part2 .result)),
-      cut-few (a .mode) (now (c2 .code-part3 .result)),
-    )
+    let y = coded (c7 .args .mode) (c6 .code-part .ensures) (c5 .put-code .ensures) (c5 .put-code .kept .1 .1 .1 .0) in
+    let cb = coded (c7 .args .mode) (c4 .code-part2 .ensures) (c3 .put-code2 .ensures) (c3 .put-code2 .kept .1 .1 .1 .0) in
+    let cr = coded (c7 .args .mode) (c2 .code-part3 .ensures) (c1 .put-code3 .ensures) (c1 .put-code3 .kept .1 .1 .1 .0) in
+    omega (arith, y, cb, cr)
 
 same-length : tie.Need-same-length
 same-length c =
