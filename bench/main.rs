@@ -201,7 +201,7 @@ fn cases<'a>(cs: &'a [Component], fs: &'a [Frame]) -> Vec<Case<'a>> {
         ("plain", Box::new(move || for c in cs { black_box(plain::write_component(c.mode, &c.list, black_box(&mut a))); })),
         ("rattle", Box::new(move || for c in cs { black_box(write_component(c.mode, &c.list, black_box(&mut b))); })),
         // no byte of room more than the code has, and a refusal leaves the output untouched: it is measured first
-        ("plain-measured", Box::new(move || for c in cs { black_box(plain::write_component_within(c.mode, &c.list, black_box(&mut e[..c.code.len()]))); })),
+        ("plain-measured", Box::new(move || for c in cs { let _ = black_box(plain::write_component_within(c.mode, &c.list, black_box(&mut e[..c.code.len()]))); })),
         ("measured", Box::new(move || for c in cs { black_box(write_component(c.mode, &c.list, black_box(&mut d[..c.code.len()]))); })),
     ]));
     for f in fs {

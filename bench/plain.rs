@@ -240,6 +240,7 @@ struct Slot<'a> {
 }
 
 impl Sink for Slot<'_> {
+    #[inline(always)]
     fn put(&mut self, n: u32, v: u32) {
         self.acc = self.acc << n | u64::from(v);
         self.n += n;
@@ -250,6 +251,7 @@ impl Sink for Slot<'_> {
         }
     }
 
+    #[inline(always)]
     fn golomb(&mut self, kr: u32, g: u32) {
         let mut ones = g >> kr;
         while ones > 20 {
@@ -281,6 +283,7 @@ fn fold(x: i32) -> u32 {
 }
 
 impl Adapt {
+    #[inline(always)]
     fn put(&mut self, sink: &mut impl Sink, g: u32) {
         let kr = self.krp / 8;
         sink.golomb(kr, g);
@@ -293,6 +296,7 @@ impl Adapt {
 }
 
 /// The code of 4,096 numbers, each in range.
+#[inline(always)]
 fn code(mode: u8, list: &[i32], p: &mut impl Sink) {
     let mut a = Adapt { kp: 8, krp: 8 };
     let mut i = 0;

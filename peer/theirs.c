@@ -96,14 +96,21 @@ static RFX_CONTEXT *context(int side, BOOL encoder)
     return made && (!encoder || made->quants) ? made : NULL;
 }
 
+/* The colours of the processor's own routines. Where Debian's library has none (arm64) it says so at every call that asks for them. */
+#if defined(__x86_64__)
+#define OF_THE_PROCESSOR PRIMITIVES_ONLY_CPU
+#else
+#define OF_THE_PROCESSOR PRIMITIVES_PURE_SOFT
+#endif
+
 static void use(int side)
 {
-    primitives_init(primitives_get(), side == PORTABLE ? PRIMITIVES_PURE_SOFT : PRIMITIVES_ONLY_CPU);
+    primitives_init(primitives_get(), side == PORTABLE ? PRIMITIVES_PURE_SOFT : OF_THE_PROCESSOR);
 }
 
 const char *theirs_open(void)
 {
-    primitives_set_hints(PRIMITIVES_ONLY_CPU); /* else it runs a benchmark of its own */
+    primitives_set_hints(OF_THE_PROCESSOR); /* else it runs a benchmark of its own */
     primitives_get();
     for (int side = 0; side < SIDES; side++) {
         readers[side] = context(side, FALSE);
