@@ -68,7 +68,8 @@ pub fn ahead(s: &[u8], at: usize) -> u64
     (w << (at - 8 * j)) >> 7
 }
 
-// The k bits at place `at` of the 57 bits w, as a number.
+// The k bits at place `at` of the 57 bits w, as a number: what stands before them is shifted out above, what stands behind them below (in two steps, since k
+// may be 0).
 pub fn number_in(w: u64, at: usize, k: usize) -> Num
     requires { ⌜ (at ≤ 57) × (k ≤ 32) ⌝ }
     ensures { λ r. ⌜ r ≡ numOf k 0 at (drop at (numBits 57 w)) ⌝ }
@@ -76,7 +77,7 @@ pub fn number_in(w: u64, at: usize, k: usize) -> Num
     if 57 - at < k {
         return Num::Cut;
     }
-    let n = (w >> (57 - at - k)) % (1u64 << k);
+    let n = (((w << 7) << at) >> 1) >> (63 - k);
     Num::Got(n as usize, at + k)
 }
 

@@ -238,10 +238,7 @@ fn quick_turn(s: &[u8], rlgr3: bool, c: State, list: &mut [i32], i: usize) -> Qu
 {
     let at = c.at;
     let kp = c.kp;
-    if s.len() < 8 {
-        return Quick::Not;
-    }
-    if s.len() - 8 < at / 8 {
+    if s.len() < at / 8 + 8 {
         return Quick::Not;
     }
     if 8 <= kp {

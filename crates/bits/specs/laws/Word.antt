@@ -8,7 +8,7 @@ use native.Mathlib.Decide.{decLt}
 use native.Mathlib.Nat.{div-eq-of-lt, div-eq-of-lt-le, pow-suc, mod-eq-of-lt, mod-lt, le-refl, zero-add, one-mul, mul-le-mul-left, div-lt-iff-lt-mul}
 use lib.ListN.{length, drop, getD, replicate, length-append, length-drop, length-replicate, drop-of-length-le}
 use lib.Seq.{drop-at, drop-drop, drop-cons, drop-append-le, drop-append-add}
-use lib.Pow.{shr-shr, shl-shr, field, high, low, pow-pos, pow-mono}
+use lib.Pow.{shr-shr, shl-shr, field, high, low, pow-pos, pow-mono, mod-mod-pow}
 use lib.Count.{leadingZeros, leading-length, leading-unique}
 use Rattle.bits.specs.Bits.{odd, val, numBits, bitsOf, onesOf, numOf, grOf, grBits}
 use Rattle.bits.specs.Word.{fourOf, frontZeros, horner}
@@ -68,11 +68,29 @@ pub in-cut : (w at k : ℕ) → 57 - at < k → Cut ≡ numOf k 0 at (drop at (n
 in-cut w at k l =
     sym (num-short k 0 at (drop at (numBits 57 w)) (omega (arith, length-drop at (numBits 57 w), length-numBits 57 w)))
 
-pub in-got : (w at k n : ℕ) → at ≤ 57 → k ≤ 57 - at → n ≡ w / 2 ^ (57 - at - k) % (1 * 2 ^ k % 2 ^ 64) →
+-- the bits before a field shifted out above, then those behind it below
+field-left : (w at k : ℕ) → at + k ≤ 57 → w * 2 ^ 7 % 2 ^ 64 * 2 ^ at % 2 ^ 64 / 2 ^ 1 / 2 ^ (63 - k) ≡ w / 2 ^ (57 - at - k) % 2 ^ k
+field-left w at k h =
+    let r = 57 - at - k in
+    let x = w * 2 ^ 7 % 2 ^ 64 in
+    let down : 1 + (63 - k) ≡ 64 - k = omega arith in
+    let whole : k + (64 - k) ≡ 64 = omega arith in
+    let back : at + (7 + r) ≡ 64 - k = omega arith in
+    let part : at + k + r ≡ 57 = omega arith in
+    let a : x * 2 ^ at % 2 ^ 64 / 2 ^ 1 / 2 ^ (63 - k) ≡ x * 2 ^ at % 2 ^ 64 / 2 ^ (64 - k) =
+    shr-shr (x * 2 ^ at % 2 ^ 64) 1 (63 - k) ∙ ap (λ (n : ℕ). x * 2 ^ at % 2 ^ 64 / 2 ^ n) down in
+    let b : x * 2 ^ at % 2 ^ 64 / 2 ^ (64 - k) ≡ x * 2 ^ at / 2 ^ (64 - k) % 2 ^ k =
+    ap (λ (n : ℕ). x * 2 ^ at % 2 ^ n / 2 ^ (64 - k)) (sym whole) ∙ field (x * 2 ^ at) k (64 - k) in
+    let c : x * 2 ^ at / 2 ^ (64 - k) ≡ x / 2 ^ 7 / 2 ^ r =
+    ap (λ (n : ℕ). x * 2 ^ at / 2 ^ n) (sym back) ∙ sym (shr-shr (x * 2 ^ at) at (7 + r)) ∙ ap (λ (n : ℕ). n / 2 ^ (7 + r)) (shl-shr x at)
+    ∙ sym (shr-shr x 7 r) in
+    let d : x / 2 ^ 7 ≡ w % 2 ^ 57 = field (w * 2 ^ 7) 57 7 ∙ ap (λ (n : ℕ). n % 2 ^ 57) (shl-shr w 7) in
+    let e : w % 2 ^ 57 / 2 ^ r ≡ w / 2 ^ r % 2 ^ (at + k) = ap (λ (n : ℕ). w % 2 ^ n / 2 ^ r) (sym part) ∙ field w (at + k) r in
+    a ∙ b ∙ ap (λ (n : ℕ). n % 2 ^ k) (c ∙ ap (λ (n : ℕ). n / 2 ^ r) d ∙ e) ∙ mod-mod-pow (w / 2 ^ r) at k
+
+pub in-got : (w at k n : ℕ) → at ≤ 57 → k ≤ 57 - at → n ≡ w * 2 ^ 7 % 2 ^ 64 * 2 ^ at % 2 ^ 64 / 2 ^ 1 / 2 ^ (63 - k) →
     Got n (at + k) ≡ numOf k 0 at (drop at (numBits 57 w))
-in-got w at k n h l e =
-    ap (λ (x : ℕ). Got x (at + k)) (e ∙ ap (λ (x : ℕ). w / 2 ^ (57 - at - k) % x) (one-shl k (omega arith)))
-    ∙ sym (num-in w at k (omega arith))
+in-got w at k n h l e = ap (λ (x : ℕ). Got x (at + k)) (e ∙ field-left w at k (omega arith)) ∙ sym (num-in w at k (omega arith))
 
 -- ---- ones in the word
 
