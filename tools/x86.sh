@@ -5,7 +5,7 @@
 #   rust_target  words for rustc and cargo: none, or the target
 #   rust_flags   words for rustc alone: none, or where Rust's library for x86-64 is
 # `missing NAME..` prints the commands that are not there. Nothing is installed here.
-# The Arm half was written from notes of such a machine and has not been run in this form; bindings/README.md says what it wants.
+# On Arm it wants what bindings/README.md says. (A library for the machine itself, to take times with, is made by tools/native.)
 missing() {
     for command in "$@"; do command -v "$command" >/dev/null || printf '%s\n' "$command"; done
 }
