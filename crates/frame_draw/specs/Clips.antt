@@ -1,56 +1,67 @@
--- A region's rectangles against a tile's columns, the form of the code: four numbers a rectangle, kept in a list of signed numbers. laws/Clip
--- shows that the span of a rectangle made from them is `spanOf`.
-use Prim.Native.Nat.{ℕ, _+_, _*_, _-_, _≤_, _<_, min}
+-- A region's rectangles against a tile's columns, the form of the code: its columns as the bits of a number, and its rows; kept as four numbers in a
+-- list of signed numbers, two of them for the bits. laws/Mask shows that bit x of what it has of a row is set exactly if it holds word x.
+use Prim.Native.Nat.{ℕ, _+_, _*_, _-_, _/_, _%_, _≤_, _<_, min}
 use mathlib.Core.Path.{_≡_}
 use mathlib.Core.List.{List}
 use lib.Dec.{ltb, leb}
-use lib.IntN.{ℤ, pos, natAbs}
+use lib.IntN.{ℤ, pos, natAbs, _+ℤ_, _-ℤ_}
 use lib.ListN.{length, set}
 use Rattle.wire.specs.Le.{le16}
 use Rattle.whole.specs.Row.{_!_⨾_}
 use Rattle.whole.specs.Tab.{at}
 use Rattle.frame_draw.specs.declared.clip.Clip.{Clip}
-use Rattle.frame_draw.specs.declared.clip.Span.{Span}
-use Rattle.frame_draw.specs.Spans.{partOf, nothing}
+use Rattle.frame_draw.specs.Spans.{partOf, maskOf}
 
 -- of the part of a tile's columns that begins at column a
 unfoldable pub clipIn : ℕ → ℕ → ℕ → ℕ → ℕ → ℕ → Clip
-clipIn x y w h a part = record { from = x - a; to = min part (x + w - a); top = y; end = y + h }
+clipIn x y w h a part = record { mask = maskOf (x - a) (min part (x + w - a)); top = y; end = y + h }
 
 -- rectangle k of the region's bytes
 unfoldable pub clipOf : List ℕ → ℕ → ℕ → ℕ → Clip
 clipOf rects a part k = clipIn (le16 rects (8 * k)) (le16 rects (8 * k + 2)) (le16 rects (8 * k + 4)) (le16 rects (8 * k + 6)) a part
 
 -- what it holds of pixel row py
-unfoldable pub spanAt : Clip → ℕ → Span
-spanAt c py =
-    leb (c .top) py ! nothing ⨾
-    ltb py (c .end) ! nothing ⨾
-    record { from = c .from; to = c .to }
+unfoldable pub maskAt : Clip → ℕ → ℕ
+maskAt c py =
+    leb (c .top) py ! 0 ⨾
+    ltb py (c .end) ! 0 ⨾
+    c .mask
 
 -- ---- kept in a list
+
+-- 32 bits as a signed number of as many: 2^31 less; and back
+abbrev pub halfIn : ℕ → ℤ
+halfIn n = pos n -ℤ pos 2147483648
+
+abbrev pub halfOf : ℤ → ℕ
+halfOf z = natAbs (z +ℤ pos 2147483648)
 
 -- the k-th that a list holds
 abbrev pub clipAt : List ℤ → ℕ → Clip
 clipAt zs k =
-    record { from = natAbs (at zs (4 * k)); to = natAbs (at zs (4 * k + 1)); top = natAbs (at zs (4 * k + 2)); end = natAbs (at zs (4 * k + 3)) }
+    record {
+      mask = halfOf (at zs (4 * k + 1)) * 4294967296 + halfOf (at zs (4 * k));
+      top = natAbs (at zs (4 * k + 2));
+      end = natAbs (at zs (4 * k + 3));
+    }
 
 -- the list with one put in
 abbrev pub withClip : ℕ → Clip → List ℤ → List ℤ
 withClip k c zs =
-    set (set (set (set zs (4 * k) (pos (c .from))) (4 * k + 1) (pos (c .to))) (4 * k + 2) (pos (c .top))) (4 * k + 3) (pos (c .end))
+    set
+    (set (set (set zs (4 * k) (halfIn (c .mask % 4294967296))) (4 * k + 1) (halfIn (c .mask / 4294967296))) (4 * k + 2) (pos (c .top)))
+    (4 * k + 3) (pos (c .end))
 
 -- a list holds c as its k-th
 pub record Clipped (c : Clip) (k : ℕ) (zs : List ℤ) : Type 0 where
-  pub from : at zs (4 * k) ≡ pos (c .from)
-  pub to : at zs (4 * k + 1) ≡ pos (c .to)
+  pub low : at zs (4 * k) ≡ halfIn (c .mask % 4294967296)
+  pub high : at zs (4 * k + 1) ≡ halfIn (c .mask / 4294967296)
   pub top : at zs (4 * k + 2) ≡ pos (c .top)
   pub end : at zs (4 * k + 3) ≡ pos (c .end)
 
 -- its numbers are in range of the list's
 pub record SmallClip (c : Clip) : Type 0 where
-  pub from : c .from < 65536
-  pub to : c .to ≤ 64
+  pub mask : c .mask < 18446744073709551616
   pub top : c .top < 65536
   pub end : c .end < 131072
 

@@ -1,11 +1,12 @@
 pub mod Asked
+pub mod Bits
 pub mod Cases
 pub mod Clip
 pub mod Draw
-pub mod Note
+pub mod Mask
 pub mod Paint
 pub mod Pixels
 pub mod Search
 pub mod Show
 pub mod Shown
-pub mod Span
+pub mod Stores

@@ -6,19 +6,12 @@ ghost use Prim.Native.Nat.{_+_, _*_, _-_, _≤_, _<_, min};
 ghost use lib.IntN.{pos, natAbs};
 ghost use lib.ListN.{length, set};
 ghost use Rattle.whole.specs.Tab.{at};
-ghost use Rattle.frame_draw.specs.Spans.{partOf};
-ghost use Rattle.frame_draw.specs.Clips.{clipIn, clipOf, spanAt, clipAt, withClip, Clipped, SmallClip, Clips};
+ghost use Rattle.frame_draw.specs.Spans.{partOf, maskOf};
+ghost use Rattle.frame_draw.specs.Clips.{clipIn, clipOf, maskAt, halfIn, halfOf, clipAt, withClip, Clipped, SmallClip, Clips};
 
-// A part of a tile's row: the words from one on to before another, none where that is no more.
-pub struct Span {
-    pub from: usize,
-    pub to: usize,
-}
-
-// A rectangle against a tile: the words from one on to before another, on the picture's rows from one on to before another.
+// A rectangle against a tile: its words of the tile's row, on the picture's rows from one on to before another.
 pub struct Clip {
-    pub from: usize,
-    pub to: usize,
+    pub mask: u64,
     pub top: usize,
     pub end: usize,
 }
@@ -51,18 +44,26 @@ pub fn part_of(w: usize, tx: usize) -> usize
     lesser(64, past(w, 64 * tx))
 }
 
+// The words of a tile's row from one on to before another as the bits of a number, none where that is no more.
+pub fn mask_of(from: usize, to: usize) -> u64
+    requires { ⌜ to ≤ 64 ⌝ }
+    ensures { λ r. ⌜ r ≡ maskOf from to ⌝ }
+{
+    if to <= from {
+        return 0;
+    }
+    (18446744073709551615u64 >> (64 - (to - from))) << from
+}
+
 fn clip_in(x: usize, y: usize, w: usize, h: usize, a: usize, part: usize) -> Clip
-    requires { ⌜ (x < 65536) × (y < 65536) × (w < 65536) × (h < 65536) ⌝ }
+    requires { ⌜ (x < 65536) × (y < 65536) × (w < 65536) × (h < 65536) × (part ≤ 64) ⌝ }
     ensures { λ r. ⌜ r ≡ clipIn x y w h a part ⌝ }
 {
-    let from = past(x, a);
-    let to = lesser(part, past(x + w, a));
-    let end = y + h;
+    let mask = mask_of(past(x, a), lesser(part, past(x + w, a)));
     Clip {
-        from,
-        to,
+        mask,
         top: y,
-        end,
+        end: y + h,
     }
 }
 
@@ -85,12 +86,20 @@ fn put_number(list: &mut [i32], i: usize, n: usize)
     list[i] = n as i32;
 }
 
+// Half of a mask, as a number of the list: 2^31 less.
+fn put_half(list: &mut [i32], i: usize, n: u64)
+    requires { ⌜ (i < length (now list)) × (n < 4294967296) ⌝ }
+    ensures { λ _. ⌜ now (list .exit) ≡ set (now (list .entry)) i (halfIn n) ⌝ }
+{
+    list[i] = (n as i64 - 2147483648) as i32;
+}
+
 fn put_clip(clips: &mut [i32], k: usize, c: Clip)
     requires { ⌜ (4 * k + 4 ≤ length (now clips)) × SmallClip c ⌝ }
     ensures { λ _. ⌜ now (clips .exit) ≡ withClip k c (now (clips .entry)) ⌝ }
 {
-    put_number(clips, 4 * k, c.from);
-    put_number(clips, 4 * k + 1, c.to);
+    put_half(clips, 4 * k, c.mask % 4294967296);
+    put_half(clips, 4 * k + 1, c.mask / 4294967296);
     put_number(clips, 4 * k + 2, c.top);
     put_number(clips, 4 * k + 3, c.end);
 }
@@ -115,18 +124,23 @@ fn number_at(list: &[i32], i: usize) -> usize
     list[i] as usize
 }
 
+fn half_at(list: &[i32], i: usize) -> u64
+    requires { ⌜ i < length (now list) ⌝ }
+    ensures { λ r. ⌜ (r ≡ halfOf (at (now (list .entry)) i)) × (r < 4294967296) ⌝ }
+{
+    (list[i] as i64 + 2147483648) as u64
+}
+
 // What rectangle k holds of pixel row py.
-pub fn clip_span(clips: &[i32], py: usize, k: usize) -> Span
+pub fn clip_mask(clips: &[i32], py: usize, k: usize) -> u64
     requires { ⌜ (4 * k + 4 ≤ length (now clips)) × Clipped (clipAt (now clips) k) k (now clips) ⌝ }
-    ensures { λ r. ⌜ r ≡ spanAt (clipAt (now (clips .entry)) k) py ⌝ }
+    ensures { λ r. ⌜ r ≡ maskAt (clipAt (now (clips .entry)) k) py ⌝ }
 {
     if py < number_at(clips, 4 * k + 2) {
-        return Span { from: 0, to: 0 };
+        return 0;
     }
     if number_at(clips, 4 * k + 3) <= py {
-        return Span { from: 0, to: 0 };
+        return 0;
     }
-    let from = number_at(clips, 4 * k);
-    let to = number_at(clips, 4 * k + 1);
-    Span { from, to }
+    half_at(clips, 4 * k + 1) * 4294967296 + half_at(clips, 4 * k)
 }

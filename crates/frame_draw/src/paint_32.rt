@@ -7,7 +7,7 @@ ghost use Rattle.frame_blocks.specs.Blocks.{rectsOf, RegionGood};
 ghost use Rattle.frame_blocks.specs.Judged.{inSet, SetSound};
 ghost use Rattle.frame_draw.specs.Draw.{stores, rowPlace, tileDrawn};
 ghost use Rattle.frame_draw.specs.Clips.{Clips};
-ghost use Rattle.frame_draw.specs.Spans.{always, partOf, spanned, Ends};
+ghost use Rattle.frame_draw.specs.Spans.{always, partOf, bitAt, InChannel};
 ghost use Rattle.frame_draw.specs.Shown.{tilesDrawn};
 ghost use Rattle.frame_draw.specs.Show.{Lists, tileWord};
 ghost use Rattle.tile_back.specs.Word.{Plane, wordAt};
@@ -25,7 +25,7 @@ fn put_part(picture: &mut [u32], w: usize, tx: usize, py: usize, row: &[u32])
     }
 }
 
-// Row y of a tile into its pixel row: the words that lie in a noted span; where one of them is the whole part, that is copied.
+// Row y of a tile into its pixel row: the words whose bits are set; where those are the whole part, that is copied.
 fn paint_row(
     picture: &mut [u32],
     s: crate::row::Strip,
@@ -33,25 +33,23 @@ fn paint_row(
     ys: &[i32],
     cbs: &[i32],
     crs: &[i32],
-    ends: &[u8],
+    mask: u64,
 )
-    requires { ⌜ (s .py * s .w + s .w ≤ length (now picture)) × (y < 64) × (s .tx < 65536) × Ends (partOf (s .w) (s .tx)) (now ends) × Plane (now ys) × Plane (now cbs) × Plane (now crs) ⌝ }
-    ensures { λ _. ⌜ now (picture .exit) ≡ stores (spanned (now (ends .entry))) (rowPlace (s .w) (s .tx) (s .py)) (λ (x : ℕ). wordAt 1 (now (ys .entry)) (now (cbs .entry)) (now (crs .entry)) (64 * y + x)) 64 0 (now (picture .entry)) ⌝ }
+    requires { ⌜ (s .py * s .w + s .w ≤ length (now picture)) × (y < 64) × (s .tx < 65536) × InChannel (s .w) (s .tx) mask × Plane (now ys) × Plane (now cbs) × Plane (now crs) ⌝ }
+    ensures { λ _. ⌜ now (picture .exit) ≡ stores (bitAt mask) (rowPlace (s .w) (s .tx) (s .py)) (λ (x : ℕ). wordAt 1 (now (ys .entry)) (now (cbs .entry)) (now (crs .entry)) (64 * y + x)) 64 0 (now (picture .entry)) ⌝ }
 {
     let w = s.w;
     let tx = s.tx;
     let py = s.py;
     let mut row = [0u32; 64];
     tile_back::words_row_32(ys, cbs, crs, y, &mut row[..]);
-    if crate::row::wide(ends[0]) == crate::clip::part_of(w, tx) {
+    if mask == crate::clip::mask_of(0, crate::clip::part_of(w, tx)) {
         put_part(picture, w, tx, py, &row[..]);
         return;
     }
-    let mut end = 0;
     let mut x = 0;
     while x < 64 {
-        end = crate::row::greater(end, crate::row::wide(ends[x]));
-        if x < end {
+        if (mask >> x) % 2 == 1 {
             picture[py * w + (64 * tx + x)] = row[x];
         }
         x += 1;
@@ -81,9 +79,9 @@ fn paint_tile(
     while y < rows {
         let py = 64 * ty + y;
         let strip = crate::row::Strip { w, tx, py, n };
-        let mut ends = [0u8; 64];
-        if crate::row::note_row(rects, clips, strip, &mut ends[..]) {
-            paint_row(picture, strip, y, ys, cbs, crs, &ends[..]);
+        let mask = crate::row::row_mask(rects, clips, strip);
+        if mask != 0 {
+            paint_row(picture, strip, y, ys, cbs, crs, mask);
         }
         y += 1;
     }

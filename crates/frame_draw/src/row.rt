@@ -1,28 +1,12 @@
 // Drawing, the sentence of document 01's "Blocks" on which words of the picture are changed, with document 02's request Three on a
-// region with no rectangles. A pixel row of a tile goes over the rectangles once: what each holds of the row is noted, up to the first
-// that holds all of it; then (`paint`, `paint_32`) each word is stored once, where tile, channel and rectangle agree. No picture is carried here.
+// region with no rectangles. A pixel row of a tile goes over the rectangles once: what each holds of the row's 64 words is 64 bits, and those
+// are put together; then (`paint`, `paint_32`) each word is stored once, where tile, channel and rectangle agree. No picture is carried here.
 ghost use mathlib.Core.Path.{_≡_};
-ghost use Prim.Native.Nat.{ℕ, _+_, _*_, _-_, _≤_, _<_, min, max};
-ghost use lib.ListN.{length, replicate};
+ghost use Prim.Native.Nat.{_+_, _*_, _≤_, _<_};
+ghost use lib.ListN.{length};
 ghost use Rattle.frame_draw.specs.Draw.{inside, holds};
 ghost use Rattle.frame_draw.specs.Clips.{Clips};
-ghost use Rattle.frame_draw.specs.Spans.{lastOf, noted, rowFirst, RowNoted, covers, asked};
-
-pub fn wide(b: u8) -> usize
-    ensures { λ r. ⌜ (r ≡ b) × (r < 256) ⌝ }
-{
-    b as usize
-}
-
-// The greater of two.
-pub fn greater(a: usize, b: usize) -> usize
-    ensures { λ r. ⌜ r ≡ max a b ⌝ }
-{
-    if a < b {
-        return b;
-    }
-    a
-}
+ghost use Rattle.frame_draw.specs.Spans.{lastOf, RowMask, covers, asked};
 
 // The last of a tile's columns (or rows) in the channel, counted in the picture.
 fn last_of(w: usize, tx: usize) -> usize
@@ -64,22 +48,6 @@ fn rect_holds(rects: &[u8], px: usize, py: usize, k: usize) -> bool
 
 // ---- a row
 
-// A span noted: at its first word its end, unless one is noted there that reaches as far.
-fn note(s: crate::clip::Span, ends: &mut [u8])
-    requires { ⌜ (length (now ends) ≡ 64) × (s .to ≤ 64) ⌝ }
-    ensures { λ _. ⌜ now (ends .exit) ≡ noted s (now (ends .entry)) ⌝ }
-{
-    let from = s.from;
-    let to = s.to;
-    if to <= from {
-        return;
-    }
-    if to <= wide(ends[from]) {
-        return;
-    }
-    ends[from] = to as u8;
-}
-
 // A pixel row of a tile: the channel's width, the tile's column, the row in the picture, and how many rectangles it is held against.
 pub struct Strip {
     pub w: usize,
@@ -88,53 +56,31 @@ pub struct Strip {
     pub n: usize,
 }
 
-// How many rectangles come before the first that has a word of the row: n where none has. Asked before the row is noted and its colours are made.
-// The rectangles are read from where they are kept for the tile; the region's bytes are what the promise speaks of.
-fn row_first(rects: &[u8], clips: &[i32], n: usize, w: usize, tx: usize, py: usize) -> usize
-    requires { ⌜ Clips (now rects) n w tx (now clips) ⌝ }
-    ensures { λ r. ⌜ r ≡ rowFirst (now (rects .entry)) n w tx py ⌝ }
-{
-    let mut k = 0;
-    while k < n {
-        let p = crate::clip::clip_span(clips, py, k);
-        if p.from < p.to {
-            return k;
-        }
-        k += 1;
-    }
-    n
-}
-
-// What the rectangles hold of a tile's pixel row, noted, in notes that have none yet; says whether it has a word that is drawn. From the first
-// rectangle that has a word of it on, they are left at the first that holds all of the row that lies in the channel; a region with none is
-// one rectangle over the whole channel.
-pub fn note_row(rects: &[u8], clips: &[i32], s: Strip, ends: &mut [u8]) -> bool
-    requires { ⌜ (s .tx < 65536) × Clips (now rects) (s .n) (s .w) (s .tx) (now clips) × (now ends ≡ replicate 64 0) ⌝ }
-    ensures { λ r. ⌜ RowNoted (now (rects .entry)) (s .n) (s .w) (s .tx) (s .py) (now (ends .exit)) r ⌝ }
+// The words of a tile's pixel row that are drawn, as the bits of a number. The rectangles are left at the first after which every word of the
+// row that lies in the channel is held; a region with none is one rectangle over the whole channel. They are read from where they are kept
+// for the tile; the region's bytes are what the promise speaks of.
+pub fn row_mask(rects: &[u8], clips: &[i32], s: Strip) -> u64
+    requires { ⌜ (s .tx < 65536) × Clips (now rects) (s .n) (s .w) (s .tx) (now clips) ⌝ }
+    ensures { λ r. ⌜ RowMask (now (rects .entry)) (s .n) (s .w) (s .tx) (s .py) r ⌝ }
 {
     let w = s.w;
     let tx = s.tx;
     let py = s.py;
     let n = s.n;
-    let part = crate::clip::part_of(w, tx);
+    let full = crate::clip::mask_of(0, crate::clip::part_of(w, tx));
     if n == 0 {
-        note(crate::clip::Span { from: 0, to: part }, ends);
-        return true;
+        return full;
     }
-    let first = row_first(rects, clips, n, w, tx, py);
-    if first == n {
-        return false;
-    }
-    let mut k = first;
+    let mut m: u64 = 0;
+    let mut k = 0;
     'rectangles: while k < n {
-        let p = crate::clip::clip_span(clips, py, k);
-        note(p, ends);
-        if wide(ends[0]) == part {
+        m = m | crate::clip::clip_mask(clips, py, k);
+        if m == full {
             break 'rectangles;
         }
         k += 1;
     }
-    true
+    m
 }
 
 // ---- a tile

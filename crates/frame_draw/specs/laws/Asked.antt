@@ -14,8 +14,8 @@ use Rattle.frame_draw.specs.laws.Draw.{region-all, region-is}
 use Rattle.frame_draw.specs.laws.Pixels.{split}
 use Rattle.frame_draw.specs.Spans.{lastOf, covers, asked}
 use Rattle.frame_draw.specs.laws.Search.{some-also}
-use Rattle.frame_draw.specs.laws.Note.{stores-on}
-use Rattle.frame_draw.specs.laws.Span.{inside-is, inside-yes}
+use Rattle.frame_draw.specs.laws.Stores.{stores-on}
+use Rattle.frame_draw.specs.laws.Mask.{inside-is, inside-yes}
 
 -- what is found
 module _ (rects : List ℕ) (n w h tx ty r b : ℕ) (right : r ≡ lastOf w tx) (bottom : b ≡ lastOf h ty) where

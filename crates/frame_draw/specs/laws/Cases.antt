@@ -14,7 +14,7 @@ use Rattle.whole.specs.laws.Row.{passes, fails, case-yes, case-no}
 use Rattle.frame_draw.specs.Draw.{inside, holds, some, inRegion, rowOn, rowDrawn, rowsDrawn, tileDrawn, shown}
 use Rattle.frame_draw.specs.laws.Draw.{region-all, region-is}
 use Rattle.frame_draw.specs.laws.Pixels.{split, pixel}
-use Rattle.frame_draw.specs.laws.Note.{stores-off}
+use Rattle.frame_draw.specs.laws.Stores.{stores-off}
 use Rattle.frame_draw.specs.Cases.{thin, Cases}
 
 whole : (px py : ℕ) → px < 64 → py < 64 → shown [] 0 0 0 px py ≡ true

@@ -1,15 +1,14 @@
 -- Laws of the loops that carry the picture, of words of any size: what is drawn of a row, of a tile and of a frame so far, and one step more.
 -- `paint` and `paint_32` both cite them, and say nothing else.
 -- Assumes nothing.
-use Prim.Native.Nat.{ℕ, _+_, _*_, _-_, _≤_, _<_, max}
+use Prim.Native.Nat.{ℕ, _+_, _*_, _-_, _/_, _%_, _^_, _≤_, _<_}
 use mathlib.Core.Path.{_≡_, refl, ap, sym, _∙_}
-use mathlib.Core.Bool.{Bool, true, false}
 use mathlib.Core.List.{List}
 use native.Mathlib.Omega.{arith}
 use native.Mathlib.Nat.{sub-zero}
 use lib.IntN.{ℤ}
 use lib.ListN.{length, getD, set, length-set}
-use borrow.Author.Tests.{lt-ltb, le-ltb}
+use borrow.Author.Tests.{eq-eqb, ne-eqb}
 use Rattle.whole.specs.laws.Row.{case-yes, case-no}
 use Rattle.frame_layout.specs.Bytes.{Tile}
 use Rattle.frame_layout.specs.Reader.{tilesFault, tilesIn, tileAt, dataOf, sizeAt, setAt, rectCount, quantCount, tileCount}
@@ -21,77 +20,67 @@ use Rattle.tile_back.specs.Word.{wordAt, WordsRow}
 use Rattle.frame_draw.specs.declared.row.Spot.{Spot}
 use Rattle.frame_draw.specs.Draw.{stores, rowPlace, rowDrawn, rowsDrawn, tileDrawn}
 use Rattle.frame_draw.specs.laws.Draw.{store-step, store-none, stores-same, row-length, rows-next, rows-done}
-use Rattle.frame_draw.specs.Spans.{always, partOf, far, spanned, Ends, RowNoted}
-use Rattle.frame_draw.specs.laws.Note.{far-next, far-most, spanned-whole}
-use Rattle.frame_draw.specs.laws.Span.{noted-drawn, none-drawn}
+use Rattle.frame_draw.specs.Spans.{always, partOf, bitAt, maskOf, InChannel, RowMask}
+use Rattle.frame_draw.specs.laws.Mask.{mask-drawn, none-drawn, mask-whole}
 use Rattle.frame_draw.specs.Shown.{tilesDrawn}
 use Rattle.frame_draw.specs.Show.{Lists, Ready, tileWord}
 use Rattle.frame_draw.specs.laws.Show.{shown-next, shown-none, ready-drawn, data-short}
 
 -- ---- a row
 
--- of a row's words those before x are in the picture, where they lie in a noted span; end is the farthest that is noted before x
-pub record Putting (ends row : List ℕ) (w tx py : ℕ) (first : List ℕ) (end x : ℕ) (pic : List ℕ) : Type 0 where
+-- of a row's words those before x are in the picture, where their bits are set
+pub record Putting (mask : ℕ) (row : List ℕ) (w tx py : ℕ) (first : List ℕ) (x : ℕ) (pic : List ℕ) : Type 0 where
   pub most : x ≤ 64
-  pub end-is : end ≡ far ends x
   pub len : length pic ≡ length first
   pub left :
-      stores (spanned ends) (rowPlace w tx py) (λ (j : ℕ). getD row j 0) 64 0 first
-      ≡ stores (spanned ends) (rowPlace w tx py) (λ (j : ℕ). getD row j 0) (64 - x) x pic
+      stores (bitAt mask) (rowPlace w tx py) (λ (j : ℕ). getD row j 0) 64 0 first
+      ≡ stores (bitAt mask) (rowPlace w tx py) (λ (j : ℕ). getD row j 0) (64 - x) x pic
 
-module _ (ends row : List ℕ) (w tx py : ℕ) where
-  pub put-none : (pic : List ℕ) → Putting ends row w tx py pic 0 0 pic
-  unfolding far
-  put-none pic = record { most = omega arith; end-is = refl; len = refl; left = rw sub-zero }
+module _ (mask : ℕ) (row : List ℕ) (w tx py : ℕ) where
+  pub put-none : (pic : List ℕ) → Putting mask row w tx py pic 0 pic
+  put-none pic = record { most = omega arith; len = refl; left = rw sub-zero }
 
-  module _ (first : List ℕ) (end x next : ℕ) (pic then : List ℕ) (g : Putting ends row w tx py first end x pic)
-      (e : next ≡ max end (getD ends x 0)) (l : x < 64) where
-    next-is : next ≡ far ends (x + 1)
-    next-is = let n = far-next ends x in omega (arith, g .end-is)
-
-    -- a word that is stored lies in the channel
-    pub put-place : Ends (partOf w tx) ends → x < next → 64 * tx + x < w
-    put-place f h = let m = far-most ends (partOf w tx) (x + 1) (f .most) in omega (arith, next-is)
-
-    pub put-in : x < next → then ≡ set pic (py * w + (64 * tx + x)) (getD row x 0) → Putting ends row w tx py first next (x + 1) then
-    unfolding spanned rowPlace
+  module _ (first : List ℕ) (x : ℕ) (pic then : List ℕ) (g : Putting mask row w tx py first x pic) (l : x < 64) where
+    pub put-in :
+        mask / 2 ^ x % 2 ≡ 1 → then ≡ set pic (py * w + (64 * tx + x)) (getD row x 0) → Putting mask row w tx py first (x + 1) then
+    unfolding bitAt rowPlace
     put-in h t =
         record {
           most = omega arith;
-          end-is = next-is;
           len = ap length t ∙ (length-set pic _ _ ∙ g .len);
-          left = g .left ∙ (store-step _ _ _ 64 x pic l
-              ∙ ap (stores _ _ _ _ _) (sym (case-yes _ _ _ _ (lt-ltb x (far ends (x + 1)) (omega (arith, next-is))) t)));
+          left = g .left ∙ (store-step _ _ _ 64 x pic l ∙ ap (stores _ _ _ _ _) (sym (case-yes _ _ _ _ (eq-eqb _ 1 h) t)));
         }
 
-    pub put-out : next ≤ x → then ≡ pic → Putting ends row w tx py first next (x + 1) then
-    unfolding spanned
+    pub put-out : (mask / 2 ^ x % 2 ≡ 1 → ⊥) → then ≡ pic → Putting mask row w tx py first (x + 1) then
+    unfolding bitAt
     put-out h t =
         record {
           most = omega arith;
-          end-is = next-is;
           len = ap length t ∙ g .len;
-          left = g .left ∙ (store-step _ _ _ 64 x pic l
-              ∙ ap (stores _ _ _ _ _) (sym (case-no _ _ _ _ (le-ltb x (far ends (x + 1)) (omega (arith, next-is))) t)));
+          left = g .left ∙ (store-step _ _ _ 64 x pic l ∙ ap (stores _ _ _ _ _) (sym (case-no _ _ _ _ (ne-eqb _ 1 h) t)));
         }
 
-  -- the whole row, by its words: put one by one, or, where one span is the whole part, that part
+  -- the whole row, by its words: put one by one, or, where all of its part is drawn, that part
   module _ (glass : ℕ) (ys cbs crs : List ℤ) (y : ℕ) (first last : List ℕ) (words : WordsRow glass ys cbs crs y row) where
     by-words :
-        last ≡ stores (spanned ends) (rowPlace w tx py) (λ (x : ℕ). getD row x 0) 64 0 first →
-        last ≡ stores (spanned ends) (rowPlace w tx py) (λ (x : ℕ). wordAt glass ys cbs crs (64 * y + x)) 64 0 first
+        last ≡ stores (bitAt mask) (rowPlace w tx py) (λ (x : ℕ). getD row x 0) 64 0 first →
+        last ≡ stores (bitAt mask) (rowPlace w tx py) (λ (x : ℕ). wordAt glass ys cbs crs (64 * y + x)) 64 0 first
     by-words e = e ∙ stores-same _ _ _ _ 64 0 first (words .word)
 
     pub put-all :
-        (end x : ℕ) → Putting ends row w tx py first end x last → 64 ≤ x →
-        last ≡ stores (spanned ends) (rowPlace w tx py) (λ (x : ℕ). wordAt glass ys cbs crs (64 * y + x)) 64 0 first
-    put-all end x g h = by-words (sym (g .left ∙ store-none _ _ _ 64 x last h))
+        (x : ℕ) → Putting mask row w tx py first x last → 64 ≤ x →
+        last ≡ stores (bitAt mask) (rowPlace w tx py) (λ (x : ℕ). wordAt glass ys cbs crs (64 * y + x)) 64 0 first
+    put-all x g h = by-words (sym (g .left ∙ store-none _ _ _ 64 x last h))
 
     pub put-whole :
-        Ends (partOf w tx) ends → getD ends 0 0 ≡ partOf w tx →
-        last ≡ stores always (rowPlace w tx py) (λ (x : ℕ). getD row x 0) (partOf w tx) 0 first →
-        last ≡ stores (spanned ends) (rowPlace w tx py) (λ (x : ℕ). wordAt glass ys cbs crs (64 * y + x)) 64 0 first
-    put-whole f h e = by-words (e ∙ spanned-whole _ _ _ _ _ (omega arith) f h)
+        mask ≡ maskOf 0 (partOf w tx) → last ≡ stores always (rowPlace w tx py) (λ (x : ℕ). getD row x 0) (partOf w tx) 0 first →
+        last ≡ stores (bitAt mask) (rowPlace w tx py) (λ (x : ℕ). wordAt glass ys cbs crs (64 * y + x)) 64 0 first
+    put-whole h e = by-words (e ∙ mask-whole _ _ _ _ _ (omega arith) h)
+
+-- a word that is stored lies in the channel
+pub put-place : (w tx mask x : ℕ) → InChannel w tx mask → x < 64 → mask / 2 ^ x % 2 ≡ 1 → 64 * tx + x < w
+unfolding bitAt
+put-place w tx mask x g l h = g .most x l (eq-eqb _ 1 h)
 
 -- ---- a tile
 
@@ -115,13 +104,13 @@ module _ (rects : List ℕ) (n : ℕ) (val : ℕ → ℕ) (w h tx ty : ℕ) wher
           left = g .left ∙ rows-next rects n val w h tx ty y pic then (omega arith) (omega arith) e;
         }
 
-    module _ (ends : List ℕ) (on : Bool) (noted : RowNoted rects n w tx (64 * ty + y) ends on) where
+    module _ (mask : ℕ) (masked : RowMask rects n w tx (64 * ty + y) mask) where
       pub paint-row :
-          then ≡ stores (spanned ends) (rowPlace w tx (64 * ty + y)) (λ (x : ℕ). val (64 * y + x)) 64 0 pic → Painting rects n val w h tx ty first (y + 1) then
-      paint-row e = one-row (e ∙ noted-drawn rects w tx (64 * ty + y) _ pic n ends on noted)
+          then ≡ stores (bitAt mask) (rowPlace w tx (64 * ty + y)) (λ (x : ℕ). val (64 * y + x)) 64 0 pic → Painting rects n val w h tx ty first (y + 1) then
+      paint-row e = one-row (e ∙ mask-drawn rects w tx (64 * ty + y) n mask masked _ pic)
 
-      pub paint-missed : on ≡ false → then ≡ pic → Painting rects n val w h tx ty first (y + 1) then
-      paint-missed o e = one-row (e ∙ none-drawn rects w tx (64 * ty + y) _ pic n ends on noted o)
+      pub paint-missed : mask ≡ 0 → then ≡ pic → Painting rects n val w h tx ty first (y + 1) then
+      paint-missed o e = one-row (e ∙ none-drawn rects w tx (64 * ty + y) n mask masked _ pic o)
 
   pub paint-all :
       (first : List ℕ) (y : ℕ) (last : List ℕ) → Painting rects n val w h tx ty first y last → (rows : ℕ) → rows ≡ partOf h ty → rows ≤ y →

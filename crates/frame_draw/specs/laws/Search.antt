@@ -10,7 +10,6 @@ use Rattle.whole.specs.laws.Row.{case-yes, case-no}
 use Rattle.frame_draw.specs.Draw.{some}
 use Rattle.frame_draw.specs.laws.Draw.{left}
 use Rattle.frame_draw.specs.laws.Pixels.{split}
-use Rattle.frame_draw.specs.Spans.{before}
 
 -- ---- tests
 
@@ -51,9 +50,10 @@ unfolding _!_⨾_
 alone true = refl
 alone false = refl
 
-pub not-so : (b : Bool) → (b ≡ true → ⊥) → b ≡ false
-not-so true f = absurd (f refl)
-not-so false f = refl
+pub nowhere : (t : Bool) → false ≡ (t ! false ⨾ false)
+unfolding _!_⨾_
+nowhere true = refl
+nowhere false = refl
 
 pub not-none : (n : ℕ) → (n ≡ 0 → ⊥) → 0 < n
 not-none zero f = absurd (f refl)
@@ -108,37 +108,3 @@ some-also on other (suc j) k f e =
     (λ (q : on k ≡ true). either _ _ (f k q))
     (λ (q : on k ≡ false). or-else _ _ (some-also on other j (k + 1) f (case-no _ _ _ _ q refl ∙ e)))
     (split (on k))
-
--- none comes before the first
-pub before-none : (on : ℕ → Bool) (j k : ℕ) → some on (before on j k) k ≡ false
-unfolding some before _⇒_∣_
-before-none on zero k = refl
-before-none on (suc j) k =
-    ⊎-elim
-    (λ (q : on k ≡ true). rw q refl)
-    (λ (q : on k ≡ false). rw (q, q) (before-none on j (k + 1)))
-    (split (on k))
-
-pub before-most : (on : ℕ → Bool) (j k : ℕ) → before on j k ≤ j
-unfolding before _⇒_∣_
-before-most on zero k = omega arith
-before-most on (suc j) k =
-    ⊎-elim
-    (λ (q : on k ≡ true). rw q (omega arith))
-    (λ (q : on k ≡ false). let l = before-most on j (k + 1) in rw q (omega arith))
-    (split (on k))
-
--- looked for from the first number on, one step at a time
-module _ (on : ℕ → Bool) (n k : ℕ) where
-  pub before-here : k < n → on k ≡ true → k + before on (n - k) k ≡ k
-  unfolding before
-  before-here l h = rw (left n k l) (let e : before on (suc (n - (k + 1))) k ≡ 0 = sym (case-yes _ _ _ _ h refl) in omega arith)
-
-  pub before-more : k < n → on k ≡ false → k + before on (n - k) k ≡ k + 1 + before on (n - (k + 1)) (k + 1)
-  unfolding before
-  before-more l h =
-      rw (left n k l) (let e : before on (suc (n - (k + 1))) k ≡ suc (before on (n - (k + 1)) (k + 1)) = sym (case-no _ _ _ _ h refl) in omega arith)
-
-  pub before-ends : n ≤ k → k + before on (n - k) k ≡ k
-  unfolding before
-  before-ends l = let z : n - k ≡ 0 = omega arith in rw z (omega arith)

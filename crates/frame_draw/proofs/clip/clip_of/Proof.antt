@@ -11,7 +11,7 @@ returns : tie.Need-returns
 unfolding clipOf
 returns c =
     let s = c .before .before .before .before .before .before in
-    (cc, subst⁻¹ SmallClip (c .clip-in .ensures) (clip-small _ _ _ _ _ _ (omega arith) (omega arith) (omega arith) (s .pre .1)))
+    (cc, subst⁻¹ SmallClip (c .clip-in .ensures) (clip-small _ _ _ _ _ _ (omega arith) (omega arith) (s .pre .1)))
 
 pub clip-of-spec : {M : Type 1} → statement M
 clip-of-spec =

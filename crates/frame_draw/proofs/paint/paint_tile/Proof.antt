@@ -1,10 +1,11 @@
--- `paint::paint_tile` meets its contract: row by row, each drawn from its notes or missed. Invariant: `Painting`.
+-- `paint::paint_tile` meets its contract: row by row, each drawn from its mask or missed. Invariant: `Painting`.
 use Prim.Native.Nat.{_+_, _*_, _-_}
-use mathlib.Core.Path.{refl, _∙_}
+use mathlib.Core.Path.{_∙_}
 use mathlib.Core.Logic.{⊎-elim}
 use native.Mathlib.Omega.{arith}
 use Rattle.tile_back.specs.Word.{wordAt}
 use Rattle.frame_draw.specs.laws.Draw.{row-room}
+use Rattle.frame_draw.specs.laws.Mask.{mask-in}
 use Rattle.frame_draw.specs.laws.Paint.{Painting, paint-none, paint-row, paint-missed, paint-all}
 use Rattle.frame_draw.proofs.paint.paint_tile.Statement.{statement}
 use Rattle.frame_draw.proofs.paint.paint_tile.Tie as tie
@@ -15,39 +16,26 @@ Inv-loop picture₀ ys cbs crs rects clips w h tx ty n rows y₀ picture y = Pai
 abbrev μ-loop : tie.MeasureT-loop
 μ-loop picture₀ ys cbs crs rects clips w h tx ty n rows y₀ picture y = 64 - y
 
-note-row-requires : tie.Need-note-row-requires Inv-loop μ-loop
-note-row-requires c κs =
-    let p = c .before .before .before .before .before .before in
-    (p .pre .2, p .pre .1, refl)
-
 paint-row-requires : tie.Need-paint-row-requires Inv-loop μ-loop
 paint-row-requires c κs =
-    let p = c .before .before .before .before in
-    let q = p .before .before in
-    let t = q .before in
-    let u = t .before in
-    let v = u .before .before .before in
-    let r = row-room (64 * v .args .s .ty + t .loop .y) (v .args .s .h) (v .args .s .w) (omega (arith, q .loop-test .taken, u .part-of .ensures)) in
-    let below = q .loop-test .taken in (
-      omega (arith, r, v .pre .0, t .loop .inv .len),
-      omega (arith, below, u .part-of .ensures),
-      v .pre .2,
-      p .note-row .ensures .fit,
-      v .pre .4,
-      v .pre .5,
-      v .pre .6,
+    let p = c .before .before .before .before .before .before .before .before .pre in
+    let a = c .before .before .before .before .before .before .before .before .args .s in
+    let r = row-room (64 * a .ty + c .before .before .before .before .loop .y) (a .h) (a .w) (omega (arith, c .before .before .before .loop-test .taken, c .before .before .before .before .before .part-of .ensures)) in (
+      omega (arith, r, p .0, c .before .before .before .before .loop .inv .len),
+      omega (arith, c .before .before .before .loop-test .taken, c .before .before .before .before .before .part-of .ensures),
+      p .2,
+      mask-in _ _ _ _ _ _ (c .before .before .row-mask .ensures),
+      p .4,
+      p .5,
+      p .6,
     )
 
 loop-again : tie.Need-loop-again Inv-loop μ-loop
 loop-again c =
-    let p = c .before .before in
-    let q = p .before .before in
-    let r = q .before in
-    let t = r .before in
-    let l = r .loop in
+    let m = c .before .row-mask .ensures in
     ⊎-elim
-    (λ v. paint-row _ _ _ _ _ _ _ _ _ _ _ (l .inv) _ (t .part-of .ensures) (q .loop-test .taken) _ _ (p .note-row .ensures) (v .6 ∙ v .3 .ensures))
-    (λ v. paint-missed _ _ _ _ _ _ _ _ _ _ _ (l .inv) _ (t .part-of .ensures) (q .loop-test .taken) _ _ (p .note-row .ensures) (v .0 .left) (v .1))
+    (λ v. paint-row _ _ _ _ _ _ _ _ _ _ _ (c .before .before .before .loop .inv) _ (c .before .before .before .before .part-of .ensures) (c .before .before .loop-test .taken) _ m (v .5 ∙ v .2 .ensures))
+    (λ v. paint-missed _ _ _ _ _ _ _ _ _ _ _ (c .before .before .before .loop .inv) _ (c .before .before .before .before .part-of .ensures) (c .before .before .loop-test .taken) _ m (v .0 .left) (v .1))
     (c .if1 .came)
 
 returns : tie.Need-returns Inv-loop μ-loop
@@ -57,5 +45,6 @@ pub paint-tile-spec : {M : Type 1} → statement M
 paint-tile-spec =
     tie.close
     (tie.spec Inv-loop μ-loop
-    (λ c κs. omega arith) (λ c. paint-none _ _ _ _ _ _ _ _) (λ c. omega arith) (λ c. omega arith) (λ c. omega arith) note-row-requires
-    (λ c. omega arith) paint-row-requires (λ c. omega arith) (λ c. omega arith) loop-again (λ c. c .before .loop .inv .len) returns)
+    (λ c κs. omega arith) (λ c. paint-none _ _ _ _ _ _ _ _) (λ c. omega arith) (λ c. omega arith)
+    (λ c κs. (c .before .before .before .before .before .pre .2, c .before .before .before .before .before .pre .1)) paint-row-requires
+    (λ c. omega arith) (λ c. omega arith) loop-again (λ c. c .before .loop .inv .len) returns)
