@@ -1,7 +1,7 @@
 -- Laws of a number's bits: of 0, of two numbers together, and of a mask.
 use Prim.Native.Nat.{ℕ, zero, suc, _+_, _*_, _-_, _/_, _%_, _^_, _≤_, _<_, max}
 use mathlib.Core.Path.{_≡_, refl, ap, sym, _∙_}
-use mathlib.Core.Bool.{Bool, true, false}
+use mathlib.Core.Bool.{true, false}
 use mathlib.Core.Logic.{⊎-elim}
 use native.Mathlib.Omega.{arith}
 use native.Mathlib.Nat.{mod-lt, zero-div, zero-mul, div-eq-of-lt, mul-assoc, pow-suc, le-refl, lt-of-lt-of-le}
@@ -9,7 +9,7 @@ use lib.Arith.{digits-mod, dbl-pred}
 use lib.Bits.{bitOr, or-step, or-shr, shifted-even}
 use lib.Dec.{ltb, leb, eqb}
 use lib.Pow.{pow-pos, pow-mono, pow-add, shl-lt, shl-exact, shl-shr, shr-shr, high, ones-lt, ones-split}
-use borrow.Author.Tests.{lt-ltb, le-ltb, le-leb, lt-leb, ltb-true, ltb-false, eqb-true, eqb-false, eq-eqb}
+use borrow.Author.Tests.{le-leb, lt-leb, ltb-true, ltb-false, eqb-true, eqb-false, eq-eqb}
 use Rattle.whole.specs.Row.{_!_⨾_, _⇒_∣_}
 use Rattle.whole.specs.laws.Row.{passes, fails, case-no}
 use Rattle.frame_draw.specs.Spans.{bitAt, maskOf}

@@ -126,8 +126,8 @@ module _ (k : ℕ) (c : Clip) (zs : List ℤ) where
   not-end : (i : ℕ) → (i ≡ 4 * k + 3 → ⊥) → at (withClip k c zs) i ≡ at three i
   not-end i f = getD-set-other three (4 * k + 3) i (pos (c .end)) (pos 0) f
 
-  not-highp : (i : ℕ) → (i ≡ 4 * k + 2 → ⊥) → at three i ≡ at two i
-  not-highp i f = getD-set-other two (4 * k + 2) i (pos (c .top)) (pos 0) f
+  not-top : (i : ℕ) → (i ≡ 4 * k + 2 → ⊥) → at three i ≡ at two i
+  not-top i f = getD-set-other two (4 * k + 2) i (pos (c .top)) (pos 0) f
 
   not-high : (i : ℕ) → (i ≡ 4 * k + 1 → ⊥) → at two i ≡ at one i
   not-high i f = getD-set-other one (4 * k + 1) i (halfIn (c .mask / 4294967296)) (pos 0) f
@@ -135,7 +135,7 @@ module _ (k : ℕ) (c : Clip) (zs : List ℤ) where
   put-before : (i : ℕ) → i < 4 * k → at (withClip k c zs) i ≡ at zs i
   put-before i l =
       not-end i (λ e. omega arith)
-      ∙ (not-highp i (λ e. omega arith)
+      ∙ (not-top i (λ e. omega arith)
       ∙ (not-high i (λ e. omega arith) ∙ getD-set-other zs (4 * k) i (halfIn (c .mask % 4294967296)) (pos 0) (λ e. omega arith)))
 
   pub put-stays : (d : Clip) (j : ℕ) → j < k → Clipped d j zs → Clipped d j (withClip k c zs)
@@ -153,11 +153,11 @@ module _ (k : ℕ) (c : Clip) (zs : List ℤ) where
       record {
         low =
             not-end (4 * k) (λ e. omega arith)
-            ∙ (not-highp (4 * k) (λ e. omega arith)
+            ∙ (not-top (4 * k) (λ e. omega arith)
             ∙ (not-high (4 * k) (λ e. omega arith) ∙ getD-set-same zs (4 * k) (halfIn (c .mask % 4294967296)) (pos 0) (omega arith)));
         high =
             not-end (4 * k + 1) (λ e. omega arith)
-            ∙ (not-highp (4 * k + 1) (λ e. omega arith)
+            ∙ (not-top (4 * k + 1) (λ e. omega arith)
             ∙ getD-set-same one (4 * k + 1) (halfIn (c .mask / 4294967296)) (pos 0) (let e = long-one in omega arith));
         top =
             not-end (4 * k + 2) (λ e. omega arith)

@@ -1,5 +1,5 @@
 -- `clip::clip_rects` meets its contract. Invariant: the first k rectangles are kept.
-use Prim.Native.Nat.{_≤_, _-_, _+_, _*_}
+use Prim.Native.Nat.{_≤_, _-_}
 use mathlib.Core.Path.{_≡_, refl, _∙_}
 use native.Mathlib.Omega.{arith}
 use lib.ListN.{length}

@@ -18,24 +18,31 @@ abbrev μ-loop : tie.MeasureT-loop
 
 paint-row-requires : tie.Need-paint-row-requires Inv-loop μ-loop
 paint-row-requires c κs =
-    let p = c .before .before .before .before .before .before .before .before .pre in
-    let a = c .before .before .before .before .before .before .before .before .args .s in
-    let r = row-room (64 * a .ty + c .before .before .before .before .loop .y) (a .h) (a .w) (omega (arith, c .before .before .before .loop-test .taken, c .before .before .before .before .before .part-of .ensures)) in (
-      omega (arith, r, p .0, c .before .before .before .before .loop .inv .len),
-      omega (arith, c .before .before .before .loop-test .taken, c .before .before .before .before .before .part-of .ensures),
-      p .2,
-      mask-in _ _ _ _ _ _ (c .before .before .row-mask .ensures),
-      p .4,
-      p .5,
-      p .6,
+    let p = c .before .before in
+    let q = p .before in
+    let t = q .before in
+    let u = t .before in
+    let v = u .before .before .before in
+    let r = row-room (64 * v .args .s .ty + t .loop .y) (v .args .s .h) (v .args .s .w) (omega (arith, q .loop-test .taken, u .part-of .ensures)) in (
+      omega (arith, r, v .pre .0, t .loop .inv .len),
+      omega (arith, q .loop-test .taken, u .part-of .ensures),
+      v .pre .2,
+      mask-in _ _ _ _ _ _ (p .row-mask .ensures),
+      v .pre .4,
+      v .pre .5,
+      v .pre .6,
     )
 
 loop-again : tie.Need-loop-again Inv-loop μ-loop
 loop-again c =
-    let m = c .before .row-mask .ensures in
+    let p = c .before in
+    let q = p .before in
+    let r = q .before in
+    let t = r .before in
+    let l = r .loop in
     ⊎-elim
-    (λ v. paint-row _ _ _ _ _ _ _ _ _ _ _ (c .before .before .before .loop .inv) _ (c .before .before .before .before .part-of .ensures) (c .before .before .loop-test .taken) _ m (v .5 ∙ v .2 .ensures))
-    (λ v. paint-missed _ _ _ _ _ _ _ _ _ _ _ (c .before .before .before .loop .inv) _ (c .before .before .before .before .part-of .ensures) (c .before .before .loop-test .taken) _ m (v .0 .left) (v .1))
+    (λ v. paint-row _ _ _ _ _ _ _ _ _ _ _ (l .inv) _ (t .part-of .ensures) (q .loop-test .taken) _ (p .row-mask .ensures) (v .5 ∙ v .2 .ensures))
+    (λ v. paint-missed _ _ _ _ _ _ _ _ _ _ _ (l .inv) _ (t .part-of .ensures) (q .loop-test .taken) _ (p .row-mask .ensures) (v .0 .left) (v .1))
     (c .if1 .came)
 
 returns : tie.Need-returns Inv-loop μ-loop

@@ -1,6 +1,6 @@
 -- `row::row_mask` meets its contract: a law of specs/laws/Mask for each way out. Invariant: the mask of the first k rectangles.
-use Prim.Native.Nat.{_≤_, _-_, _+_, _*_}
-use mathlib.Core.Path.{_≡_, ap, _∙_}
+use Prim.Native.Nat.{_≤_, _-_, _+_}
+use mathlib.Core.Path.{ap, _∙_}
 use native.Mathlib.Omega.{arith}
 use lib.Bits.{bitOr}
 use Rattle.frame_draw.specs.Spans.{maskOf}
@@ -41,12 +41,17 @@ rectangles-again c = (omega (arith, c .before .before .rectangles-test .taken), 
 
 returns-2 : tie.Need-returns-2 Inv-rectangles μ-rectangles
 returns-2 c =
-    row-masked _ _ _ _ _ _ (not-none _ (c .before .before .if1 .left)) (masked-all _ _ _ _ _ _ _ (c .before .rectangles .inv .0) (c .rectangles-test .left) (c .before .rectangles .inv .1))
+    let p = c .before in
+    let all = masked-all _ _ _ _ _ _ _ (p .rectangles .inv .0) (c .rectangles-test .left) (p .rectangles .inv .1) in
+    row-masked _ _ _ _ _ _ (not-none _ (p .before .if1 .left)) all
 
 returns-3 : tie.Need-returns-3 Inv-rectangles μ-rectangles
 returns-3 c =
-    let whole = c .if2 .taken ∙ (c .before .before .before .before .before .mask-of .ensures ∙ ap (maskOf 0) (c .before .before .before .before .before .before .part-of .ensures)) in
-    row-masked _ _ _ _ _ _ (not-none _ (c .before .before .before .before .if1 .left)) (masked-whole _ _ _ _ _ _ _ (omega (arith, c .before .before .rectangles-test .taken)) (next (c .before)) whole)
+    let p = c .before in
+    let q = p .before .before .before in
+    let whole = c .if2 .taken ∙ (q .before .mask-of .ensures ∙ ap (maskOf 0) (q .before .before .part-of .ensures)) in
+    row-masked _ _ _ _ _ _ (not-none _ (q .if1 .left))
+    (masked-whole _ _ _ _ _ _ _ (omega (arith, p .before .rectangles-test .taken)) (next p) whole)
 
 pub row-mask-spec : {M : Type 1} → statement M
 row-mask-spec =
