@@ -63,8 +63,9 @@ fn frame(rects: &[Rect], places: &[(usize, usize)], codes: &[Codes]) -> Vec<u8> 
     out
 }
 
-/// 256 rectangles on w x h, by nine rules; most are aimed at the tiles of the first column.
-pub const RULES: [&str; 9] = [
+/// 256 rectangles on w x h, by eleven rules; most are aimed at the tiles of the first column. The last two hold no row whole, and no two of their rectangles
+/// are alike.
+pub const RULES: [&str; 11] = [
     "of width 0",
     "of width 1, side by side",
     "of width 1, in one tile",
@@ -74,6 +75,8 @@ pub const RULES: [&str; 9] = [
     "left and right of a column in turn",
     "of width 0, the last over all but a column",
     "here and there in one tile",
+    "each reaching a column further",
+    "of width 1, each ending at another row",
 ];
 
 fn rect(rule: usize, k: u16, w: u16, h: u16) -> Rect {
@@ -88,7 +91,9 @@ fn rect(rule: usize, k: u16, w: u16, h: u16) -> Rect {
         6 => [33, 0, w, h],
         7 if k < 255 => [0, 0, 0, h],
         7 => [1, 0, w, h],
-        _ => [k * 37 % 61 + 1, k * 11 % 60, k * 7 % 50 + 1, h],
+        8 => [k * 37 % 61 + 1, k * 11 % 60, k * 7 % 50 + 1, h],
+        9 => [k % 60, 0, 1 + k / 60, h],
+        _ => [k * 5 % 63, 0, 1, 64 - k % 64],
     }
 }
 
