@@ -39,9 +39,9 @@ rectangles-again c =
     let on = sym (p .clip-on .ensures) in (
       omega (arith, q .rectangles-test .taken),
       ⊎-elim
-      (λ v. masked-next _ _ _ _ _ _ _ _ (g .1) is _ (on ∙ v .0 .taken) (v .1 .ensures) (v .3))
-      (λ v. masked-missed _ _ _ _ _ _ _ _ (g .1) is (on ∙ v .0 .left) (v .1))
-      (c .if2 .came),
+          (λ v. masked-next _ _ _ _ _ _ _ _ (g .1) is _ (on ∙ v .0 .taken) (v .1 .ensures) (v .3))
+          (λ v. masked-missed _ _ _ _ _ _ _ _ (g .1) is (on ∙ v .0 .left) (v .1))
+          (c .if2 .came),
     )
 
 returns-2 : tie.Need-returns-2 Inv-rectangles μ-rectangles
