@@ -1,8 +1,9 @@
 -- A region's rectangles against a tile's columns, the form of the code: its columns as the bits of a number, and its rows; kept as four numbers in a
--- list of signed numbers, two of them for the bits. laws/Mask shows that bit x of what it has of a row is set exactly if it holds word x.
+-- list of signed numbers, two of them for the bits. laws/Mask shows that it lies on a row and has bit x set exactly if it holds word x there.
 use Prim.Native.Nat.{ℕ, _+_, _*_, _-_, _/_, _%_, _≤_, _<_, min}
 use mathlib.Core.Path.{_≡_}
 use mathlib.Core.List.{List}
+use mathlib.Core.Bool.{Bool, false}
 use lib.Dec.{ltb, leb}
 use lib.IntN.{ℤ, pos, natAbs, _+ℤ_, _-ℤ_}
 use lib.ListN.{length, set}
@@ -20,12 +21,9 @@ clipIn x y w h a part = record { mask = maskOf (x - a) (min part (x + w - a)); t
 unfoldable pub clipOf : List ℕ → ℕ → ℕ → ℕ → Clip
 clipOf rects a part k = clipIn (le16 rects (8 * k)) (le16 rects (8 * k + 2)) (le16 rects (8 * k + 4)) (le16 rects (8 * k + 6)) a part
 
--- what it holds of pixel row py
-unfoldable pub maskAt : Clip → ℕ → ℕ
-maskAt c py =
-    leb (c .top) py ! 0 ⨾
-    ltb py (c .end) ! 0 ⨾
-    c .mask
+-- it lies on pixel row py
+unfoldable pub onRow : Clip → ℕ → Bool
+onRow c py = leb (c .top) py ! false ⨾ ltb py (c .end)
 
 -- ---- kept in a list
 

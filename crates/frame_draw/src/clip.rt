@@ -7,7 +7,7 @@ ghost use lib.IntN.{pos, natAbs};
 ghost use lib.ListN.{length, set};
 ghost use Rattle.whole.specs.Tab.{at};
 ghost use Rattle.frame_draw.specs.Spans.{partOf, maskOf};
-ghost use Rattle.frame_draw.specs.Clips.{clipIn, clipOf, maskAt, halfIn, halfOf, clipAt, withClip, Clipped, SmallClip, Clips};
+ghost use Rattle.frame_draw.specs.Clips.{clipIn, clipOf, onRow, halfIn, halfOf, clipAt, withClip, Clipped, SmallClip, Clips};
 
 // A rectangle against a tile: its words of the tile's row, on the picture's rows from one on to before another.
 pub struct Clip {
@@ -131,16 +131,21 @@ fn half_at(list: &[i32], i: usize) -> u64
     (list[i] as i64 + 2147483648) as u64
 }
 
-// What rectangle k holds of pixel row py.
-pub fn clip_mask(clips: &[i32], py: usize, k: usize) -> u64
+// Rectangle k lies on pixel row py.
+pub fn clip_on(clips: &[i32], py: usize, k: usize) -> bool
     requires { ⌜ (4 * k + 4 ≤ length (now clips)) × Clipped (clipAt (now clips) k) k (now clips) ⌝ }
-    ensures { λ r. ⌜ r ≡ maskAt (clipAt (now (clips .entry)) k) py ⌝ }
+    ensures { λ r. ⌜ r ≡ onRow (clipAt (now (clips .entry)) k) py ⌝ }
 {
     if py < number_at(clips, 4 * k + 2) {
-        return 0;
+        return false;
     }
-    if number_at(clips, 4 * k + 3) <= py {
-        return 0;
-    }
+    py < number_at(clips, 4 * k + 3)
+}
+
+// What rectangle k holds of the rows that it lies on.
+pub fn clip_mask(clips: &[i32], k: usize) -> u64
+    requires { ⌜ 4 * k + 4 ≤ length (now clips) ⌝ }
+    ensures { λ r. ⌜ r ≡ clipAt (now (clips .entry)) k .mask ⌝ }
+{
     half_at(clips, 4 * k + 1) * 4294967296 + half_at(clips, 4 * k)
 }

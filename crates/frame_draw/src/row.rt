@@ -74,9 +74,11 @@ pub fn row_mask(rects: &[u8], clips: &[i32], s: Strip) -> u64
     let mut m: u64 = 0;
     let mut k = 0;
     'rectangles: while k < n {
-        m = m | crate::clip::clip_mask(clips, py, k);
-        if m == full {
-            break 'rectangles;
+        if crate::clip::clip_on(clips, py, k) {
+            m = m | crate::clip::clip_mask(clips, k);
+            if m == full {
+                break 'rectangles;
+            }
         }
         k += 1;
     }

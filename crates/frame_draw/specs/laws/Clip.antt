@@ -23,7 +23,7 @@ use Rattle.frame_draw.specs.declared.clip.Clip.{Clip}
 use Rattle.frame_draw.specs.Spans.{partOf}
 use Rattle.frame_draw.specs.laws.Bits.{mask-small}
 use Rattle.frame_draw.specs.laws.Pixels.{split}
-use Rattle.frame_draw.specs.Clips.{clipIn, clipOf, maskAt, halfIn, halfOf, clipAt, withClip, Clipped, SmallClip, Clips}
+use Rattle.frame_draw.specs.Clips.{clipIn, clipOf, halfIn, halfOf, clipAt, withClip, Clipped, SmallClip, Clips}
 
 -- a clip's numbers are small, since a rectangle's are
 pub clip-small : (x y w h a part : ℕ) → y < 65536 → h < 65536 → part ≤ 64 → SmallClip (clipIn x y w h a part)
@@ -199,12 +199,12 @@ module _ (rects : List ℕ) (w tx : ℕ) (zs : List ℤ) where
   pub clips-all : (n k : ℕ) → k ≤ n → n ≤ k → Clips rects k w tx zs → Clips rects n w tx zs
   clips-all n k l m g = let e : k ≡ n = omega arith in subst (λ (z : ℕ). Clips rects z w tx zs) e g
 
-  module _ (n : ℕ) (g : Clips rects n w tx zs) (k py : ℕ) (l : k < n) where
+  module _ (n : ℕ) (g : Clips rects n w tx zs) (k : ℕ) (l : k < n) where
     pub clip-room : 4 * k + 4 ≤ length zs
     clip-room = omega (arith, g .room)
 
     pub clip-counts : Clipped (clipAt zs k) k zs
     clip-counts = clip-there _ k zs (g .each k l)
 
-    pub clip-is : maskAt (clipAt zs k) py ≡ maskAt (clipOf rects (64 * tx) (partOf w tx) k) py
-    clip-is = ap (λ (c : Clip). maskAt c py) (clip-read _ k zs (g .each k l))
+    pub clip-is : clipAt zs k ≡ clipOf rects (64 * tx) (partOf w tx) k
+    clip-is = clip-read _ k zs (g .each k l)

@@ -3,7 +3,6 @@ use Prim.Native.Nat.{ℕ, _+_, _*_, _-_, _≤_, _<_, min}
 use mathlib.Core.Path.{_≡_, refl, ap, sym, _∙_, subst}
 use mathlib.Core.Bool.{Bool, true, false, true≢false}
 use mathlib.Core.List.{List}
-use mathlib.Core.Logic.{⊎-elim}
 use native.Mathlib.Omega.{arith}
 use native.Mathlib.Numerals.{add-one}
 use native.Mathlib.Nat.{zero-add}
@@ -12,12 +11,12 @@ use lib.Dec.{ltb, leb}
 use borrow.Author.Tests.{lt-ltb, le-leb, ltb-true, leb-true}
 use Rattle.whole.specs.Row.{_!_⨾_, _⇒_∣_}
 use Rattle.whole.specs.laws.Row.{passes, fails, held}
+use Rattle.frame_draw.specs.declared.clip.Clip.{Clip}
 use Rattle.frame_draw.specs.Draw.{inside, holds, some, stores, rowOn, rowPlace, rowDrawn}
 use Rattle.frame_draw.specs.Spans.{always, partOf, bitAt, maskOf, InChannel, RowMask}
-use Rattle.frame_draw.specs.Clips.{clipIn, clipOf, maskAt}
+use Rattle.frame_draw.specs.Clips.{clipIn, clipOf, onRow}
 use Rattle.frame_draw.specs.laws.Draw.{region-all, region-is}
-use Rattle.frame_draw.specs.laws.Pixels.{split}
-use Rattle.frame_draw.specs.laws.Search.{same, behind, alone, nowhere, some-last, some-wider}
+use Rattle.frame_draw.specs.laws.Search.{same, behind, alone, nowhere, or-none, some-last, some-wider}
 use Rattle.frame_draw.specs.laws.Stores.{stores-on, stores-off, stores-first}
 use Rattle.frame_draw.specs.laws.Bits.{bit-none, bit-or, bit-mask, bit-first}
 
@@ -36,35 +35,31 @@ module _ (x y w h px py : ℕ) where
   unfolding inside
   inside-yes a b c d = sym (passes _ _ _ _ (le-leb _ _ a) (passes _ _ _ _ (lt-ltb _ _ b) (passes _ _ _ _ (le-leb _ _ c) (sym (lt-ltb _ _ d)))))
 
-module _ (x y v h a part py : ℕ) where
-  mask-there : y ≤ py → py < y + h → maskAt (clipIn x y v h a part) py ≡ maskOf (x - a) (min part (x + v - a))
-  unfolding maskAt clipIn
-  mask-there l m = sym (passes _ _ _ _ (le-leb _ _ l) (passes _ _ _ _ (lt-ltb _ _ m) refl))
+module _ (x y v h a part : ℕ) where
+  clip-on-is : (py : ℕ) → onRow (clipIn x y v h a part) py ≡ true → (y ≤ py) × (py < y + h)
+  unfolding onRow clipIn
+  clip-on-is py e = let a = held (leb y py) false _ true true≢false (sym e) in (leb-true _ _ (a .0), ltb-true _ _ (sym (a .1)))
 
-  -- where it has a word, the rectangle has the row
-  mask-row : (i : ℕ) → bitAt (maskAt (clipIn x y v h a part) py) i ≡ true → (y ≤ py) × (py < y + h)
-  unfolding maskAt clipIn
-  mask-row i e =
-      ⊎-elim
-      (λ (q : leb y py ≡ true).
-      ⊎-elim
-      (λ (r : ltb py (y + h) ≡ true). (leb-true _ _ q, ltb-true _ _ r))
-      (λ (r : ltb py (y + h) ≡ false).
-      absurd (true≢false (sym e ∙ (ap (λ (z : ℕ). bitAt z i) (sym (passes _ _ _ _ q (fails _ _ _ _ r refl))) ∙ bit-none i))))
-      (split (ltb py (y + h))))
-      (λ (q : leb y py ≡ false). absurd (true≢false (sym e ∙ (ap (λ (z : ℕ). bitAt z i) (sym (fails _ _ _ _ q refl)) ∙ bit-none i))))
-      (split (leb y py))
+  clip-on-yes : (py : ℕ) → y ≤ py → py < y + h → onRow (clipIn x y v h a part) py ≡ true
+  unfolding onRow clipIn
+  clip-on-yes py l m = sym (passes _ _ _ _ (le-leb _ _ l) (sym (lt-ltb _ _ m)))
 
--- its words of a tile's row, in the channel: the bits that are set
+  clip-bit : (i : ℕ) → bitAt (clipIn x y v h a part .mask) i ≡ (leb (x - a) i ! false ⨾ ltb i (min part (x + v - a)))
+  unfolding clipIn
+  clip-bit i = bit-mask _ _ i
+
+-- its words of a tile's row, in the channel: the bits that are set, where it lies on the row
 module _ (x y v h w tx py i : ℕ) (l : i < 64) where
-  mask-words :
-      bitAt (maskAt (clipIn x y v h (64 * tx) (partOf w tx)) py) i ≡ (ltb (64 * tx + i) w ! false ⨾ inside x y v h (64 * tx + i) py)
-  mask-words =
+  abbrev clip : Clip
+  clip = clipIn x y v h (64 * tx) (partOf w tx)
+
+  clip-words : (onRow clip py ! false ⨾ bitAt (clip .mask) i) ≡ (ltb (64 * tx + i) w ! false ⨾ inside x y v h (64 * tx + i) py)
+  clip-words =
       same _ _
       (λ e.
-      let r = mask-row x y v h (64 * tx) (partOf w tx) py i e in
-      let q = ap (λ (z : ℕ). bitAt z i) (mask-there x y v h (64 * tx) (partOf w tx) py (r .0) (r .1)) ∙ bit-mask _ _ i in
-      let a = held (leb (x - 64 * tx) i) false _ true true≢false (sym e ∙ q) in
+      let o = held (onRow clip py) false _ true true≢false (sym e) in
+      let r = clip-on-is x y v h (64 * tx) (partOf w tx) py (o .0) in
+      let a = held (leb (x - 64 * tx) i) false _ true true≢false (o .1 ∙ clip-bit x y v h (64 * tx) (partOf w tx) i) in
       let d : x - 64 * tx ≤ i = leb-true _ _ (a .0) in
       let f : i < min (partOf w tx) (x + v - 64 * tx) = ltb-true _ _ (sym (a .1)) in
       sym (passes _ _ _ _ (lt-ltb (64 * tx + i) w (omega arith)) (sym (inside-yes x y v h (64 * tx + i) py (omega arith) (omega arith) (r .0) (r .1)))))
@@ -72,8 +67,9 @@ module _ (x y v h w tx py i : ℕ) (l : i < 64) where
       let a = held (ltb (64 * tx + i) w) false _ true true≢false (sym e) in
       let c : 64 * tx + i < w = ltb-true _ _ (a .0) in
       let b = inside-is x y v h (64 * tx + i) py (sym (a .1)) in
-      let q = ap (λ (z : ℕ). bitAt z i) (mask-there x y v h (64 * tx) (partOf w tx) py (b .2) (b .3)) ∙ bit-mask _ _ i in
-      q ∙ sym (passes _ _ _ _ (le-leb (x - 64 * tx) i (omega arith)) (sym (lt-ltb i (min (partOf w tx) (x + v - 64 * tx)) (omega arith)))))
+      let u = lt-ltb i (min (partOf w tx) (x + v - 64 * tx)) (omega arith) in
+      let q = clip-bit x y v h (64 * tx) (partOf w tx) i ∙ sym (passes _ _ _ _ (le-leb (x - 64 * tx) i (omega arith)) (sym u)) in
+      sym (passes _ _ _ _ (clip-on-yes x y v h (64 * tx) (partOf w tx) py (b .2) (b .3)) (sym q)))
 
 -- ---- a row
 
@@ -95,9 +91,12 @@ in-part w tx x l =
     (λ e. let a = ltb-true x (partOf w tx) e in lt-ltb (64 * tx + x) w (omega arith))
 
 module _ (rects : List ℕ) (w tx py : ℕ) where
-  rect-words : (k x : ℕ) → x < 64 → bitAt (maskAt (clipOf rects (64 * tx) (partOf w tx) k) py) x ≡ rectOn rects k w tx py x
+  abbrev clipped : ℕ → Clip
+  clipped k = clipOf rects (64 * tx) (partOf w tx) k
+
+  rect-words : (k x : ℕ) → x < 64 → (onRow (clipped k) py ! false ⨾ bitAt (clipped k .mask) x) ≡ rectOn rects k w tx py x
   unfolding rectOn holds clipOf
-  rect-words k x l = mask-words _ _ _ _ w tx py x l
+  rect-words k x l = clip-words _ _ _ _ w tx py x l
 
   row-next : (k x : ℕ) → rowTo rects (k + 1) w tx py x ≡ (rowTo rects k w tx py x ⇒ true ∣ rectOn rects k w tx py x)
   unfolding rowTo rectOn
@@ -110,16 +109,30 @@ module _ (rects : List ℕ) (w tx py : ℕ) where
   unfolding rowTo some
   masked-none = record { words = λ x l. bit-none x ∙ nowhere (ltb (64 * tx + x) w) }
 
-  -- one rectangle more
-  pub masked-next :
-      (k m more : ℕ) → Masked rects k w tx py m → more ≡ maskAt (clipOf rects (64 * tx) (partOf w tx) k) py → Masked rects (k + 1) w tx py (bitOr m more)
-  masked-next k m more g e =
-      record {
-        words = λ x l.
-            bit-or m more x
-            ∙ (ap (λ (b : Bool). b ⇒ true ∣ bitAt more x) (g .words x l)
-            ∙ (ap (λ (b : Bool). rowTo rects k w tx py x ⇒ true ∣ b) (ap (λ (z : ℕ). bitAt z x) e ∙ rect-words k x l) ∙ sym (row-next k x)));
-      }
+  -- one rectangle more, which lies on the row or does not
+  module _ (k m then : ℕ) (c : Clip) (g : Masked rects k w tx py m) (e : c ≡ clipped k) where
+    on-is : onRow (clipped k) py ≡ onRow c py
+    on-is = ap (λ (d : Clip). onRow d py) (sym e)
+
+    pub masked-next : (more : ℕ) → onRow c py ≡ true → more ≡ c .mask → then ≡ bitOr m more → Masked rects (k + 1) w tx py then
+    masked-next more o f t =
+        record {
+          words = λ x l.
+              let bit = ap (λ (z : ℕ). bitAt z x) (f ∙ ap (λ (d : Clip). d .mask) e) ∙ (passes _ _ _ _ (on-is ∙ o) refl ∙ rect-words k x l) in
+              ap (λ (z : ℕ). bitAt z x) t
+              ∙ (bit-or m more x
+              ∙ (ap (λ (b : Bool). b ⇒ true ∣ bitAt more x) (g .words x l)
+              ∙ (ap (λ (b : Bool). rowTo rects k w tx py x ⇒ true ∣ b) bit ∙ sym (row-next k x))));
+        }
+
+    pub masked-missed : onRow c py ≡ false → then ≡ m → Masked rects (k + 1) w tx py then
+    masked-missed o t =
+        record {
+          words = λ x l.
+              let none = fails _ _ _ _ (on-is ∙ o) refl ∙ rect-words k x l in
+              ap (λ (z : ℕ). bitAt z x) t
+              ∙ (g .words x l ∙ (sym (or-none _) ∙ (ap (λ (b : Bool). rowTo rects k w tx py x ⇒ true ∣ b) none ∙ sym (row-next k x))));
+        }
 
   -- all rectangles
   pub masked-all : (n k m : ℕ) → k ≤ n → n ≤ k → Masked rects k w tx py m → Masked rects n w tx py m

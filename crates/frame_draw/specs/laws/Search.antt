@@ -29,7 +29,7 @@ unfolding _⇒_∣_
 or-else true b e = refl
 or-else false b e = e
 
-or-none : (a : Bool) → (a ⇒ true ∣ false) ≡ a
+pub or-none : (a : Bool) → (a ⇒ true ∣ false) ≡ a
 unfolding _⇒_∣_
 or-none true = refl
 or-none false = refl

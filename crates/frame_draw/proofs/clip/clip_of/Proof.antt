@@ -1,5 +1,5 @@
 -- `clip::clip_of` meets its contract: the four numbers are read, and `clip_in` does the rest.
-use mathlib.Core.Path.{_≡_, subst⁻¹}
+use mathlib.Core.Path.{subst⁻¹}
 use native.Mathlib.Omega.{arith}
 use Rattle.frame_draw.specs.Clips.{clipOf, SmallClip}
 use Rattle.frame_draw.specs.laws.Clip.{clip-small}
