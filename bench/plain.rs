@@ -33,7 +33,7 @@ impl<'a> Bits<'a> {
     }
 
     /// At least 56 bits, or all that are left.
-    #[inline]
+    #[inline(always)]
     fn refill(&mut self) {
         if let Some(word) = self.bytes.get(self.next..self.next + 8) {
             self.window |= u64::from_be_bytes(word.try_into().unwrap()) >> self.have;
@@ -51,13 +51,13 @@ impl<'a> Bits<'a> {
     }
 
     /// n is at most `have`, and that at most 63.
-    #[inline]
+    #[inline(always)]
     fn skip(&mut self, n: u32) {
         self.window <<= n;
         self.have -= n;
     }
 
-    #[inline]
+    #[inline(always)]
     fn bits(&mut self, n: u32) -> Result<u32, u8> {
         if self.have < n {
             self.refill();
@@ -74,7 +74,7 @@ impl<'a> Bits<'a> {
     }
 
     /// Ones up to a zero, which is taken too.
-    #[inline]
+    #[inline(always)]
     fn ones(&mut self) -> Result<u32, u8> {
         let mut count = 0;
         loop {
@@ -109,8 +109,14 @@ impl Adapt {
     #[inline(always)]
     fn golomb(&mut self, bits: &mut Bits) -> Result<u32, u8> {
         let kr = self.krp / 8;
-        let v = bits.ones()?;
-        let low = bits.bits(kr)?;
+        let run = bits.window.leading_ones();
+        let (v, low) = if run + kr < bits.have {
+            let low = bits.window << run << 1 >> 1 >> (63 - kr);
+            bits.skip(run + 1 + kr);
+            (run, low as u32)
+        } else {
+            (bits.ones()?, bits.bits(kr)?)
+        };
         self.krp = match v {
             0 => self.krp.saturating_sub(2),
             1 => self.krp,
@@ -133,6 +139,7 @@ fn unfold(g: u32) -> i32 {
     (g >> 1) as i32 ^ -((g & 1) as i32)
 }
 
+#[inline(always)]
 fn fill(rlgr3: bool, bits: &mut Bits, list: &mut [i32]) -> Result<(), u8> {
     let mut a = Adapt { kp: 8, krp: 8 };
     let mut i = 0;
@@ -144,8 +151,8 @@ fn fill(rlgr3: bool, bits: &mut Bits, list: &mut [i32]) -> Result<(), u8> {
                 a.up(4);
                 continue;
             }
-            let zeros = bits.bits(k)? as usize;
-            let negative = bits.bits(1)? == 1;
+            let head = bits.bits(k + 1)?;
+            let (zeros, negative) = ((head >> 1) as usize, head & 1 == 1);
             let g = a.golomb(bits)?;
             if g > 32766 {
                 return Err(RANGE);
@@ -207,7 +214,9 @@ pub fn read_component(mode: u8, code: &[u8], list: &mut [i32]) -> (u8, usize) {
     }
     list.fill(0);
     let mut bits = Bits::new(code);
-    if let Err(number) = fill(mode == 4, &mut bits, list) {
+    // a loop for each mode
+    let filled = if mode == 4 { fill(true, &mut bits, list) } else { fill(false, &mut bits, list) };
+    if let Err(number) = filled {
         list.fill(0);
         return (number, 0);
     }
@@ -344,7 +353,12 @@ fn code(mode: u8, list: &[i32], p: &mut impl Sink) {
 /// The code in a lent list, which has room for it: how many bytes it has. Nothing is judged.
 pub fn write_component(mode: u8, list: &[i32], out: &mut [u8]) -> usize {
     let mut slot = Slot { out, at: 0, acc: 0, n: 0 };
-    code(mode, list, &mut slot);
+    // a loop for each mode
+    if mode == 1 {
+        code(1, list, &mut slot);
+    } else {
+        code(4, list, &mut slot);
+    }
     slot.end()
 }
 
