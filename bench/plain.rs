@@ -117,12 +117,14 @@ impl Adapt {
         } else {
             (bits.ones()?, bits.bits(kr)?)
         };
-        self.krp = match v {
-            0 => self.krp.saturating_sub(2),
-            1 => self.krp,
-            _ => (self.krp + v).min(80),
-        };
+        self.took(v);
         Ok((v << kr) + low)
+    }
+
+    /// A GR number that begins with v ones. (One test that falls either way, where `match` would make two: a guess that fails costs more than the rest.)
+    #[inline(always)]
+    fn took(&mut self, v: u32) {
+        self.krp = if v < 2 { self.krp.saturating_sub(2 - 2 * v) } else { (self.krp + v).min(80) };
     }
 
     fn up(&mut self, d: u32) {
@@ -296,11 +298,7 @@ impl Adapt {
     fn put(&mut self, sink: &mut impl Sink, g: u32) {
         let kr = self.krp / 8;
         sink.golomb(kr, g);
-        self.krp = match g >> kr {
-            0 => self.krp.saturating_sub(2),
-            1 => self.krp,
-            v => (self.krp + v).min(80),
-        };
+        self.took(g >> kr);
     }
 }
 

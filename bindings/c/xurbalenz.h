@@ -54,8 +54,8 @@ extern "C" {
 #endif
 
 /* The version of this header: 10,000 x major + 100 x minor + patch, and as text. The Rust crate has the same. */
-#define XURBALENZ_VERSION 501
-#define XURBALENZ_VERSION_TEXT "0.5.1"
+#define XURBALENZ_VERSION 502
+#define XURBALENZ_VERSION_TEXT "0.5.2"
 
 /* ---- the numbers the fitter sees ---- */
 

@@ -25,3 +25,9 @@ unfoldable pub frontZeros : List Bool → ℕ
 frontZeros [] = 0
 frontZeros (false ∷ bs) = suc (frontZeros bs)
 frontZeros (true ∷ bs) = 0
+
+-- how many ones some bits begin with
+unfoldable pub frontOnes : List Bool → ℕ
+frontOnes [] = 0
+frontOnes (true ∷ bs) = suc (frontOnes bs)
+frontOnes (false ∷ bs) = 0

@@ -1,15 +1,15 @@
 // Bits of document 01's "The component code": "Bits go high bit first." Reading a bit, a run of ones, a number of n bits and a GR
-// number at a place, and writing them with a pen; the same readings of 57 bits at once stand in `word` (document 02, request Ten).
+// number at a place, and writing bits with a pen. Document 02's request Ten is `word`, the same readings of 57 bits at once, and `wide`, a pen that puts four
+// bytes out at once.
 // Each contract is one equation with a definition of specs/Bits or a record of specs/Pen.
 ghost use mathlib.Core.Path.{_≡_};
 ghost use Prim.Native.Nat.{_+_, _*_, _<_, _≤_};
-ghost use lib.ListN.{length, getD, drop, replicate};
-ghost use mathlib.Core.Bool.{true, false};
-ghost use mathlib.Core.List.{_∷_, []};
-ghost use Rattle.bits.specs.Bits.{odd, val, bitsOf, numBits, grBits, onesOf, numOf, grOf};
+ghost use lib.ListN.{length, getD, drop};
+ghost use mathlib.Core.Bool.{false};
+ghost use Rattle.bits.specs.Bits.{val, bitsOf, numBits, onesOf, numOf, grOf};
 ghost use Rattle.bits.specs.Pen.{Ready, Put, Closed};
-ghost use Rattle.bits.specs.laws.Gr.{grLen};
 
+pub mod wide;
 pub mod word;
 
 // What reading a number finds: the number and the place of the bit past it, or too few bits.
@@ -89,29 +89,6 @@ pub fn golomb(s: &[u8], from: usize, k: usize) -> Num
     }
 }
 
-// Appends one bit.
-pub fn put_bit(out: &mut [u8], p: Pen, b: usize) -> Pen
-    requires { ⌜ Ready (length (now out)) p 1 × (b < 2) ⌝ }
-    ensures { λ r. ⌜ Put (now (out .entry)) p (now (out .exit)) r (odd b ∷ []) ⌝ }
-{
-    let at = p.at;
-    let acc = p.acc * 2 + b;
-    let n = p.n + 1;
-    if n < 8 {
-        return Pen {
-            at: at,
-            acc: acc,
-            n: n,
-        };
-    }
-    out[at] = (acc % 256) as u8;
-    Pen {
-        at: at + 1,
-        acc: 0,
-        n: 0,
-    }
-}
-
 // Appends the k low bits of v.
 pub fn put_bits(out: &mut [u8], p: Pen, k: usize, v: usize) -> Pen
     requires { ⌜ Ready (length (now out)) p k × (k ≤ 32) ⌝ }
@@ -130,34 +107,6 @@ pub fn put_bits(out: &mut [u8], p: Pen, k: usize, v: usize) -> Pen
         acc: acc % (1usize << n),
         n: n,
     }
-}
-
-// Appends v ones.
-pub fn put_ones(out: &mut [u8], p: Pen, v: usize) -> Pen
-    requires { ⌜ Ready (length (now out)) p v ⌝ }
-    ensures { λ r. ⌜ Put (now (out .entry)) p (now (out .exit)) r (replicate v true) ⌝ }
-{
-    let mut q = p;
-    let mut left = v;
-    while 0 < left {
-        q = put_bit(out, q, 1);
-        left -= 1;
-    }
-    q
-}
-
-// Appends the GR number n.
-pub fn put_gr(out: &mut [u8], p: Pen, k: usize, n: usize) -> Pen
-    requires { ⌜ Ready (length (now out)) p (grLen k n) × (k ≤ 10) ⌝ }
-    ensures { λ r. ⌜ Put (now (out .entry)) p (now (out .exit)) r (grBits k n) ⌝ }
-{
-    let v = n >> k;
-    let low = n % (1usize << k);
-    if v < 22 {
-        return put_bits(out, p, v + (k + 1), (((1usize << v) - 1) << (k + 1)) + low);
-    }
-    let q = put_ones(out, p, v);
-    put_bits(out, q, k + 1, low)
 }
 
 // The last byte, filled up with zero bits. The answer is how many bytes there are.

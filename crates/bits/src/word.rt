@@ -5,7 +5,7 @@ ghost use mathlib.Core.Path.{_≡_};
 ghost use Prim.Native.Nat.{_+_, _*_, _/_, _<_, _≤_, min};
 ghost use lib.ListN.{length, drop};
 ghost use Rattle.bits.specs.Bits.{bitsOf, numBits, onesOf, numOf, grOf};
-ghost use Rattle.bits.specs.Word.{fourOf, frontZeros, horner, padded};
+ghost use Rattle.bits.specs.Word.{fourOf, frontOnes, frontZeros, horner, padded};
 ghost use Rattle.bits.specs.declared.Num.the-variants.{Got};
 use crate::Num;
 
@@ -68,8 +68,16 @@ pub fn ahead(s: &[u8], at: usize) -> u64
     (w << (at - 8 * j)) >> 7
 }
 
-// The k bits at place `at` of the 57 bits w, as a number: what stands before them is shifted out above, what stands behind them below (in two steps, since k
-// may be 0).
+// The k bits at place `at` of the 57 bits w, where they lie in them, as a number: what stands before them is shifted out above, what stands behind them below
+// (in two steps, since k may be 0).
+fn bits_in(w: u64, at: usize, k: usize) -> usize
+    requires { ⌜ (at + k ≤ 57) × (k ≤ 32) ⌝ }
+    ensures { λ r. ⌜ Got r (at + k) ≡ numOf k 0 at (drop at (numBits 57 w)) ⌝ }
+{
+    ((((w << 7) << at) >> 1) >> (63 - k)) as usize
+}
+
+// The k bits at place `at` of the 57 bits w, as a number.
 pub fn number_in(w: u64, at: usize, k: usize) -> Num
     requires { ⌜ (at ≤ 57) × (k ≤ 32) ⌝ }
     ensures { λ r. ⌜ r ≡ numOf k 0 at (drop at (numBits 57 w)) ⌝ }
@@ -77,8 +85,15 @@ pub fn number_in(w: u64, at: usize, k: usize) -> Num
     if 57 - at < k {
         return Num::Cut;
     }
-    let n = (((w << 7) << at) >> 1) >> (63 - k);
-    Num::Got(n as usize, at + k)
+    Num::Got(bits_in(w, at, k), at + k)
+}
+
+// How many ones stand at place `at` of the 57 bits w: the leading zeros of the complement.
+fn ones_at(w: u64, at: usize) -> usize
+    requires { ⌜ at ≤ 57 ⌝ }
+    ensures { λ r. ⌜ r ≡ frontOnes (drop at (numBits 57 w)) ⌝ }
+{
+    u64::leading_zeros(18446744073709551615 - ((w << 7) << at)) as usize
 }
 
 // The ones from place `at` of the 57 bits w on, and the place past the zero after them.
@@ -86,27 +101,25 @@ pub fn ones_in(w: u64, at: usize) -> Num
     requires { ⌜ at ≤ 57 ⌝ }
     ensures { λ r. ⌜ r ≡ onesOf 0 at (drop at (numBits 57 w)) ⌝ }
 {
-    let r = 57 - at;
-    let all = 1u64 << r;
-    let m = (u64::leading_zeros(all - 1 - w % all) as usize) - (64 - r);
-    if m < r {
+    let m = ones_at(w, at);
+    if m < 57 - at {
         return Num::Got(m, at + m + 1);
     }
     Num::Cut
 }
 
-// A GR number at place `at` of the 57 bits w.
+// A GR number at place `at` of the 57 bits w. Whether it lies in them is one test, of all its bits.
 pub fn golomb_in(w: u64, at: usize, k: usize) -> Num
     requires { ⌜ (at ≤ 57) × (k ≤ 10) ⌝ }
     ensures { λ r. ⌜ r ≡ grOf k at (numBits 57 w) ⌝ }
 {
-    match ones_in(w, at) {
-        Num::Cut => Num::Cut,
-        Num::Got(v, mid) => match number_in(w, mid, k) {
-            Num::Cut => Num::Cut,
-            Num::Got(b, next) => Num::Got((v << k) + b, next),
-        },
+    let v = ones_at(w, at);
+    let used = v + 1 + k;
+    if 57 - at < used {
+        return Num::Cut;
     }
+    let b = bits_in(w, at + v + 1, k);
+    Num::Got((v << k) + b, at + used)
 }
 
 // How many zeros the 57 bits w begin with.

@@ -9,6 +9,7 @@ use lib.Dec.{ltb}
 use Rattle.whole.specs.Row.{_⇒_∣_}
 use Rattle.bits.specs.Bits.{bitsOf, numBits, numOf}
 use Rattle.bits.specs.Word.{frontZeros}
+use Rattle.bits.specs.declared.Num.the-variants.{Got}
 use Rattle.code.specs.Code.{raised}
 use Rattle.code.specs.ReadList.{stateAt, runElem, Walked, whole, bad, walk, readList}
 use Rattle.code.specs.declared.element.State.{State}
@@ -21,6 +22,8 @@ use Rattle.code.specs.declared.read.Placed.{Placed}
 use Rattle.code.specs.declared.read.Placed.the-variants.{At, No}
 use Rattle.code.specs.declared.read.Quick.{Quick}
 use Rattle.code.specs.declared.read.Quick.the-variants.{At as Jump, Not}
+use Rattle.code.specs.declared.read.Reach.{Reach}
+use Rattle.code.specs.declared.read.Reach.the-variants.{Full, Stuck}
 
 abbrev pub Fills : Walked → List ℤ → Filled → Type 0
 Fills (whole xs at) out r = (out ≡ map unfoldZ xs) × (r ≡ Whole at)
@@ -89,19 +92,28 @@ abbrev pub Quickly : Bool → List Bool → ℕ → List ℤ → List ℤ → Qu
 Quickly rlgr3 B i out new Not = new ≡ out
 Quickly rlgr3 B i out new (Jump j t) = Filling rlgr3 (length out) B new t j × (i < j)
 
--- the same in whichever mode it is being filled
-abbrev pub Turned : List Bool → State → ℕ → List ℤ → List ℤ → Quick → Type 0
-Turned B c i out new r = (rlgr3 : Bool) → Filling rlgr3 (length out) B out c i → Quickly rlgr3 B i out new r
+-- the same of any bits at whose place c .at the word w stands
+abbrev pub Turned : Bool → ℕ → State → ℕ → List ℤ → List ℤ → Quick → Type 0
+Turned rlgr3 w c i out new r =
+    (B : List Bool) → Got w (c .at + 57) ≡ numOf 57 0 (c .at) (drop (c .at) B) → Filling rlgr3 (length out) B out c i → Quickly rlgr3 B i out new r
 
--- a list with a place left, and a state in run mode with a word behind it
-pub record Running (s : List ℕ) (out : List ℤ) (c : State) (i : ℕ) : Type 0 where
-  pub small : length s ≤ 65535
+-- and in whichever mode the list is being filled
+abbrev pub EitherTurned : ℕ → State → ℕ → List ℤ → List ℤ → Quick → Type 0
+EitherTurned w c i out new r = (rlgr3 : Bool) → Turned rlgr3 w c i out new r
+
+-- a list with a place left, and a state at which the word w stands
+pub record Worded (w : ℕ) (out : List ℤ) (c : State) (i : ℕ) : Type 0 where
+  pub small : w < 2 ^ 57
   pub places : length out ≤ 4096
   pub room : i < length out
-  pub high : 8 ≤ c .kp
   pub kps : c .kp ≤ 80
   pub krs : c .krp ≤ 80
-  pub word : c .at / 8 + 8 ≤ length s
+  pub place : c .at ≤ 524280
+
+-- what turns by words led to, from place i of n on: the list is filled, or it was filled on and has a place left
+abbrev pub Rushed : Bool → List Bool → ℕ → ℕ → List ℤ → Reach → Type 0
+Rushed rlgr3 B n i new (Full at) = Fills (readList rlgr3 n B) new (Whole at)
+Rushed rlgr3 B n i new (Stuck j t) = Filling rlgr3 n B new t j × (i ≤ j) × (j < n)
 
 -- a list with a place left, and the state t before a run's value whose 1 stands behind the m zeros that w begins with
 pub record Valued (w m at : ℕ) (t : State) (out : List ℤ) (j : ℕ) : Type 0 where

@@ -82,14 +82,10 @@ pub fn kr_after(krp: usize, g: usize) -> usize
     ensures { λ r. ⌜ r ≡ krAfter krp g ⌝ }
 {
     let v = g >> (krp / 8);
-    if v == 0 {
-        if krp < 2 { 0 } else { krp - 2 }
+    if v < 2 {
+        if v == 1 { krp } else { less(krp, 2) }
     } else {
-        if v == 1 {
-            krp
-        } else {
-            if 80 - krp < v { 80 } else { krp + v }
-        }
+        if 80 - krp < v { 80 } else { krp + v }
     }
 }
 

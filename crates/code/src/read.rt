@@ -9,7 +9,7 @@ ghost use lib.ListN.{length, drop, replicate};
 ghost use lib.IntN.{pos};
 ghost use Rattle.bits.specs.Bits.{bitsOf};
 ghost use Rattle.code.specs.ReadList.{readList};
-ghost use Rattle.code.specs.Fill.{Fills, Fine, placedOf, storedOf, leapOf, onwardOf, Inside, Open, Running, Valued, Quickly, Turned, Stored};
+ghost use Rattle.code.specs.Fill.{Fills, Fine, placedOf, storedOf, leapOf, onwardOf, Inside, Open, Worded, Valued, Quickly, Turned, EitherTurned, Rushed, Stored};
 ghost use Rattle.code.specs.Read.{clean, shellFault, readFault, readingNumber, readingBits, decoded, CodeRead, ComponentRead};
 use crate::element::Element;
 use crate::element::Refusal;
@@ -141,16 +141,16 @@ fn onward(at: usize, p: Placed) -> Quick
     }
 }
 
-// Stores the single value at c, if it lies whole in the word there.
-fn quick_single(s: &[u8], c: State, list: &mut [i32], i: usize) -> Quick
-    requires { ⌜ Open false (now s) (now list) c i × (c .kp < 8) × (c .at / 8 + 8 ≤ length (now s)) ⌝ }
-    ensures { λ r. ⌜ Quickly false (bitsOf (now (s .entry))) i (now (list .entry)) (now (list .exit)) r ⌝ }
+// Stores the single value at c, if it lies whole in w, the word there.
+fn quick_single(w: u64, c: State, list: &mut [i32], i: usize) -> Quick
+    requires { ⌜ Worded w (now list) c i × (c .kp < 8) ⌝ }
+    ensures { λ r. ⌜ Turned false w c i (now (list .entry)) (now (list .exit)) r ⌝ }
 {
     let at = c.at;
     let kp = c.kp;
     let krp = c.krp;
     let e = crate::word::single_in(
-        bits::word::look(s, at),
+        w,
         State {
             at: 0,
             kp: kp,
@@ -160,16 +160,16 @@ fn quick_single(s: &[u8], c: State, list: &mut [i32], i: usize) -> Quick
     onward(at, place(list, i, e))
 }
 
-// Stores the pair at c, if it lies whole in the word there.
-fn quick_pair(s: &[u8], c: State, list: &mut [i32], i: usize) -> Quick
-    requires { ⌜ Open true (now s) (now list) c i × (c .kp < 8) × (c .at / 8 + 8 ≤ length (now s)) ⌝ }
-    ensures { λ r. ⌜ Quickly true (bitsOf (now (s .entry))) i (now (list .entry)) (now (list .exit)) r ⌝ }
+// Stores the pair at c, if it lies whole in w, the word there.
+fn quick_pair(w: u64, c: State, list: &mut [i32], i: usize) -> Quick
+    requires { ⌜ Worded w (now list) c i × (c .kp < 8) ⌝ }
+    ensures { λ r. ⌜ Turned true w c i (now (list .entry)) (now (list .exit)) r ⌝ }
 {
     let at = c.at;
     let kp = c.kp;
     let krp = c.krp;
     let e = crate::word::pair_in(
-        bits::word::look(s, at),
+        w,
         State {
             at: 0,
             kp: kp,
@@ -200,14 +200,14 @@ fn quick_value(w: u64, m: usize, at: usize, t: State, list: &mut [i32], j: usize
     onward(at, place(list, j, e))
 }
 
-// Takes the full runs at c together, as far as the word there goes, and stores the value behind them, if it lies whole in the word too.
-fn quick_run(s: &[u8], c: State, list: &mut [i32], i: usize) -> Quick
-    requires { ⌜ Running (now s) (now list) c i ⌝ }
-    ensures { λ r. ⌜ Turned (bitsOf (now (s .entry))) c i (now (list .entry)) (now (list .exit)) r ⌝ }
+// Takes the full runs at c together, as far as w goes, the word there, and stores the value behind them, if it lies whole in w too. (In either mode: an
+// element in run mode is the same in both.)
+fn quick_run(w: u64, c: State, list: &mut [i32], i: usize) -> Quick
+    requires { ⌜ Worded w (now list) c i × (8 ≤ c .kp) ⌝ }
+    ensures { λ r. ⌜ EitherTurned w c i (now (list .entry)) (now (list .exit)) r ⌝ }
 {
     let at = c.at;
     let n = list.len();
-    let w = bits::word::look(s, at);
     let m = bits::word::zeros_in(w);
     match full_runs(n, i, c, m) {
         Quick::Not => Quick::Not,
@@ -231,7 +231,7 @@ fn quick_run(s: &[u8], c: State, list: &mut [i32], i: usize) -> Quick
     }
 }
 
-// A turn by the word at c: full runs together and the value behind them, or a single value, or a pair.
+// A turn by the word at c: full runs together and the value behind them, or a single value, or a pair. The word is looked at once, whichever it is.
 fn quick_turn(s: &[u8], rlgr3: bool, c: State, list: &mut [i32], i: usize) -> Quick
     requires { ⌜ Open rlgr3 (now s) (now list) c i ⌝ }
     ensures { λ r. ⌜ Quickly rlgr3 (bitsOf (now (s .entry))) i (now (list .entry)) (now (list .exit)) r ⌝ }
@@ -241,13 +241,43 @@ fn quick_turn(s: &[u8], rlgr3: bool, c: State, list: &mut [i32], i: usize) -> Qu
     if s.len() < at / 8 + 8 {
         return Quick::Not;
     }
+    let w = bits::word::look(s, at);
     if 8 <= kp {
-        return quick_run(s, c, list, i);
+        return quick_run(w, c, list, i);
     }
     if rlgr3 {
-        return quick_pair(s, c, list, i);
+        return quick_pair(w, c, list, i);
     }
-    quick_single(s, c, list, i)
+    quick_single(w, c, list, i)
+}
+
+// What going by words found: the list is full, and the code's length in bits; or the place and the state at which the slow way is due.
+enum Reach {
+    Full(usize),
+    Stuck(usize, State),
+}
+
+// Turns by words, one after the other, as far as they lead. (A loop by itself, so that it is compiled without the slow way's variables.)
+fn rush(s: &[u8], rlgr3: bool, from: State, list: &mut [i32], first: usize) -> Reach
+    requires { ⌜ Open rlgr3 (now s) (now list) from first ⌝ }
+    ensures { λ r. ⌜ Rushed rlgr3 (bitsOf (now (s .entry))) (length (now (list .entry))) first (now (list .exit)) r ⌝ }
+{
+    let n = list.len();
+    let mut c = from;
+    let mut i = first;
+    while i < n {
+        match quick_turn(s, rlgr3, c, list, i) {
+            Quick::Not => {
+                return Reach::Stuck(i, c);
+            }
+            Quick::At(j, t) => {
+                i = j;
+                c = t;
+            }
+        }
+    }
+    let at = c.at;
+    Reach::Full(at)
 }
 
 // What filling a list found: the code's length in bits, or a refusal.
@@ -269,20 +299,19 @@ fn fill(s: &[u8], rlgr3: bool, list: &mut [i32]) -> Filled
     };
     let mut i: usize = 0;
     while i < n {
-        match quick_turn(s, rlgr3, c, list, i) {
-            Quick::At(j, t) => {
-                i = j;
-                c = t;
+        match rush(s, rlgr3, c, list, i) {
+            Reach::Full(at) => {
+                return Filled::Whole(at);
             }
-            Quick::Not => {
-                let e = crate::element::read_element(s, rlgr3, c, n - i);
-                match place(list, i, e) {
+            Reach::Stuck(j, t) => {
+                let e = crate::element::read_element(s, rlgr3, t, n - j);
+                match place(list, j, e) {
                     Placed::No(r) => {
                         return Filled::Bad(r);
                     }
-                    Placed::At(j, t) => {
-                        i = j;
-                        c = t;
+                    Placed::At(l, u) => {
+                        i = l;
+                        c = u;
                     }
                 }
             }

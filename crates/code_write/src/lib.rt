@@ -1,3 +1,3 @@
-// "The component code" of document 01, written: items chosen and put bit by bit (`put`), and the component writer (`call`).
+// "The component code" of document 01, written: items chosen and their bits put (`put`), and the component writer (`call`).
 pub mod call;
 pub mod put;

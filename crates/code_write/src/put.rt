@@ -8,7 +8,7 @@ ghost use Prim.Native.Nat.{_+_, _*_, _/_, _^_, _<_, _≤_, min};
 ghost use lib.ListN.{length, drop, getD};
 ghost use Rattle.bits.specs.Bits.{numBits, grBits};
 ghost use Rattle.bits.specs.laws.Gr.{grLen};
-ghost use Rattle.bits.specs.Pen.{Ready, Put};
+ghost use Rattle.bits.specs.Pen.{Ready, Put, ReadyWide, PutWide};
 ghost use Rattle.code.specs.Code.{InRange, zerosOf, runBits, pairBits, codeOf, itemOf, itemBits, itemUsed, itemKp, itemKrp};
 ghost use Rattle.code.specs.Fold.{foldZ};
 ghost use Rattle.code_write.specs.laws.Item.{SmallItem, FewZeros, Zeros};
@@ -133,33 +133,6 @@ fn choose(xs: &[i32], i: usize, rlgr3: bool, kp: usize) -> Item
     Item::Single(a)
 }
 
-// Appends v in k bits, which hold it. Most often they do not fill the byte that waits, or fill just that one: then there is no loop over bytes.
-fn put_few(out: &mut [u8], p: Pen, k: usize, v: usize) -> Pen
-    requires { ⌜ Ready (length (now out)) p k × (k ≤ 32) × (v < 2 ^ k) ⌝ }
-    ensures { λ r. ⌜ Put (now (out .entry)) p (now (out .exit)) r (numBits k v) ⌝ }
-{
-    let at = p.at;
-    let n = p.n + k;
-    let acc = (p.acc << k) + v;
-    if n < 8 {
-        return Pen {
-            at: at,
-            acc: acc,
-            n: n,
-        };
-    }
-    if n < 16 {
-        let left = n - 8;
-        out[at] = ((acc >> left) % 256) as u8;
-        return Pen {
-            at: at + 1,
-            acc: acc % (1usize << left),
-            n: left,
-        };
-    }
-    bits::put_bits(out, p, k, v)
-}
-
 // A GR number n with few ones: these, the zero and the low bits as one number.
 fn gr_word(k: usize, n: usize, v: usize) -> usize
     requires { ⌜ (v ≡ n / 2 ^ k) × (v < 22) × (k ≤ 10) ⌝ }
@@ -170,48 +143,48 @@ fn gr_word(k: usize, n: usize, v: usize) -> usize
 
 // A single value: a GR number, most often of few ones.
 fn put_single(out: &mut [u8], p: Pen, krp: usize, n: usize) -> Pen
-    requires { ⌜ Ready (length (now out)) p (grLen (krp / 8) n) × (krp ≤ 80) ⌝ }
-    ensures { λ r. ⌜ Put (now (out .entry)) p (now (out .exit)) r (grBits (krp / 8) n) ⌝ }
+    requires { ⌜ ReadyWide (length (now out)) p (grLen (krp / 8) n) × (krp ≤ 80) ⌝ }
+    ensures { λ r. ⌜ PutWide (now (out .entry)) p (now (out .exit)) r (grBits (krp / 8) n) ⌝ }
 {
     let k = krp / 8;
     let v = n >> k;
     if v < 22 {
-        return put_few(out, p, v + (k + 1), gr_word(k, n, v));
+        return bits::wide::put(out, p, v + (k + 1), gr_word(k, n, v));
     }
-    bits::put_gr(out, p, k, n)
+    bits::wide::put_gr(out, p, k, n)
 }
 
 // A run's value: 1, the zeros and the sign as one number, then the magnitude less 1.
 fn put_run(out: &mut [u8], p: Pen, kp: usize, krp: usize, z: usize, v: usize) -> Pen
-    requires { ⌜ Ready (length (now out)) p (length (runBits kp krp z v)) × (kp ≤ 80) × (krp ≤ 80) × (z < 2 ^ (kp / 8)) × (0 < v) ⌝ }
-    ensures { λ r. ⌜ Put (now (out .entry)) p (now (out .exit)) r (runBits kp krp z v) ⌝ }
+    requires { ⌜ ReadyWide (length (now out)) p (length (runBits kp krp z v)) × (kp ≤ 80) × (krp ≤ 80) × (z < 2 ^ (kp / 8)) × (0 < v) ⌝ }
+    ensures { λ r. ⌜ PutWide (now (out .entry)) p (now (out .exit)) r (runBits kp krp z v) ⌝ }
 {
     let h = kp / 8;
-    let q = put_few(out, p, h + 2, ((1usize << h) + z) * 2 + v % 2);
+    let q = bits::wide::put(out, p, h + 2, ((1usize << h) + z) * 2 + v % 2);
     let k = krp / 8;
     let g = (v - 1) / 2;
     let u = g >> k;
     if u < 22 {
-        return put_few(out, q, u + (k + 1), gr_word(k, g, u));
+        return bits::wide::put(out, q, u + (k + 1), gr_word(k, g, u));
     }
-    bits::put_gr(out, q, k, g)
+    bits::wide::put_gr(out, q, k, g)
 }
 
 // A pair: the sum, then the first in as many bits as the sum has.
 fn put_twin(out: &mut [u8], p: Pen, krp: usize, a: usize, b: usize) -> Pen
-    requires { ⌜ Ready (length (now out)) p (length (pairBits krp a b)) × (krp ≤ 80) × (a ≤ 65534) × (b ≤ 65534) ⌝ }
-    ensures { λ r. ⌜ Put (now (out .entry)) p (now (out .exit)) r (pairBits krp a b) ⌝ }
+    requires { ⌜ ReadyWide (length (now out)) p (length (pairBits krp a b)) × (krp ≤ 80) × (a ≤ 65534) × (b ≤ 65534) ⌝ }
+    ensures { λ r. ⌜ PutWide (now (out .entry)) p (now (out .exit)) r (pairBits krp a b) ⌝ }
 {
     let g = a + b;
     let n = code::element::bit_size(g);
     let k = krp / 8;
     let u = g >> k;
     if u < 22 {
-        let q = put_few(out, p, u + (k + 1), gr_word(k, g, u));
-        return put_few(out, q, n, a);
+        let q = bits::wide::put(out, p, u + (k + 1), gr_word(k, g, u));
+        return bits::wide::put(out, q, n, a);
     }
-    let q = bits::put_gr(out, p, k, g);
-    bits::put_bits(out, q, n, a)
+    let q = bits::wide::put_gr(out, p, k, g);
+    bits::wide::put(out, q, n, a)
 }
 
 // How many bits a GR number has.
@@ -285,7 +258,7 @@ fn run_turn(out: &mut [u8], s: Stand, xs: &[i32], rlgr3: bool) -> Stand
     let z = zeros_from(xs, i, full);
     if run_end(xs.len(), i, full) <= i + z {
         return Stand {
-            pen: bits::put_bit(out, s.pen, 0),
+            pen: bits::wide::put(out, s.pen, 1, 0),
             i: i + full,
             kp: code::element::more(kp, 4),
             krp: s.krp,
@@ -359,7 +332,7 @@ pub fn put_list(out: &mut [u8], p: Pen, xs: &[i32], rlgr3: bool) -> Pen
     while s.i < xs.len() {
         s = put_turn(out, s, xs, rlgr3);
     }
-    s.pen
+    bits::wide::close(out, s.pen)
 }
 
 // How many bits the code of a list has.

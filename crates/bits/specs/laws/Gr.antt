@@ -1,13 +1,13 @@
 -- Writing ones and GR numbers, in the forms that the code has.
 -- Assumes nothing.
-use Prim.Native.Nat.{ℕ, zero, _+_, _*_, _-_, _/_, _%_, _^_, _≤_, _<_}
-use mathlib.Core.Path.{_≡_, ap, ap₂, _∙_}
+use Prim.Native.Nat.{ℕ, _+_, _*_, _/_, _%_, _^_, _≤_, _<_}
+use mathlib.Core.Path.{_≡_, ap₂}
 use mathlib.Core.Bool.{Bool, true, false}
-use mathlib.Core.List.{List, [], _∷_, _++_}
+use mathlib.Core.List.{List, _∷_, _++_}
 use native.Mathlib.Omega.{arith}
-use native.Mathlib.Nat.{mod-eq-of-lt, mod-lt, div-eq-of-lt, le-refl}
+use native.Mathlib.Nat.{mod-eq-of-lt, mod-lt, div-eq-of-lt, le-refl, pow-suc}
 use native.Mathlib.Numerals.{add-one}
-use lib.ListN.{replicate, replicate-append-replicate}
+use lib.ListN.{replicate}
 use lib.Pow.{pow-mono, pow-pos}
 use Rattle.bits.specs.Bits.{grBits, numBits, odd}
 use Rattle.bits.specs.laws.Here.{numBits-mod}
@@ -15,11 +15,6 @@ use Rattle.bits.specs.laws.Here.{numBits-mod}
 -- how many bits a GR number has
 abbrev pub grLen : ℕ → ℕ → ℕ
 grLen k n = n / 2 ^ k + 1 + k
-
-pub rep-snoc : (v left : ℕ) → left ≤ v → 0 < left → replicate (v - left) true ++ (odd 1 ∷ []) ≡ replicate (v - (left - 1)) true
-rep-snoc v left h p =
-    let e : v - left + 1 ≡ v - (left - 1) = omega arith in
-    replicate-append-replicate (v - left) 1 true ∙ ap (λ (m : ℕ). replicate m true) e
 
 pub shift-one : (k : ℕ) → k ≤ 10 → 1 * 2 ^ k % 2 ^ 64 ≡ 2 ^ k
 shift-one k h = let p : 2 ^ k ≤ 1024 = pow-mono {j = 10} h in let e : 1 * 2 ^ k ≡ 2 ^ k = omega arith in rw e (mod-eq-of-lt (omega arith))
@@ -32,3 +27,10 @@ low-bits k n = rw (add-one k) (ap₂ (λ (x : ℕ) (l : List Bool). odd x ∷ l)
 pub gr-parts : (k n m : ℕ) → m ≡ 2 ^ k → replicate (n / 2 ^ k) true ++ numBits (k + 1) (n % m) ≡ grBits k n
 unfolding grBits
 gr-parts k n m e = rw (e, low-bits k n)
+
+-- which k + 1 bits hold
+pub gr-low : (k n : ℕ) → n % 2 ^ k < 2 ^ (k + 1)
+gr-low k n =
+    let p : 2 ^ (k + 1) ≡ 2 ^ k * 2 = rw (add-one k) (pow-suc 2 k) in
+    let m : n % 2 ^ k < 2 ^ k = mod-lt n (pow-pos k) in
+    omega (arith, p)

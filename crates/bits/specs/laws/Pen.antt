@@ -8,11 +8,11 @@ use native.Mathlib.Numerals.{add-one}
 use native.Mathlib.Nat.{mul-assoc, pow-suc, pow-succ', div-div-eq-div-mul, mod-eq-of-lt}
 use lib.Dec.{eqb}
 use lib.Pow.{shl-lt}
-use Rattle.bits.specs.laws.Bit.{grow}
+use Rattle.bits.specs.laws.Bit.{length-numBits}
 use lib.ListN.{replicate, replicate-append-replicate, length, take, drop, set, length-append, length-set}
 use lib.Seq.{drop-drop, take-suc-set, drop-set-lt}
 use Rattle.bits.specs.Bits.{odd, bitsOf, numBits}
-use Rattle.bits.specs.Pen.{penBits, Ready, Put, Closed}
+use Rattle.bits.specs.Pen.{penBits, Put, ReadyWide, PutWide, emptyAt, Closed}
 use Rattle.bits.specs.declared.Pen.{Pen}
 
 -- a bit more at the low end
@@ -29,71 +29,47 @@ unfolding bitsOf
 bitsOf-append [] b = refl
 bitsOf-append (x ∷ a) b = ap (λ (l : List Bool). numBits 8 x ++ l) (bitsOf-append a b) ∙ sym (append-assoc (numBits 8 x) (bitsOf a) (bitsOf b))
 
-no-bits : numBits 0 0 ≡ []
-unfolding numBits
-no-bits = refl
-
--- one bit more, which waits
-pub put-waits :
-    (out : List ℕ) (at acc n b : ℕ) → b < 2 → n + 1 < 8 → acc < 2 ^ n →
-    Put out (record { at = at; acc = acc; n = n }) out (record { at = at; acc = acc * 2 + b; n = n + 1 }) (odd b ∷ [])
-unfolding penBits
-put-waits out at acc n b hb hn ha = record {
-  few = hn;
-  small = rw add-one (grow n acc b ha hb);
-  place = omega arith;
-  long = refl;
-  rest = refl;
-  bits = rw (add-one n, numBits-snoc n acc b hb) (sym (append-assoc (bitsOf (take at out)) (numBits n acc) (odd b ∷ [])));
-}
-
--- one bit more, which fills the byte
-pub put-fills :
-    (out : List ℕ) (at acc n b : ℕ) → b < 2 → n ≡ 7 → acc < 2 ^ n → at < length out →
-    Put out (record { at = at; acc = acc; n = n }) (set out at ((acc * 2 + b) % 256)) (record { at = at + 1; acc = 0; n = 0 }) (odd b ∷ [])
-unfolding penBits bitsOf
-put-fills out at acc n b hb hn ha hl =
-    let x = (acc * 2 + b) % 256 in
-    let a7 : acc < 2 ^ 7 = rw hn at ha in
-    let small : x ≡ acc * 2 + b = omega arith in
-    let t : take (at + 1) (set out at x) ≡ take at out ++ (x ∷ []) = rw (add-one at) (take-suc-set out at x hl) in
-    let w : numBits 8 x ≡ numBits n acc ++ (odd b ∷ []) = rw (small, hn) (numBits-snoc 7 acc b hb) in
-    let z : bitsOf (take at out ++ (x ∷ [])) ≡ (bitsOf (take at out) ++ numBits n acc) ++ (odd b ∷ []) =
-    bitsOf-append (take at out) (x ∷ []) ∙ ap (λ (l : List Bool). bitsOf (take at out) ++ l) (append-nil (numBits 8 x) ∙ w)
-    ∙ sym (append-assoc (bitsOf (take at out)) (numBits n acc) (odd b ∷ [])) in
-    record {
-      few = omega arith;
-      small = omega arith;
-      place = omega arith;
-      long = length-set out at x;
-      rest = drop-set-lt (at + 1) out at x (omega arith);
-      bits = ap (λ (l : List ℕ). bitsOf l ++ numBits 0 0) t ∙ ap (λ (l : List Bool). bitsOf (take at out ++ (x ∷ [])) ++ l) no-bits ∙ append-nil _ ∙ z;
-    }
-
 pub later : (i j : ℕ) (a b : List ℕ) → i ≤ j → drop i a ≡ drop i b → drop j a ≡ drop j b
 later i j a b h e =
     let d : i + (j - i) ≡ j = omega arith in
     rw (← d, ← drop-drop (j - i) i a, ← drop-drop (j - i) i b, e)
 
 -- bits after bits
-pub put-more : (a b c : List ℕ) (p q r : Pen) (xs ys : List Bool) → Put a p b q xs → Put b q c r ys → Put a p c r (xs ++ ys)
-put-more a b c p q r xs ys f g = record {
-  few = g .few;
-  small = g .small;
-  place = omega (arith, f .place, g .place, length-append xs ys);
-  long = g .long ∙ f .long;
-  rest = g .rest ∙ later (q .at) (r .at) b a (omega (arith, f .place, g .place, f .few, g .few)) (f .rest);
-  bits = g .bits ∙ ap (λ (l : List Bool). l ++ ys) (f .bits) ∙ append-assoc (penBits a p) xs ys;
-}
+pub put-more : (a b c : List ℕ) (p q r : Pen) (xs ys : List Bool) → PutWide a p b q xs → PutWide b q c r ys → PutWide a p c r (xs ++ ys)
+put-more a b c p q r xs ys f g =
+    let l = length-append xs ys in
+    record {
+      place = omega (arith, f .place, g .place, f .waits, l);
+      waits = omega (arith, f .waits, g .waits, l);
+      small = g .small;
+      long = g .long ∙ f .long;
+      rest = g .rest ∙ later (q .at) (r .at) b a (omega (arith, g .place)) (f .rest);
+      bits = g .bits ∙ ap (λ (l : List Bool). l ++ ys) (f .bits) ∙ append-assoc (penBits a p) xs ys;
+    }
 
-pub put-none : (a : List ℕ) (p : Pen) (size : ℕ) (k : ℕ) → Ready size p k → Put a p a p []
-put-none a p size k h = record { few = h .few; small = h .small; place = omega arith; long = refl; rest = refl; bits = sym (append-nil (penBits a p)) }
+pub put-none : (a : List ℕ) (p : Pen) → p .n < 32 → p .acc < 2 ^ (p .n) → PutWide a p a p []
+put-none a p h s = record { place = omega arith; waits = omega arith; small = s; long = refl; rest = refl; bits = sym (append-nil (penBits a p)) }
 
 -- room for what is still to come
 pub ready-after :
-    (before after : List ℕ) (p q : Pen) (k m : ℕ) (bs : List Bool) → Ready (length before) p k → Put before p after q bs → length bs + m ≤ k →
-    Ready (length after) q m
-ready-after before after p q k m bs h w l = record { few = w .few; small = w .small; room = omega (arith, h .room, w .place, w .long) }
+    (before after : List ℕ) (p q : Pen) (k m : ℕ) (bs : List Bool) → p .at * 8 + p .n + k ≤ length before * 8 → PutWide before p after q bs →
+    length bs + m ≤ k → ReadyWide (length after) q m
+ready-after before after p q k m bs h w l =
+    record { few = omega (arith, w .waits); small = w .small; room = omega (arith, h, w .place, w .waits, w .long) }
+
+-- what waits is put out: less than a byte waits
+pub put-close : (a b c : List ℕ) (p q r : Pen) (bs : List Bool) → PutWide a p b q bs → Put b (emptyAt (q .at)) c r (numBits (q .n) (q .acc)) → Put a p c r bs
+unfolding penBits numBits
+put-close a b c p q r bs f g =
+    let n = length-numBits (q .n) (q .acc) in
+    record {
+      few = g .few;
+      small = g .small;
+      place = omega (arith, f .place, f .waits, g .place, n);
+      long = g .long ∙ f .long;
+      rest = g .rest ∙ later (q .at) (r .at) b a (omega (arith, g .place, g .few, n)) (f .rest);
+      bits = g .bits ∙ ap (λ (l : List Bool). l ++ numBits (q .n) (q .acc)) (append-nil (bitsOf (take (q .at) b))) ∙ f .bits;
+    }
 
 -- ---- the last byte
 

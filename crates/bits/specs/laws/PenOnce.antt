@@ -1,14 +1,14 @@
 -- "For any input whatever, a public function's promise leaves one possible answer and one possible content of lent memory": for the pen's functions, whose
--- promises are `Put` and `Closed`.
+-- promises are `Put`, `PutWide` and `Closed`.
 use Prim.Native.Nat.{ℕ, zero, suc, _+_, _*_, _^_, _≤_, _<_}
-use mathlib.Core.Path.{_≡_, refl, sym, ap, ap₂, _∙_, subst}
+use mathlib.Core.Path.{_≡_, sym, ap, ap₂, _∙_, subst}
 use mathlib.Core.Bool.{Bool}
 use mathlib.Core.List.{List, [], _∷_, _++_}
 use native.Mathlib.Omega.{arith}
 use lib.ListN.{length, take, drop, length-take, take-append-drop}
 use lib.Seq.{take-at, drop-at}
 use Rattle.bits.specs.Bits.{bitsOf, numBits}
-use Rattle.bits.specs.Pen.{penBits, Ready, Put, Closed}
+use Rattle.bits.specs.Pen.{penBits, Ready, Put, ReadyWide, PutWide, Closed}
 use Rattle.bits.specs.laws.Bit.{length-bitsOf}
 use Rattle.bits.specs.laws.Bytes.{Bytes, numBits-inj, bitsOf-inj, written-once}
 use Rattle.bits.specs.declared.Pen.{Pen}
@@ -53,16 +53,29 @@ same-bits n k x y a b la lb ha hb hx hy e =
     ∙ drop-at (bitsOf (take n b)) (numBits k y) (8 * n) (long b lb) in
     (bitsOf-inj (take n a) (take n b) (bytes-take n a ha) (bytes-take n b hb) t, numBits-inj k x y hx hy d)
 
-pub put-once :
-    (before : List ℕ) (p : Pen) (bs : List Bool) (a b : List ℕ) (r q : Pen) → Ready (length before) p (length bs) → Bytes a → Bytes b →
-    Put before p a r bs → Put before p b q bs → (r ≡ q) × (a ≡ b)
-unfolding penBits
-put-once before p bs a b r q h ha hb x y =
-    let o = one-place (r .at) (r .n) (q .at) (q .n) (x .few) (y .few) (x .place ∙ sym (y .place)) in
-    let c : q .acc < 2 ^ (r .n) = subst (λ (k : ℕ). q .acc < 2 ^ k) (sym (o .1)) (y .small) in
-    let l : r .at ≤ length before = omega (arith, h .room, x .place) in
-    let e : bitsOf (take (r .at) a) ++ numBits (r .n) (r .acc) ≡ bitsOf (take (r .at) b) ++ numBits (r .n) (q .acc) =
-    x .bits ∙ sym (y .bits) ∙ ap₂ (λ (m k : ℕ). bitsOf (take m b) ++ numBits k (q .acc)) (sym (o .0)) (sym (o .1)) in
-    let s = same-bits (r .at) (r .n) (r .acc) (q .acc) a b (omega (arith, l, x .long)) (omega (arith, l, y .long)) ha hb (x .small) c e in
-    let d : drop (r .at) a ≡ drop (r .at) b = x .rest ∙ ap (λ (m : ℕ). drop m before) (o .0) ∙ sym (y .rest) ∙ ap (λ (m : ℕ). drop m b) (sym (o .0)) in
-    (same-pen r q (o .0) (s .1) (o .1), two-parts (r .at) a b (s .0) d)
+-- two pens at one place with as many bits waiting, and the bytes that they left
+module _ (before : List ℕ) (p : Pen) (bs : List Bool) (a b : List ℕ) (r q : Pen) (ha : Bytes a) (hb : Bytes b) (at : r .at ≡ q .at) (n : r .n ≡ q .n) where
+  same-once : r .at ≤ length a → r .at ≤ length b → r .acc < 2 ^ (r .n) → q .acc < 2 ^ (q .n) → drop (r .at) a ≡ drop (r .at) before →
+      drop (q .at) b ≡ drop (q .at) before → penBits a r ≡ penBits before p ++ bs → penBits b q ≡ penBits before p ++ bs → (r ≡ q) × (a ≡ b)
+  unfolding penBits
+  same-once la lb sr sq da db ea eb =
+      let c : q .acc < 2 ^ (r .n) = subst (λ (k : ℕ). q .acc < 2 ^ k) (sym n) sq in
+      let e : bitsOf (take (r .at) a) ++ numBits (r .n) (r .acc) ≡ bitsOf (take (r .at) b) ++ numBits (r .n) (q .acc) =
+      ea ∙ sym eb ∙ ap₂ (λ (m k : ℕ). bitsOf (take m b) ++ numBits k (q .acc)) (sym at) (sym n) in
+      let s = same-bits (r .at) (r .n) (r .acc) (q .acc) a b la lb ha hb sr c e in
+      let d : drop (r .at) a ≡ drop (r .at) b = da ∙ ap (λ (m : ℕ). drop m before) at ∙ sym db ∙ ap (λ (m : ℕ). drop m b) (sym at) in
+      (same-pen r q at (s .1) n, two-parts (r .at) a b (s .0) d)
+
+module _ (before : List ℕ) (p : Pen) (bs : List Bool) (a b : List ℕ) (r q : Pen) (ha : Bytes a) (hb : Bytes b) where
+  pub put-once : Ready (length before) p (length bs) → Put before p a r bs → Put before p b q bs → (r ≡ q) × (a ≡ b)
+  put-once h x y =
+      let o = one-place (r .at) (r .n) (q .at) (q .n) (x .few) (y .few) (x .place ∙ sym (y .place)) in
+      let l : r .at ≤ length before = omega (arith, h .room, x .place) in
+      same-once before p bs a b r q ha hb (o .0) (o .1) (omega (arith, l, x .long)) (omega (arith, l, y .long)) (x .small) (y .small) (x .rest) (y .rest)
+      (x .bits) (y .bits)
+
+  pub put-wide-once : ReadyWide (length before) p (length bs) → PutWide before p a r bs → PutWide before p b q bs → (r ≡ q) × (a ≡ b)
+  put-wide-once h x y =
+      let l : r .at ≤ length before = omega (arith, h .room, x .place) in
+      same-once before p bs a b r q ha hb (x .place ∙ sym (y .place)) (x .waits ∙ sym (y .waits)) (omega (arith, l, x .long)) (omega (arith, l, y .long))
+      (x .small) (y .small) (x .rest) (y .rest) (x .bits) (y .bits)

@@ -5,18 +5,18 @@ use mathlib.Core.Bool.{Bool, true, false}
 use mathlib.Core.List.{List, [], _∷_, _++_, append-nil, append-assoc}
 use native.Mathlib.Omega.{arith}
 use native.Mathlib.Decide.{decLt}
-use native.Mathlib.Nat.{div-eq-of-lt, div-eq-of-lt-le, pow-suc, mod-eq-of-lt, mod-lt, le-refl, zero-add, one-mul, mul-le-mul-left, div-lt-iff-lt-mul}
+use native.Mathlib.Nat.{div-eq-of-lt, div-eq-of-lt-le, pow-suc, mod-lt, le-refl, zero-add, one-mul, mul-le-mul-left, div-lt-iff-lt-mul}
 use lib.ListN.{length, drop, getD, replicate, length-append, length-drop, length-replicate, drop-of-length-le}
 use lib.Seq.{drop-at, drop-drop, drop-cons, drop-append-le, drop-append-add}
 use lib.Pow.{shr-shr, shl-shr, field, high, low, pow-pos, pow-mono, mod-mod-pow}
 use lib.Count.{leadingZeros, leading-length, leading-unique}
 use Rattle.bits.specs.Bits.{odd, val, numBits, bitsOf, onesOf, numOf, grOf, grBits}
-use Rattle.bits.specs.Word.{fourOf, frontZeros, horner}
-use Rattle.bits.specs.laws.Bit.{length-numBits, num-put, ones-got, gr-small, num-got-lt}
+use Rattle.bits.specs.Word.{fourOf, frontOnes, frontZeros, horner}
+use Rattle.bits.specs.laws.Bit.{length-numBits, num-put, ones-got, gr-cut, gr-cut-low, gr-got, gr-small, num-got-lt}
 use Rattle.bits.specs.laws.Here.{numBits-mod, num-there, gr-there, length-grBits}
 use Rattle.bits.specs.laws.Lead.{ones-lead, lead-low, lead-high}
 use Rattle.bits.specs.laws.Bytes.{Bytes}
-use Rattle.bits.specs.laws.Pen.{bitsOf-append}
+use Rattle.bits.specs.laws.Pen.{bitsOf-append, numBits-shift}
 use Rattle.bits.specs.declared.Num.the-variants.{Got, Cut}
 
 -- the high bits of a number, then its low ones
@@ -54,15 +54,6 @@ num-short zero acc at bs h = absurd (omega arith)
 num-short (suc k) acc at [] h = refl
 num-short (suc k) acc at (b ∷ bs) h = num-short k (acc * 2 + val b) (at + 1) bs (omega arith)
 
-one-shl : (k : ℕ) → k ≤ 57 → 1 * 2 ^ k % 2 ^ 64 ≡ 2 ^ k
-one-shl k h =
-    let p : 2 ^ k ≤ 2 ^ 57 = pow-mono {j = 57} h in
-    let e : 1 * 2 ^ k ≡ 2 ^ k = omega arith in
-    rw e (mod-eq-of-lt (omega arith))
-
-pub shl-some : (k : ℕ) → k ≤ 57 → 0 < 1 * 2 ^ k % 2 ^ 64
-shl-some k h = rw (one-shl k h) (pow-pos k)
-
 -- in the code's forms
 pub in-cut : (w at k : ℕ) → 57 - at < k → Cut ≡ numOf k 0 at (drop at (numBits 57 w))
 in-cut w at k l =
@@ -88,9 +79,9 @@ field-left w at k h =
     let e : w % 2 ^ 57 / 2 ^ r ≡ w / 2 ^ r % 2 ^ (at + k) = ap (λ (n : ℕ). w % 2 ^ n / 2 ^ r) (sym part) ∙ field w (at + k) r in
     a ∙ b ∙ ap (λ (n : ℕ). n % 2 ^ k) (c ∙ ap (λ (n : ℕ). n / 2 ^ r) d ∙ e) ∙ mod-mod-pow (w / 2 ^ r) at k
 
-pub in-got : (w at k n : ℕ) → at ≤ 57 → k ≤ 57 - at → n ≡ w * 2 ^ 7 % 2 ^ 64 * 2 ^ at % 2 ^ 64 / 2 ^ 1 / 2 ^ (63 - k) →
+pub in-got : (w at k n : ℕ) → at + k ≤ 57 → n ≡ w * 2 ^ 7 % 2 ^ 64 * 2 ^ at % 2 ^ 64 / 2 ^ 1 / 2 ^ (63 - k) →
     Got n (at + k) ≡ numOf k 0 at (drop at (numBits 57 w))
-in-got w at k n h l e = ap (λ (x : ℕ). Got x (at + k)) (e ∙ field-left w at k (omega arith)) ∙ sym (num-in w at k (omega arith))
+in-got w at k n h e = ap (λ (x : ℕ). Got x (at + k)) (e ∙ field-left w at k h) ∙ sym (num-in w at k h)
 
 -- ---- ones in the word
 
@@ -100,59 +91,86 @@ lead-wide j k c h =
     let s = leading-length k c h in
     sym (leading-unique (j + k) c (j + leadingZeros k c) (s .0) (omega (arith, s .1)) (s .2) (s .3))
 
--- the ones at place `at` of the 57 bits of w, by the leading zeros of what is left of it, complemented
-module _ (w at r : ℕ) (e : at + r ≡ 57) where
-  past-is : drop at (numBits 57 w) ≡ numBits r (w % 2 ^ r) ++ []
-  past-is =
-      ap (λ (n : ℕ). drop at (numBits n w)) (sym e)
-      ∙ numBits-past at r w
-      ∙ sym (numBits-mod r r w (le-refl r))
-      ∙ sym (append-nil (numBits r (w % 2 ^ r)))
+-- the ones that some bits begin with, read: a zero ends them, or the bits end first
+front-some : (v at : ℕ) (bs : List Bool) → frontOnes bs < length bs → onesOf v at bs ≡ Got (v + frontOnes bs) (at + frontOnes bs + 1)
+unfolding frontOnes onesOf
+front-some v at [] h = absurd (omega arith)
+front-some v at (true ∷ bs) h = front-some (v + 1) (at + 1) bs (omega arith) ∙ ap₂ Got (omega arith) (omega arith)
+front-some v at (false ∷ bs) h = ap₂ Got (omega arith) (omega arith)
 
-  ones-some : (m : ℕ) → leadingZeros r (2 ^ r - 1 - w % 2 ^ r) ≡ m → m < r → onesOf 0 at (drop at (numBits 57 w)) ≡ Got m (at + m + 1)
-  ones-some m f h =
-      ap (λ (l : List Bool). onesOf 0 at l) past-is
-      ∙ ones-lead r (w % 2 ^ r) 0 at [] (mod-lt w (pow-pos r)) m f .0 h
-      ∙ ap (λ (n : ℕ). Got n (at + m + 1)) (omega arith)
+front-none : (v at : ℕ) (bs : List Bool) → length bs ≤ frontOnes bs → onesOf v at bs ≡ Cut
+unfolding frontOnes onesOf
+front-none v at [] h = refl
+front-none v at (true ∷ bs) h = front-none (v + 1) (at + 1) bs (omega arith)
+front-none v at (false ∷ bs) h = absurd (omega arith)
 
-  ones-none : (m : ℕ) → leadingZeros r (2 ^ r - 1 - w % 2 ^ r) ≡ m → r ≤ m → onesOf 0 at (drop at (numBits 57 w)) ≡ Cut
-  unfolding onesOf
-  ones-none m f h = ap (λ (l : List Bool). onesOf 0 at l) past-is ∙ ones-lead r (w % 2 ^ r) 0 at [] (mod-lt w (pow-pos r)) m f .1 h
+ones-le : (bs : List Bool) → frontOnes bs ≤ length bs
+unfolding frontOnes
+ones-le [] = omega arith
+ones-le (true ∷ bs) = omega (arith, ones-le bs)
+ones-le (false ∷ bs) = omega arith
+
+-- a zero behind them, and whatever follows it, does not count
+front-behind : (p rest : List Bool) → frontOnes (p ++ (false ∷ rest)) ≡ frontOnes p
+unfolding frontOnes
+front-behind [] rest = refl
+front-behind (true ∷ p) rest = ap suc (front-behind p rest)
+front-behind (false ∷ p) rest = refl
 
 -- in the code's forms
 module _ (w at : ℕ) (h : at ≤ 57) where
-  abbrev pub all : ℕ
-  all = 1 * 2 ^ (57 - at) % 2 ^ 64
+  past-is : drop at (numBits 57 w) ≡ numBits (57 - at) w
+  past-is = let e : 57 ≡ at + (57 - at) = omega arith in ap (λ (n : ℕ). drop at (numBits n w)) e ∙ numBits-past at (57 - at) w
 
-  all-is : all ≡ 2 ^ (57 - at)
-  all-is = one-shl (57 - at) (omega arith)
+  past-long : length (drop at (numBits 57 w)) ≡ 57 - at
+  past-long = ap length past-is ∙ length-numBits (57 - at) w
 
-  pub all-over : w % all ≤ all - 1
-  all-over = let m : w % all < all = mod-lt w (shl-some (57 - at) (omega arith)) in omega arith
+  -- what stands at a place, shifted up: its bits, then zeros
+  up-is : numBits 64 (w * 2 ^ 7 % 2 ^ 64 * 2 ^ at % 2 ^ 64) ≡ drop at (numBits 57 w) ++ (replicate 7 false ++ replicate at false)
+  up-is =
+      let x = w * 2 ^ 7 % 2 ^ 64 in
+      let r = 57 - at in
+      let a : 64 ≡ r + 7 + at = omega arith in
+      numBits-mod 64 64 (x * 2 ^ at) (le-refl 64)
+      ∙ ap (λ (n : ℕ). numBits n (x * 2 ^ at)) a
+      ∙ numBits-shift at (r + 7) x
+      ∙ ap (λ (l : List Bool). l ++ replicate at false)
+      (numBits-mod 64 (r + 7) (w * 2 ^ 7) (omega arith) ∙ numBits-shift 7 r w ∙ ap (λ (l : List Bool). l ++ replicate 7 false) (sym past-is))
+      ∙ append-assoc (drop at (numBits 57 w)) (replicate 7 false) (replicate at false)
 
-  left-lt : 2 ^ (57 - at) - 1 - w % 2 ^ (57 - at) < 2 ^ (57 - at)
-  left-lt = let p : 0 < 2 ^ (57 - at) = pow-pos (57 - at) in omega arith
+  pub in-lead : leadingZeros 64 (18446744073709551615 - w * 2 ^ 7 % 2 ^ 64 * 2 ^ at % 2 ^ 64) ≡ frontOnes (drop at (numBits 57 w))
+  in-lead =
+      let x = w * 2 ^ 7 % 2 ^ 64 * 2 ^ at % 2 ^ 64 in
+      sym (ones-lead 64 x (mod-lt (w * 2 ^ 7 % 2 ^ 64 * 2 ^ at) (pow-pos 64)))
+      ∙ ap frontOnes up-is
+      ∙ front-behind (drop at (numBits 57 w)) (replicate 6 false ++ replicate at false)
 
-  wide-is : leadingZeros 64 (all - 1 - w % all) ≡ 64 - (57 - at) + leadingZeros (57 - at) (2 ^ (57 - at) - 1 - w % 2 ^ (57 - at))
-  wide-is =
-      let e : 64 - (57 - at) + (57 - at) ≡ 64 = omega arith in
-      rw all-is
-      (ap (λ (n : ℕ). leadingZeros n (2 ^ (57 - at) - 1 - w % 2 ^ (57 - at))) (sym e)
-      ∙ lead-wide (64 - (57 - at)) (57 - at) (2 ^ (57 - at) - 1 - w % 2 ^ (57 - at)) left-lt)
+  module _ (m : ℕ) (e : m ≡ frontOnes (drop at (numBits 57 w))) where
+    pub in-few : m ≤ 57 - at
+    in-few = omega (arith, e, past-long, ones-le (drop at (numBits 57 w)))
 
-  pub lead-some : 64 - (57 - at) ≤ leadingZeros 64 (all - 1 - w % all)
-  lead-some = omega (arith, wide-is)
+    pub in-ones : m < 57 - at → Got m (at + m + 1) ≡ onesOf 0 at (drop at (numBits 57 w))
+    in-ones l = ap₂ Got (omega (arith, e)) (omega (arith, e)) ∙ sym (front-some 0 at (drop at (numBits 57 w)) (omega (arith, e, past-long)))
 
-  lead-is : leadingZeros (57 - at) (2 ^ (57 - at) - 1 - w % 2 ^ (57 - at)) ≡ leadingZeros 64 (all - 1 - w % all) - (64 - (57 - at))
-  lead-is = omega (arith, wide-is)
+    pub in-none : 57 - at ≤ m → Cut ≡ onesOf 0 at (drop at (numBits 57 w))
+    in-none l = sym (front-none 0 at (drop at (numBits 57 w)) (omega (arith, e, past-long)))
 
-  pub in-ones : (m : ℕ) → leadingZeros 64 (all - 1 - w % all) - (64 - (57 - at)) ≡ m → m < 57 - at →
-      Got m (at + m + 1) ≡ onesOf 0 at (drop at (numBits 57 w))
-  in-ones m e l = sym (ones-some w at (57 - at) (omega arith) m (lead-is ∙ e) l)
+    -- a GR number that begins with m ones
+    pub in-gr-cut : (k : ℕ) → 57 - at < m + 1 + k → Cut ≡ grOf k at (numBits 57 w)
+    in-gr-cut k l = elim (decLt m (57 - at)) [ yes s ↦ some s | no n ↦ sym (gr-cut k at (numBits 57 w) (sym (in-none (omega arith)))) ]
+      where
+        some : m < 57 - at → Cut ≡ grOf k at (numBits 57 w)
+        some s = sym (gr-cut-low k at (numBits 57 w) m (at + m + 1) (sym (in-ones s)) (sym (in-cut w (at + m + 1) k (omega arith))))
 
-  pub in-none : (m : ℕ) → leadingZeros 64 (all - 1 - w % all) - (64 - (57 - at)) ≡ m → 57 - at ≤ m →
-      Cut ≡ onesOf 0 at (drop at (numBits 57 w))
-  in-none m e l = sym (ones-none w at (57 - at) (omega arith) m (lead-is ∙ e) l)
+    module _ (k b : ℕ) (hk : k ≤ 10) (l : m + 1 + k ≤ 57 - at) (f : Got b (at + m + 1 + k) ≡ numOf k 0 (at + m + 1) (drop (at + m + 1) (numBits 57 w))) where
+      pub in-gr-fits : (m * 2 ^ k % 2 ^ 64 ≡ m * 2 ^ k) × (m * 2 ^ k + b < 2 ^ 31)
+      in-gr-fits =
+          gr-small k m b hk (omega arith) (rw (one-mul) at (num-got-lt k 0 (at + m + 1) (drop (at + m + 1) (numBits 57 w)) b (at + m + 1 + k) (sym f)))
+
+      pub in-gr : Got (m * 2 ^ k % 2 ^ 64 + b) (at + (m + 1 + k)) ≡ grOf k at (numBits 57 w)
+      in-gr =
+          let n : at + (m + 1 + k) ≡ at + m + 1 + k = omega arith in
+          rw (in-gr-fits .0, n) (sym (gr-got k at (numBits 57 w) m (at + m + 1) b (at + m + 1 + k) (sym (in-ones (omega arith))) (sym f)))
 
 -- what ones found in a word leave room for
 pub in-place : (w at v mid : ℕ) → onesOf 0 at (drop at (numBits 57 w)) ≡ Got v mid → (mid ≤ 57) × (v < 57)
@@ -164,11 +182,6 @@ in-place w at v mid e =
     let d = length-drop at (numBits 57 w) in
     let k = length-numBits 57 w in
     (omega (arith, r .place, l, a, n, d, k), omega (arith, r .count, l, a, n, d, k))
-
-pub in-small : (w at k v mid b next : ℕ) → k ≤ 10 → onesOf 0 at (drop at (numBits 57 w)) ≡ Got v mid →
-    numOf k 0 mid (drop mid (numBits 57 w)) ≡ Got b next → (v * 2 ^ k % 2 ^ 64 ≡ v * 2 ^ k) × (v * 2 ^ k + b < 2 ^ 31)
-in-small w at k v mid b next hk e f =
-    gr-small k v b hk (omega (arith, in-place w at v mid e .1)) (rw (one-mul) at (num-got-lt k 0 mid (drop mid (numBits 57 w)) b next f))
 
 -- ---- what is read inside a word ends inside it
 

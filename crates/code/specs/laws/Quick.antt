@@ -9,16 +9,16 @@ use lib.IntN.{ℤ}
 use lib.Dec.{ltb}
 use lib.ListN.{length, drop, replicate, length-append, length-drop}
 use Rattle.whole.specs.Row.{_⇒_∣_}
-use Rattle.bits.specs.Bits.{numBits, numOf}
+use Rattle.bits.specs.Bits.{bitsOf, numBits, numOf}
 use Rattle.bits.specs.Word.{frontZeros}
 use Rattle.bits.specs.laws.Bit.{length-numBits}
 use Rattle.bits.specs.laws.Here.{past, num-there}
-use Rattle.bits.specs.laws.Word.{front-stop, word-zeros}
+use Rattle.bits.specs.laws.Word.{front-stop, word-small, word-zeros}
 use Rattle.bits.specs.declared.Num.the-variants.{Got}
 use Rattle.code.specs.Code.{raised}
-use Rattle.code.specs.ReadList.{stateAt, runElem, runFirst, elemOf}
-use Rattle.code.specs.Fill.{placedOf, storedOf, leapOf, onwardOf, Inside, Filling, Quickly, Turned, valueOf, Stored}
-use Rattle.code.specs.laws.Filling.{filling-next}
+use Rattle.code.specs.ReadList.{stateAt, runElem, runFirst, elemOf, readList}
+use Rattle.code.specs.Fill.{Fine, placedOf, storedOf, leapOf, onwardOf, Inside, Fills, Filling, Open, Quickly, Turned, Worded, Rushed, valueOf, Stored}
+use Rattle.code.specs.laws.Filling.{elem-fine, filling-next}
 use Rattle.code.specs.laws.Moved.{later, elem-moved}
 use Rattle.code.specs.laws.Taken.{Told, Took, elem-told}
 use Rattle.code.specs.laws.There.{bit-here, elem-full}
@@ -28,8 +28,12 @@ use Rattle.code.specs.declared.element.Refusal.{Refusal}
 use Rattle.code.specs.declared.element.Refusal.the-variants.{Cut as Short}
 use Rattle.code.specs.declared.element.Element.{Element}
 use Rattle.code.specs.declared.element.Element.the-variants.{Zeros, One, Two, Refused}
+use Rattle.code.specs.declared.read.Filled.the-variants.{Whole}
+use Rattle.code.specs.declared.read.Placed.{Placed}
 use Rattle.code.specs.declared.read.Quick.{Quick}
 use Rattle.code.specs.declared.read.Quick.the-variants.{At as Jump, Not}
+use Rattle.code.specs.declared.read.Reach.{Reach}
+use Rattle.code.specs.declared.read.Reach.the-variants.{Full, Stuck}
 
 -- ---- an element of the word
 
@@ -88,6 +92,19 @@ word-quick rlgr3 B out c i at m w e l hm ec f h q = go e q
     go (One z v s) q = filling-next rlgr3 (length out) B out c i f h (later at (One z v s)) (moved (One z v s) q (λ x. no-one x)) _ _ refl
     go (Two a b s) q = filling-next rlgr3 (length out) B out c i f h (later at (Two a b s)) (moved (Two a b s) q (λ x. no-two x)) _ _ refl
 
+-- the same for an element that the word begins with, in the forms that the code has
+module _ (rlgr3 : Bool) (w : ℕ) (out : List ℤ) (c : State) (i : ℕ) (p : Worded w out c i) (e : Element)
+    (q : e ≡ elemOf rlgr3 (c .kp) (c .krp) (length out - i) 0 (numBits 57 w)) where
+  pub first-fine : (length out ≤ 4096) × (i < length out) × Fine (length out) i e
+  first-fine = (p .places, p .room, rw q (elem-fine rlgr3 (c .kp) (c .krp) (length out) i 0 (numBits 57 w) (p .room)))
+
+  module _ (d : Placed) (ed : d ≡ placedOf (length out) i e) where
+    pub first-inside : (c .at ≤ 524280) × Inside d
+    first-inside = (p .place, rw ed (word-inside rlgr3 (c .kp) (c .krp) (length out) i 0 w e (omega arith) (p .room) q))
+
+    pub first-turns : (new : List ℤ) (r : Quick) → new ≡ storedOf out i e → r ≡ onwardOf (c .at) d → Turned rlgr3 w c i out new r
+    first-turns new r en er B word f = rw (er, ed, en) (word-quick rlgr3 B out c i (c .at) 0 w e word (omega arith) (omega arith) f (p .room) q)
+
 -- a run's value behind the zeros that a word begins with
 pub value-is : (w m kp krp left : ℕ) → m ≡ frontZeros (numBits 57 w) → m < 57 →
     runElem kp krp left (numBits 57 w) (numOf 1 0 m (drop m (numBits 57 w))) ≡
@@ -144,7 +161,7 @@ module _ (rlgr3 : Bool) (n : ℕ) (B : List Bool) where
           (rw (← jump-j q, ← jump-s q) w, omega (arith, jump-j q), λ z l. absurd (omega arith))
 
 -- where full runs lead: still in run mode, and all m are taken unless the list is full
-leap-state : (m n i : ℕ) (c : State) (j : ℕ) (t : State) → leapOf m n i c ≡ Jump j t → 8 ≤ c .kp → c .kp ≤ 80 → c .krp ≤ 80 →
+pub leap-state : (m n i : ℕ) (c : State) (j : ℕ) (t : State) → leapOf m n i c ≡ Jump j t → 8 ≤ c .kp → c .kp ≤ 80 → c .krp ≤ 80 →
     (8 ≤ t .kp) × (t .kp ≤ 80) × (t .krp ≤ 80) × (j < n → t .at ≡ c .at + m)
 unfolding leapOf
 leap-state zero n i c j t p h l k =
@@ -213,14 +230,22 @@ pub record Led (B : List Bool) (c : State) (out : List ℤ) (i w m j : ℕ) (t :
   pub word : Got w (c .at + 57) ≡ numOf 57 0 (c .at) (drop (c .at) B)
   pub zeros : m ≡ frontZeros (numBits 57 w)
   pub runs : leapOf m (length out) i c ≡ Jump j t
-  pub room : i < length out
+  pub worded : Worded w out c i
   pub high : 8 ≤ c .kp
-  pub kps : c .kp ≤ 80
-  pub krs : c .krp ≤ 80
+
+-- in the forms that the code has
+pub led-by : (B : List Bool) (c : State) (out : List ℤ) (i w m j : ℕ) (t : State) (q : Quick) → Worded w out c i × (8 ≤ c .kp) →
+    m ≡ frontZeros (numBits 57 w) → q ≡ leapOf m (length out) i c → q ≡ Jump j t → Got w (c .at + 57) ≡ numOf 57 0 (c .at) (drop (c .at) B) →
+    Led B c out i w m j t
+led-by B c out i w m j t q p z e g word = record { word = word; zeros = z; runs = sym e ∙ g; worded = p .0; high = p .1 }
+
+-- filled on in whichever mode it is being filled
+abbrev Either : List Bool → State → ℕ → List ℤ → List ℤ → Quick → Type 0
+Either B c i out new r = (rlgr3 : Bool) → Filling rlgr3 (length out) B out c i → Quickly rlgr3 B i out new r
 
 module _ (B : List Bool) (c : State) (out : List ℤ) (i w m j : ℕ) (t : State) (l : Led B c out i w m j t) where
-  pub led-state : (8 ≤ t .kp) × (t .kp ≤ 80) × (t .krp ≤ 80) × (j < length out → t .at ≡ c .at + m)
-  led-state = leap-state m (length out) i c j t (l .runs) (l .high) (l .kps) (l .krs)
+  led-state : (8 ≤ t .kp) × (t .kp ≤ 80) × (t .krp ≤ 80) × (j < length out → t .at ≡ c .at + m)
+  led-state = leap-state m (length out) i c j t (l .runs) (l .high) (l .worded .kps) (l .worded .krs)
 
   led-fills : (rlgr3 : Bool) → Filling rlgr3 (length out) B out c i → Leapt rlgr3 (length out) B m out i j t
   led-fills rlgr3 f =
@@ -234,16 +259,16 @@ module _ (B : List Bool) (c : State) (out : List ℤ) (i w m j : ℕ) (t : State
   led-none z = jump-j (sym (ap (λ (x : ℕ). leapOf x (length out) i c) z) ∙ l .runs)
 
   -- the runs alone, where there are any
-  pub led-some : 0 < m → (new : List ℤ) → new ≡ out → Turned B c i out new (Jump j t)
-  led-some p new e rlgr3 f = let r = led-fills rlgr3 f in rw e (r .0, r .2 p (l .room))
+  pub led-some : 0 < m → (new : List ℤ) → new ≡ out → Either B c i out new (Jump j t)
+  led-some p new e rlgr3 f = let r = led-fills rlgr3 f in rw e (r .0, r .2 p (l .worded .room))
 
   -- the list is full
-  pub led-full : length out ≤ j → Turned B c i out out (Jump j t)
-  led-full h = led-some (pos-of m (λ z. absurd (omega (arith, led-none z, l .room)))) out refl
+  pub led-full : length out ≤ j → Either B c i out out (Jump j t)
+  led-full h = led-some (pos-of m (λ z. absurd (omega (arith, led-none z, l .worded .room)))) out refl
 
   -- the value behind them
   pub led-value : j < length out → m < 57 → (new : List ℤ) (r : Quick) → Stored w m (c .at) t j out new r → (k : ℕ) (u : State) → r ≡ Jump k u →
-      Turned B c i out new (Jump k u)
+      Either B c i out new (Jump k u)
   led-value h hm new r v k u g rlgr3 f =
       let a = led-fills rlgr3 f in
       let s = led-state in
@@ -266,6 +291,18 @@ module _ (B : List Bool) (c : State) (out : List ℤ) (i w m j : ℕ) (t : State
 
 -- ---- a turn by a word, for the loop
 
+-- the word that was looked at
+pub worded-of : (rlgr3 : Bool) (s : List ℕ) (out : List ℤ) (c : State) (i w : ℕ) → Open rlgr3 s out c i → c .at / 8 + 8 ≤ length s →
+    Got w (c .at + 57) ≡ numOf 57 0 (c .at) (drop (c .at) (bitsOf s)) → Worded w out c i
+worded-of rlgr3 s out c i w o h l = record {
+  small = word-small w (c .at) (bitsOf s) l;
+  places = o .1;
+  room = o .2;
+  kps = o .3 .kps;
+  krs = o .3 .krs;
+  place = omega (arith, o .0);
+}
+
 module _ (rlgr3 : Bool) (B : List Bool) (out : List ℤ) (c : State) (i : ℕ) (n : ℕ) (new : List ℤ) (r : Quick) (w : Filling rlgr3 n B out c i)
     (q : Quickly rlgr3 B i out new r) where
   pub quick-next : (j : ℕ) (s : State) → r ≡ Jump j s → Filling rlgr3 n B new s j × (i < j)
@@ -280,3 +317,11 @@ module _ (rlgr3 : Bool) (B : List Bool) (out : List ℤ) (c : State) (i : ℕ) (
 -- the list's length stands for n
 pub filling-long : (rlgr3 : Bool) (n : ℕ) (B : List Bool) (out : List ℤ) (c : State) (i : ℕ) → Filling rlgr3 n B out c i → Filling rlgr3 (length out) B out c i
 filling-long rlgr3 n B out c i w = rw (w .clear .len) w
+
+-- what turns by words led to
+module _ (rlgr3 : Bool) (B : List Bool) (n i : ℕ) (out new : List ℤ) (r : Reach) (e : length out ≡ n) (q : Rushed rlgr3 B (length out) i new r) where
+  pub rush-full : (at : ℕ) → r ≡ Full at → Fills (readList rlgr3 n B) new (Whole at)
+  rush-full at g = let k : Rushed rlgr3 B (length out) i new (Full at) = rw g at q in rw (← e) k
+
+  pub rush-stuck : (j : ℕ) (t : State) → r ≡ Stuck j t → Filling rlgr3 n B new t j × (i ≤ j) × (j < n)
+  rush-stuck j t g = let k : Rushed rlgr3 B (length out) i new (Stuck j t) = rw g at q in rw (← e) k

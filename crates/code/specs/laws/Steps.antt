@@ -26,11 +26,11 @@ pub kr-one : (krp v : ℕ) → v ≡ 1 → krNext krp v ≡ krp
 unfolding krNext
 kr-one krp v e = rw e
 
-pub kr-more : (krp v : ℕ) → (v ≡ 0 → ⊥) → (v ≡ 1 → ⊥) → krNext krp v ≡ min 80 (krp + v)
+pub kr-more : (krp v : ℕ) → 2 ≤ v → krNext krp v ≡ min 80 (krp + v)
 unfolding krNext
-kr-more krp zero p q = absurd (p refl)
-kr-more krp (suc zero) p q = absurd (q refl)
-kr-more krp (suc (suc v)) p q = refl
+kr-more krp zero h = absurd (omega arith)
+kr-more krp (suc zero) h = absurd (omega arith)
+kr-more krp (suc (suc v)) h = refl
 
 pub kr-le : (krp g : ℕ) → krp ≤ 80 → krAfter krp g ≤ 80
 unfolding krAfter krNext

@@ -15,7 +15,7 @@ use Rattle.bits.specs.Bits.{grBits, numBits, odd}
 use Rattle.bits.specs.laws.Bit.{length-numBits}
 use Rattle.bits.specs.laws.Gr.{grLen}
 use Rattle.bits.specs.laws.Here.{length-grBits}
-use Rattle.bits.specs.Pen.{Ready}
+use Rattle.bits.specs.Pen.{ReadyWide}
 use Rattle.bits.specs.declared.Pen.{Pen}
 use Rattle.code.specs.Code.{raised, krAfter, kpOne, kpTwo, zerosOf, runBits, pairBits, size, itemBits, itemUsed, itemKp, itemKrp}
 use Rattle.code.specs.laws.Steps.{size-fit}
@@ -136,10 +136,10 @@ small-twin it a b e s = rw e at s
 pub small-run : (it : Item) (z v : ℕ) → it ≡ Run z v → SmallItem it → (0 < v) × (v ≤ 65534)
 small-run it z v e s = rw e at s
 
-pub ready-less : (size : ℕ) (p : Pen) (k m : ℕ) → Ready size p k → m ≤ k → Ready size p m
+pub ready-less : (size : ℕ) (p : Pen) (k m : ℕ) → ReadyWide size p k → m ≤ k → ReadyWide size p m
 ready-less size p k m r h = record { few = r .few; small = r .small; room = omega (arith, r .room) }
 
-pub item-ready : (size : ℕ) (p : Pen) (bs cs : List Bool) (m : ℕ) → Ready size p (length bs) → bs ≡ cs → length cs ≡ m → Ready size p m
+pub item-ready : (size : ℕ) (p : Pen) (bs cs : List Bool) (m : ℕ) → ReadyWide size p (length bs) → bs ≡ cs → length cs ≡ m → ReadyWide size p m
 item-ready size p bs cs m r e l = ready-less size p (length bs) m r (omega (arith, ap length e, l))
 
 -- a run of no more zeros than a list has

@@ -1,51 +1,21 @@
--- Few bits put at once: what waits before and after, in the forms that the code has.
+-- Bits put as one number: few ones with what follows them, and a run's head, in the forms that the code has.
 -- Assumes nothing.
 use Prim.Native.Nat.{ℕ, suc, _+_, _*_, _-_, _/_, _%_, _^_, _≤_, _<_}
 use mathlib.Core.Path.{_≡_, sym, ap, ap₂, subst, _∙_}
 use mathlib.Core.Bool.{Bool}
 use mathlib.Core.List.{List, [], _∷_, _++_}
 use native.Mathlib.Omega.{arith}
-use native.Mathlib.Nat.{mod-eq-of-lt, mod-lt, le-refl}
+use native.Mathlib.Nat.{mod-lt, le-refl}
 use lib.Arith.{digits-lt}
-use lib.ListN.{length, set, length-append}
+use lib.ListN.{length, length-append}
 use lib.Pow.{pow-add, pow-pos, pow-mono, high, low}
 use Rattle.bits.specs.Bits.{odd, numBits}
-use Rattle.bits.specs.Pen.{Ready, Put}
+use Rattle.bits.specs.Pen.{PutWide}
 use Rattle.bits.specs.laws.Bit.{length-numBits}
 use Rattle.bits.specs.laws.Gr.{shift-one}
 use Rattle.bits.specs.laws.Here.{numBits-mod}
 use Rattle.bits.specs.laws.Pen.{numBits-snoc}
-use Rattle.bits.specs.laws.Wide.{wide-fits, wide-none, wide-byte, wide-end}
 use Rattle.bits.specs.declared.Pen.{Pen}
-
--- what waits and what is put behind it, as one number
-module _ (before : List ℕ) (p : Pen) (k v : ℕ) (ready : Ready (length before) p k) (hk : k ≤ 32) (hv : v < 2 ^ k) where
-  same : v % 2 ^ k ≡ v
-  same = mod-eq-of-lt hv
-
-  pub few-fits : (p .acc * 2 ^ k % 2 ^ 64 ≡ p .acc * 2 ^ k) × (p .acc * 2 ^ k + v < 2 ^ 64)
-  few-fits = let f = wide-fits p k v (length before) ready hk in (f .1, rw same at (f .2))
-
-  small : p .acc * 2 ^ k + v < 2 ^ (p .n + k)
-  small = subst (λ (x : ℕ). p .acc * 2 ^ k + v < x) (sym (pow-add 2 (p .n) k)) (digits-lt (ready .small) hv)
-
-  module _ (acc : ℕ) (e : acc ≡ p .acc * 2 ^ k + v) where
-    sum : acc ≡ p .acc * 2 ^ k + v % 2 ^ k
-    sum = rw same e
-
-    -- no byte is filled
-    pub few-none : p .n + k < 8 → Put before p before (record { at = p .at; acc = acc; n = p .n + k }) (numBits k v)
-    few-none h =
-        wide-end before p k v acc before (p .at) (p .n + k) (wide-none before (p .at) acc (p .n + k)) h sum acc (sym (mod-eq-of-lt (rw e small)))
-
-    -- one byte is filled
-    pub few-one :
-        8 ≤ p .n + k → p .n + k < 16 → (x y : ℕ) → x ≡ acc / 2 ^ (p .n + k - 8) % 256 → y ≡ acc % 2 ^ (p .n + k - 8) →
-        Put before p (set before (p .at) x) (record { at = p .at + 1; acc = y; n = p .n + k - 8 }) (numBits k v)
-    few-one h l x y ex ey =
-        let w = wide-byte before (p .at) acc (p .n + k) before (p .at) (p .n + k) (wide-none before (p .at) acc (p .n + k)) h
-        (omega (arith, ready .room)) x ex in
-        wide-end before p k v acc (set before (p .at) x) (p .at + 1) (p .n + k - 8) w (omega arith) sum y ey
 
 -- few ones, the zero and the low bits are a number of as many bits
 pub ones-small : (k n v : ℕ) → (2 ^ v - 1) * 2 ^ (k + 1) + n % 2 ^ k < 2 ^ (v + (k + 1))
@@ -84,5 +54,5 @@ module _ (k z v : ℕ) (hk : k ≤ 10) (hz : z < 2 ^ k) where
       ∙ numBits-snoc (suc k) (2 ^ k + z) (v % 2) (omega arith)
       ∙ ap (λ (l : List Bool). l ++ (odd (v % 2) ∷ [])) (ap₂ (λ (x : ℕ) (l : List Bool). odd x ∷ l) q t)
 
-  pub head-put : (a b : List ℕ) (p q : Pen) → Put a p b q (numBits (k + 2) ((1 * 2 ^ k % 2 ^ 64 + z) * 2 + v % 2)) → Put a p b q (headBits k z (v % 2))
+  pub head-put : (a b : List ℕ) (p q : Pen) → PutWide a p b q (numBits (k + 2) ((1 * 2 ^ k % 2 ^ 64 + z) * 2 + v % 2)) → PutWide a p b q (headBits k z (v % 2))
   head-put a b p q w = rw (← bits) (rw (shift-one k hk) at w)

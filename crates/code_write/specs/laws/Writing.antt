@@ -3,13 +3,13 @@
 use Prim.Native.Nat.{ℕ, suc, _+_, _*_, _-_, _/_, _^_, _≤_, _<_, min}
 use mathlib.Core.Path.{_≡_, refl, sym, ap, _∙_}
 use mathlib.Core.Bool.{Bool, true, false}
-use mathlib.Core.List.{List, [], _∷_, _++_, map}
+use mathlib.Core.List.{List, [], _++_, map}
 use native.Mathlib.Omega.{arith}
 use lib.IntN.{ℤ}
 use lib.ListN.{length, drop, getD, length-append, length-drop, length-map}
-use Rattle.bits.specs.Bits.{odd, grBits}
-use Rattle.bits.specs.Pen.{Ready, Put}
-use Rattle.bits.specs.laws.Pen.{put-none, put-more, ready-after}
+use Rattle.bits.specs.Bits.{numBits, grBits}
+use Rattle.bits.specs.Pen.{Ready, Put, ReadyWide, PutWide, emptyAt}
+use Rattle.bits.specs.laws.Pen.{put-none, put-more, ready-after, put-close}
 use Rattle.bits.specs.declared.Pen.{Pen}
 use Rattle.code.specs.Code.{InRange, zerosOf, raised, krAfter, kpOne, kpTwo, runBits, pairBits, codeOf, itemOf, itemBits, itemUsed, itemKp, itemKrp}
 use Rattle.code.specs.Fold.{foldZ}
@@ -25,7 +25,7 @@ use Rattle.code_write.specs.laws.Going.{Going, going-start, going-good, 
 pub record Writing (rlgr3 : Bool) (l : List ℕ) (before : List ℕ) (p : Pen) (out : List ℕ) (q : Pen) (i kp krp : ℕ) : Type 0 where
   pub D : List Bool
   pub going : Going rlgr3 l D i kp krp
-  pub put : Put before p out q D
+  pub put : PutWide before p out q D
 
 -- n bits are counted, and the code goes on
 pub record Sizing (rlgr3 : Bool) (l : List ℕ) (n i kp krp : ℕ) : Type 0 where
@@ -44,18 +44,18 @@ pub record Standing (rlgr3 : Bool) (xs : List ℤ) (size : ℕ) (s : Stand) : Ty
   pub there : s .i < length xs
   pub kps : s .kp ≤ 80
   pub krs : s .krp ≤ 80
-  pub ready : Ready size (s .pen) (length (itemBits (s .kp) (s .krp) (nextOf rlgr3 (map foldZ xs) s)))
+  pub ready : ReadyWide size (s .pen) (length (itemBits (s .kp) (s .krp) (nextOf rlgr3 (map foldZ xs) s)))
 
 -- what it leaves: the item's bits are put, and the writing stands past it
 pub record Onward (rlgr3 : Bool) (l : List ℕ) (before : List ℕ) (s : Stand) (after : List ℕ) (r : Stand) : Type 0 where
-  pub put : Put before (s .pen) after (r .pen) (itemBits (s .kp) (s .krp) (nextOf rlgr3 l s))
+  pub put : PutWide before (s .pen) after (r .pen) (itemBits (s .kp) (s .krp) (nextOf rlgr3 l s))
   pub place : r .i ≡ s .i + itemUsed (s .kp) (nextOf rlgr3 l s)
   pub kp : r .kp ≡ itemKp (s .kp) (nextOf rlgr3 l s)
   pub krp : r .krp ≡ itemKrp (s .krp) (nextOf rlgr3 l s)
 
 -- room for the item's bits, by its kind
 pub room-of : (rlgr3 : Bool) (xs : List ℤ) (size : ℕ) (s : Stand) → Standing rlgr3 xs size s → (it : Item) → nextOf rlgr3 (map foldZ xs) s ≡ it →
-    (bs : List Bool) → itemBits (s .kp) (s .krp) it ≡ bs → (m : ℕ) → length bs ≡ m → Ready size (s .pen) m
+    (bs : List Bool) → itemBits (s .kp) (s .krp) it ≡ bs → (m : ℕ) → length bs ≡ m → ReadyWide size (s .pen) m
 room-of rlgr3 xs size s w it e bs q m l = item-ready size (s .pen) (itemBits (s .kp) (s .krp) it) bs m (rw (← e) (w .ready)) q l
 
 -- which item is next
@@ -89,26 +89,26 @@ module _ (l : List ℕ) (s : Stand) where
 
 -- one law for each kind of item
 module _ (rlgr3 : Bool) (l before : List ℕ) (s : Stand) (after : List ℕ) (r : Stand) where
-  onward : (it : Item) → nextOf rlgr3 l s ≡ it → Put before (s .pen) after (r .pen) (itemBits (s .kp) (s .krp) it) → r .i ≡ s .i + itemUsed (s .kp) it →
+  onward : (it : Item) → nextOf rlgr3 l s ≡ it → PutWide before (s .pen) after (r .pen) (itemBits (s .kp) (s .krp) it) → r .i ≡ s .i + itemUsed (s .kp) it →
       r .kp ≡ itemKp (s .kp) it → r .krp ≡ itemKrp (s .krp) it → Onward rlgr3 l before s after r
   onward it e p i k m = record { put = rw e p; place = rw e i; kp = rw e k; krp = rw e m }
 
-  pub onward-full : nextOf rlgr3 l s ≡ Full → Put before (s .pen) after (r .pen) (odd 0 ∷ []) → r .i ≡ s .i + 2 ^ (s .kp / 8) → r .kp ≡ raised 4 (s .kp) →
+  pub onward-full : nextOf rlgr3 l s ≡ Full → PutWide before (s .pen) after (r .pen) (numBits 1 0) → r .i ≡ s .i + 2 ^ (s .kp / 8) → r .kp ≡ raised 4 (s .kp) →
       r .krp ≡ s .krp → Onward rlgr3 l before s after r
-  unfolding itemBits itemUsed itemKp itemKrp
+  unfolding itemBits itemUsed itemKp itemKrp numBits
   onward-full e p i k m = onward Full e p i k m
 
-  pub onward-run : (z v : ℕ) → nextOf rlgr3 l s ≡ Run z v → Put before (s .pen) after (r .pen) (runBits (s .kp) (s .krp) z v) → r .i ≡ s .i + suc z →
+  pub onward-run : (z v : ℕ) → nextOf rlgr3 l s ≡ Run z v → PutWide before (s .pen) after (r .pen) (runBits (s .kp) (s .krp) z v) → r .i ≡ s .i + suc z →
       r .kp ≡ s .kp - 6 → r .krp ≡ krAfter (s .krp) ((v - 1) / 2) → Onward rlgr3 l before s after r
   unfolding itemBits itemUsed itemKp itemKrp
   onward-run z v e p i k m = onward (Run z v) e p i k m
 
-  pub onward-twin : (a b : ℕ) → nextOf rlgr3 l s ≡ Twin a b → Put before (s .pen) after (r .pen) (pairBits (s .krp) a b) → r .i ≡ s .i + 2 →
+  pub onward-twin : (a b : ℕ) → nextOf rlgr3 l s ≡ Twin a b → PutWide before (s .pen) after (r .pen) (pairBits (s .krp) a b) → r .i ≡ s .i + 2 →
       r .kp ≡ kpTwo (s .kp) a b → r .krp ≡ krAfter (s .krp) (a + b) → Onward rlgr3 l before s after r
   unfolding itemBits itemUsed itemKp itemKrp
   onward-twin a b e p i k m = onward (Twin a b) e p i k m
 
-  pub onward-single : (v : ℕ) → nextOf rlgr3 l s ≡ Single v → Put before (s .pen) after (r .pen) (grBits (s .krp / 8) v) → r .i ≡ s .i + 1 →
+  pub onward-single : (v : ℕ) → nextOf rlgr3 l s ≡ Single v → PutWide before (s .pen) after (r .pen) (grBits (s .krp / 8) v) → r .i ≡ s .i + 1 →
       r .kp ≡ kpOne (s .kp) v → r .krp ≡ krAfter (s .krp) v → Onward rlgr3 l before s after r
   unfolding itemBits itemUsed itemKp itemKrp
   onward-single v e p i k m = onward (Single v) e p i k m
@@ -137,20 +137,20 @@ module _ (rlgr3 : Bool) (xs : List ℤ) (few : length xs ≤ 4096) (range : InRa
   module _ (before : List ℕ) (p : Pen) (ready : Ready (length before) p (length (codeOf rlgr3 (map foldZ xs)))) where
     pub writing-start : Writing rlgr3 (map foldZ xs) before p before p 0 8 8
     writing-start =
-        record { D = []; going = going-start rlgr3 (map foldZ xs); put = put-none before p (length before) (length (codeOf rlgr3 (map foldZ xs))) ready }
+        record { D = []; going = going-start rlgr3 (map foldZ xs); put = put-none before p (omega (arith, ready .few)) (ready .small) }
 
     module _ (out : List ℕ) (q : Pen) (i kp krp : ℕ) (w : Writing rlgr3 (map foldZ xs) before p out q i kp krp) (h : i < length xs) (it : Item)
         (e : it ≡ itemOf rlgr3 kp (drop i (map foldZ xs))) where
       writing-turn : Turn kp it
       writing-turn = turn-of (w .D) i kp krp (w .going) h it e
 
-      writing-ready : Ready (length out) q (length (itemBits kp krp it))
+      writing-ready : ReadyWide (length out) q (length (itemBits kp krp it))
       writing-ready =
-          ready-after before out p q (length (codeOf rlgr3 (map foldZ xs))) (length (itemBits kp krp it)) (w .D) ready (w .put)
+          ready-after before out p q (length (codeOf rlgr3 (map foldZ xs))) (length (itemBits kp krp it)) (w .D) (ready .room) (w .put)
           (going-fits rlgr3 (map foldZ xs) (w .D) i kp krp few-l range (w .going) (omega (arith, length-map xs foldZ)) it e)
 
       next :
-          (new : List ℕ) (s : Pen) (u kq kr : ℕ) → Put out q new s (itemBits kp krp it) → u ≡ itemUsed kp it → kq ≡ itemKp kp it → kr ≡ itemKrp krp it →
+          (new : List ℕ) (s : Pen) (u kq kr : ℕ) → PutWide out q new s (itemBits kp krp it) → u ≡ itemUsed kp it → kq ≡ itemKp kp it → kr ≡ itemKrp krp it →
           Writing rlgr3 (map foldZ xs) before p new s (i + u) kq kr
       next new s u kq kr t eu ep er = record {
         D = w .D ++ itemBits kp krp it;
@@ -180,8 +180,17 @@ module _ (rlgr3 : Bool) (xs : List ℤ) (few : length xs ≤ 4096) (range : InRa
 
     pub writing-end :
         (out : List ℕ) (q : Pen) (i kp krp : ℕ) → length xs ≤ i → Writing rlgr3 (map foldZ xs) before p out q i kp krp →
-        Put before p out q (codeOf rlgr3 (map foldZ xs))
-    writing-end out q i kp krp h w = rw (← going-end rlgr3 (map foldZ xs) (w .D) i kp krp (omega (arith, length-map xs foldZ)) (w .going)) (w .put)
+        (new : List ℕ) (r : Pen) → Put out (emptyAt (q .at)) new r (numBits (q .n) (q .acc)) → Put before p new r (codeOf rlgr3 (map foldZ xs))
+    writing-end out q i kp krp h w new r c =
+        rw (← going-end rlgr3 (map foldZ xs) (w .D) i kp krp (omega (arith, length-map xs foldZ)) (w .going))
+        (put-close before out new p q r (w .D) (w .put) c)
+
+    -- what waits has room
+    pub writing-room :
+        (out : List ℕ) (q : Pen) (i kp krp : ℕ) → length xs ≤ i → Writing rlgr3 (map foldZ xs) before p out q i kp krp → ReadyWide (length out) q 0
+    writing-room out q i kp krp h w =
+        let e = ap length (going-end rlgr3 (map foldZ xs) (w .D) i kp krp (omega (arith, length-map xs foldZ)) (w .going)) in
+        ready-after before out p q (length (codeOf rlgr3 (map foldZ xs))) 0 (w .D) (ready .room) (w .put) (omega (arith, e))
 
   pub sizing-start : Sizing rlgr3 (map foldZ xs) 0 0 8 8
   sizing-start = record { D = []; going = going-start rlgr3 (map foldZ xs); is = refl }

@@ -1,12 +1,10 @@
--- `code::read::quick_single` meets its contract: the single value in the word is the one at its place (`word-quick`). Assumes nothing.
+-- `code::read::quick_single` meets its contract: the single value in the word is the one at its place (`first-turns`). Assumes nothing.
 use Prim.Native.Nat.{_-_}
 use mathlib.Core.Bool.{false}
 use mathlib.Core.Path.{sym, _∙_}
-use native.Mathlib.Omega.{arith}
 use lib.ListN.{length}
-use Rattle.bits.specs.Bits.{bitsOf, numBits}
-use Rattle.code.specs.laws.Filling.{elem-fine}
-use Rattle.code.specs.laws.Quick.{word-inside, word-quick}
+use Rattle.bits.specs.Bits.{numBits}
+use Rattle.code.specs.laws.Quick.{first-fine, first-inside, first-turns}
 use Rattle.code.specs.laws.Steps.{elem-low-one}
 use borrow.Author.Needs.{needs}
 use Rattle.code.proofs.read.quick_single.Statement.{statement}
@@ -14,40 +12,28 @@ use Rattle.code.proofs.read.quick_single.Tie as tie
 
 place-requires : tie.Need-place-requires
 place-requires c κs =
-    let l = c .before .before in
-    let s = l .before .before in
+    let s = c .before .before in
     let a = s .args in
-    let n = length (a .list .now) in
-    let P = numBits 57 (l .look .result) in
-    let q = c .before .single-in .ensures ∙ sym (elem-low-one (a .c .kp) (a .c .krp) (n - a .i) 0 P (s .pre .1)) in
-    (s .pre .0 .1, s .pre .0 .2, rw q (elem-fine false (a .c .kp) (a .c .krp) n (a .i) 0 P (s .pre .0 .2)))
+    let q = elem-low-one (a .c .kp) (a .c .krp) (length (a .list .now) - a .i) 0 (numBits 57 (a .w)) (s .pre .1) in
+    first-fine false (a .w) (a .list .now) (a .c) (a .i) (s .pre .0) _ (c .before .single-in .ensures ∙ sym q)
 
 onward-requires : tie.Need-onward-requires
 onward-requires c κs =
     let e = c .before .before .before in
-    let l = e .before in
-    let s = l .before .before in
+    let s = e .before in
     let a = s .args in
-    let n = length (a .list .now) in
-    let w = l .look .result in
-    let q = e .single-in .ensures ∙ sym (elem-low-one (a .c .kp) (a .c .krp) (n - a .i) 0 (numBits 57 w) (s .pre .1)) in (
-      omega (arith, s .pre .2, s .pre .0 .0),
-      rw (c .before .place .ensures .0) (word-inside false (a .c .kp) (a .c .krp) n (a .i) 0 w _ (omega arith) (s .pre .0 .2) q),
-    )
+    let q = elem-low-one (a .c .kp) (a .c .krp) (length (a .list .now) - a .i) 0 (numBits 57 (a .w)) (s .pre .1) in
+    first-inside false (a .w) (a .list .now) (a .c) (a .i) (s .pre .0) _ (e .single-in .ensures ∙ sym q) _ (c .before .place .ensures .0)
 
 returns : tie.Need-returns
 returns c =
     let p = c .before .before .place in
     let e = c .before .before .before .before in
-    let l = e .before in
-    let s = l .before .before in
+    let s = e .before in
     let a = s .args in
-    let n = length (a .list .now) in
-    let w = l .look .result in
-    let q = e .single-in .ensures ∙ sym (elem-low-one (a .c .kp) (a .c .krp) (n - a .i) 0 (numBits 57 w) (s .pre .1)) in
-    rw (c .onward .ensures, p .ensures .0, p .ensures .1)
-    (word-quick false (bitsOf (a .s .now)) (a .list .now) (a .c) (a .i) (a .c .at) 0 w _
-    (l .look .ensures) (omega arith) (omega arith) (s .pre .0 .3) (s .pre .0 .2) q)
+    let q = elem-low-one (a .c .kp) (a .c .krp) (length (a .list .now) - a .i) 0 (numBits 57 (a .w)) (s .pre .1) in
+    first-turns false (a .w) (a .list .now) (a .c) (a .i) (s .pre .0) _ (e .single-in .ensures ∙ sym q) _ (p .ensures .0) _ _ (p .ensures .1)
+    (c .onward .ensures)
 
 pub quick-single-spec : {M : Type 1} → statement M
-quick-single-spec = tie.close (tie.spec (λ c κs. search needs) (λ c κs. search needs) place-requires onward-requires (λ c. search needs) returns)
+quick-single-spec = tie.close (tie.spec (λ c κs. search needs) place-requires onward-requires (λ c. search needs) returns)

@@ -3,7 +3,7 @@ use Prim.Native.Nat.{_-_, _/_, _%_}
 use native.Mathlib.Omega.{arith}
 use lib.ListN.{length}
 use Rattle.bits.specs.Bits.{grBits}
-use Rattle.bits.specs.Pen.{Put}
+use Rattle.bits.specs.Pen.{PutWide}
 use Rattle.bits.specs.laws.Gr.{grLen}
 use Rattle.bits.specs.laws.Pen.{put-more, ready-after}
 use Rattle.code.specs.Code.{runBits}
@@ -13,23 +13,23 @@ use borrow.Author.Needs.{needs}
 use Rattle.code_write.proofs.put.put_run.Statement.{statement}
 use Rattle.code_write.proofs.put.put_run.Tie as tie
 
-add-put-few-2 : tie.Need-add-put-few-2
-add-put-few-2 c =
+add-put-2 : tie.Need-add-put-2
+add-put-2 c =
     let s = c .before .before in
     omega (arith, head-fits (s .args .kp / 8) (s .args .z) (s .args .v) (omega (arith, s .pre .1)) (s .pre .3) .0)
 
-mul-put-few : tie.Need-mul-put-few
-mul-put-few c =
+mul-put : tie.Need-mul-put
+mul-put c =
     let s = c .before .before in
     omega (arith, head-fits (s .args .kp / 8) (s .args .z) (s .args .v) (omega (arith, s .pre .1)) (s .pre .3) .0)
 
-add-put-few-3 : tie.Need-add-put-few-3
-add-put-few-3 c =
+add-put-3 : tie.Need-add-put-3
+add-put-3 c =
     let s = c .before .before in
     omega (arith, head-fits (s .args .kp / 8) (s .args .z) (s .args .v) (omega (arith, s .pre .1)) (s .pre .3) .0)
 
-put-few-requires : tie.Need-put-few-requires
-put-few-requires c κs =
+put-requires : tie.Need-put-requires
+put-requires c κs =
     let s = c .before .before in
     let a = s .args in (
       ready-less _ _ (length (runBits (a .kp) (a .krp) (a .z) (a .v))) _ (s .pre .0) (omega (arith, run-length (a .kp) (a .krp) (a .z) (a .v))),
@@ -37,14 +37,14 @@ put-few-requires c κs =
       head-fits (a .kp / 8) (a .z) (a .v) (omega (arith, s .pre .1)) (s .pre .3) .1,
     )
 
-put-few-requires-2 : tie.Need-put-few-requires-2
-put-few-requires-2 c κs =
+put-requires-2 : tie.Need-put-requires-2
+put-requires-2 c κs =
     let s = c .before .before .before .before .before .before .before .before in
     let a = s .args in
-    let h = c .before .before .before .before .before .put-few in
+    let h = c .before .before .before .before .before .put in
     let w = head-put (a .kp / 8) (a .z) (a .v) (omega (arith, s .pre .1)) (s .pre .3) _ _ (a .p) (h .result) (h .ensures) in
     let b = headBits (a .kp / 8) (a .z) (a .v % 2) in (
-      ready-after (a .out .now) (h .last .0) (a .p) (h .result) (length (runBits (a .kp) (a .krp) (a .z) (a .v))) _ b (s .pre .0) w
+      ready-after (a .out .now) (h .last .0) (a .p) (h .result) (length (runBits (a .kp) (a .krp) (a .z) (a .v))) _ b (s .pre .0 .room) w
           (omega (arith, run-length (a .kp) (a .krp) (a .z) (a .v), head-length (a .kp / 8) (a .z) (a .v % 2))),
       omega (arith, s .pre .2, c .before .before .if1 .taken),
       c .gr-word .ensures .1,
@@ -54,22 +54,22 @@ returns : tie.Need-returns
 returns c =
     let s = c .before .before .before .before .before .before .before .before .before .before .before in
     let a = s .args in
-    let h = c .before .before .before .before .before .before .before .before .put-few in
-    let g = c .before .before .put-few2 in
+    let h = c .before .before .before .before .before .before .before .before .put in
+    let g = c .before .before .put2 in
     let w = head-put (a .kp / 8) (a .z) (a .v) (omega (arith, s .pre .1)) (s .pre .3) _ _ (a .p) (h .result) (h .ensures) in
     let u = c .before .before .before .gr-word in
-    let t : Put (h .last .0) (h .result) (g .last .0) (g .result) (grBits (a .krp / 8) ((a .v - 1) / 2)) = rw (← u .ensures .0) (g .ensures) in
+    let t : PutWide (h .last .0) (h .result) (g .last .0) (g .result) (grBits (a .krp / 8) ((a .v - 1) / 2)) = rw (← u .ensures .0) (g .ensures) in
     rw (← run-parts (a .kp) (a .krp) (a .z) (a .v)) (put-more (a .out .now) (h .last .0) (g .last .0) (a .p) (h .result) (g .result) _ _ w t)
 
 put-gr-requires : tie.Need-put-gr-requires
 put-gr-requires c κs =
     let s = c .before .before .before .before .before .before .before in
     let a = s .args in
-    let h = c .before .before .before .before .put-few in
+    let h = c .before .before .before .before .put in
     let w = head-put (a .kp / 8) (a .z) (a .v) (omega (arith, s .pre .1)) (s .pre .3) _ _ (a .p) (h .result) (h .ensures) in
     let b = headBits (a .kp / 8) (a .z) (a .v % 2) in (
       ready-after (a .out .now) (h .last .0) (a .p) (h .result) (length (runBits (a .kp) (a .krp) (a .z) (a .v))) (grLen (a .krp / 8) ((a .v - 1) / 2)) b
-          (s .pre .0) w (omega (arith, run-length (a .kp) (a .krp) (a .z) (a .v), head-length (a .kp / 8) (a .z) (a .v % 2))),
+          (s .pre .0 .room) w (omega (arith, run-length (a .kp) (a .krp) (a .z) (a .v), head-length (a .kp / 8) (a .z) (a .v % 2))),
       omega (arith, s .pre .2),
     )
 
@@ -77,7 +77,7 @@ returns-2 : tie.Need-returns-2
 returns-2 c =
     let s = c .before .before .before .before .before .before .before .before .before .before in
     let a = s .args in
-    let h = c .before .before .before .before .before .before .before .put-few in
+    let h = c .before .before .before .before .before .before .before .put in
     let g = c .before .before .put-gr in
     let w = head-put (a .kp / 8) (a .z) (a .v) (omega (arith, s .pre .1)) (s .pre .3) _ _ (a .p) (h .result) (h .ensures) in
     rw (← run-parts (a .kp) (a .krp) (a .z) (a .v)) (put-more (a .out .now) (h .last .0) (g .last .0) (a .p) (h .result) (g .result) _ _ w (g .ensures))
@@ -85,6 +85,6 @@ returns-2 c =
 pub put-run-spec : {M : Type 1} → statement M
 put-run-spec =
     tie.close
-    (tie.spec (λ c. search needs) (λ c. search needs) add-put-few-2 mul-put-few add-put-few-3 put-few-requires (λ c. search needs) (λ c. search needs)
-    (λ c. search needs) (λ c. search needs) (λ c κs. search needs) put-few-requires-2 (λ c. search needs) returns put-gr-requires (λ c. search needs)
+    (tie.spec (λ c. search needs) (λ c. search needs) add-put-2 mul-put add-put-3 put-requires (λ c. search needs) (λ c. search needs)
+    (λ c. search needs) (λ c. search needs) (λ c κs. search needs) put-requires-2 (λ c. search needs) returns put-gr-requires (λ c. search needs)
     returns-2)

@@ -3,7 +3,7 @@ use Prim.Native.Nat.{_+_, _/_, _≤_}
 use native.Mathlib.Omega.{arith}
 use lib.ListN.{length}
 use Rattle.bits.specs.Bits.{grBits}
-use Rattle.bits.specs.Pen.{Put}
+use Rattle.bits.specs.Pen.{PutWide}
 use Rattle.bits.specs.laws.Here.{length-grBits}
 use Rattle.bits.specs.laws.Pen.{put-more, ready-after}
 use Rattle.code.specs.Code.{pairBits, size}
@@ -14,8 +14,8 @@ use borrow.Author.Needs.{needs}
 use Rattle.code_write.proofs.put.put_twin.Statement.{statement}
 use Rattle.code_write.proofs.put.put_twin.Tie as tie
 
-put-few-requires : tie.Need-put-few-requires
-put-few-requires c κs =
+put-requires : tie.Need-put-requires
+put-requires c κs =
     let s = c .before .before .before .before .before in
     let a = s .args in (
       ready-less _ _ (length (pairBits (a .krp) (a .a) (a .b))) _ (s .pre .0) (omega (arith, pair-length (a .krp) (a .a) (a .b))),
@@ -23,17 +23,17 @@ put-few-requires c κs =
       c .gr-word .ensures .1,
     )
 
-put-few-requires-2 : tie.Need-put-few-requires-2
-put-few-requires-2 c κs =
+put-requires-2 : tie.Need-put-requires-2
+put-requires-2 c κs =
     let s = c .before .before .before .before .before .before .before .before .before in
     let a = s .args in
-    let g = c .before .before .before .put-few in
+    let g = c .before .before .before .put in
     let n = c .before .before .before .before .before .before .before .bit-size in
     let u = c .before .before .before .before .gr-word in
-    let w : Put (a .out .now) (a .p) (g .last .0) (g .result) (grBits (a .krp / 8) (a .a + a .b)) = rw (← u .ensures .0) (g .ensures) in
+    let w : PutWide (a .out .now) (a .p) (g .last .0) (g .result) (grBits (a .krp / 8) (a .a + a .b)) = rw (← u .ensures .0) (g .ensures) in
     let f : size (a .a + a .b) ≤ 17 = size-fit (a .a + a .b) 17 (omega (arith, s .pre .2, s .pre .3)) in (
       ready-after (a .out .now) (g .last .0) (a .p) (g .result) (length (pairBits (a .krp) (a .a) (a .b))) (n .result) (grBits (a .krp / 8) (a .a + a .b))
-          (s .pre .0) w (omega (arith, pair-length (a .krp) (a .a) (a .b), n .ensures, length-grBits (a .krp / 8) (a .a + a .b))),
+          (s .pre .0 .room) w (omega (arith, pair-length (a .krp) (a .a) (a .b), n .ensures, length-grBits (a .krp / 8) (a .a + a .b))),
       omega (arith, f, n .ensures),
       rw (n .ensures) (omega (arith, size-fits (a .a + a .b))),
     )
@@ -41,11 +41,11 @@ put-few-requires-2 c κs =
 returns : tie.Need-returns
 returns c =
     let a = c .before .before .before .before .before .before .before .before .before .before .before .before .args in
-    let g = c .before .before .before .before .before .before .put-few in
-    let b = c .before .before .put-few2 in
+    let g = c .before .before .before .before .before .before .put in
+    let b = c .before .before .put2 in
     let n = c .before .before .before .before .before .before .before .before .before .before .bit-size in
     let u = c .before .before .before .before .before .before .before .gr-word in
-    let w : Put (a .out .now) (a .p) (g .last .0) (g .result) (grBits (a .krp / 8) (a .a + a .b)) = rw (← u .ensures .0) (g .ensures) in
+    let w : PutWide (a .out .now) (a .p) (g .last .0) (g .result) (grBits (a .krp / 8) (a .a + a .b)) = rw (← u .ensures .0) (g .ensures) in
     rw (← pair-parts (a .krp) (a .a) (a .b) (n .result) (n .ensures))
     (put-more (a .out .now) (g .last .0) (b .last .0) (a .p) (g .result) (b .result) _ _ w (b .ensures))
 
@@ -55,23 +55,24 @@ put-gr-requires c κs =
     let a = s .args in
     (ready-less _ _ (length (pairBits (a .krp) (a .a) (a .b))) _ (s .pre .0) (omega (arith, pair-length (a .krp) (a .a) (a .b))), omega (arith, s .pre .1))
 
-put-bits-requires : tie.Need-put-bits-requires
-put-bits-requires c κs =
+put-requires-3 : tie.Need-put-requires-3
+put-requires-3 c κs =
     let s = c .before .before .before .before .before .before .before .before in
     let a = s .args in
     let g = c .before .before .before .put-gr in
     let n = c .before .before .before .before .before .before .bit-size in
     let f : size (a .a + a .b) ≤ 17 = size-fit (a .a + a .b) 17 (omega (arith, s .pre .2, s .pre .3)) in (
       ready-after (a .out .now) (g .last .0) (a .p) (g .result) (length (pairBits (a .krp) (a .a) (a .b))) (n .result) (grBits (a .krp / 8) (a .a + a .b))
-          (s .pre .0) (g .ensures) (omega (arith, pair-length (a .krp) (a .a) (a .b), n .ensures, length-grBits (a .krp / 8) (a .a + a .b))),
+          (s .pre .0 .room) (g .ensures) (omega (arith, pair-length (a .krp) (a .a) (a .b), n .ensures, length-grBits (a .krp / 8) (a .a + a .b))),
       omega (arith, f, n .ensures),
+      rw (n .ensures) (omega (arith, size-fits (a .a + a .b))),
     )
 
 returns-2 : tie.Need-returns-2
 returns-2 c =
     let a = c .before .before .before .before .before .before .before .before .before .before .before .args in
     let g = c .before .before .before .before .before .before .put-gr in
-    let b = c .before .before .put-bits in
+    let b = c .before .before .put3 in
     let n = c .before .before .before .before .before .before .before .before .before .bit-size in
     rw (← pair-parts (a .krp) (a .a) (a .b) (n .result) (n .ensures))
     (put-more (a .out .now) (g .last .0) (b .last .0) (a .p) (g .result) (b .result) _ _ (g .ensures) (b .ensures))
@@ -80,4 +81,4 @@ pub put-twin-spec : {M : Type 1} → statement M
 put-twin-spec =
     tie.close
     (tie.spec (λ c. search needs) (λ c κs. search needs) (λ c. search needs) (λ c. search needs) (λ c. search needs) (λ c κs. search needs)
-    put-few-requires put-few-requires-2 (λ c. search needs) returns put-gr-requires put-bits-requires (λ c. search needs) returns-2)
+    put-requires put-requires-2 (λ c. search needs) returns put-gr-requires put-requires-3 (λ c. search needs) returns-2)

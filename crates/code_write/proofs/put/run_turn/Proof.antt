@@ -23,8 +23,8 @@ add-if1 c =
     let f : 2 ^ (s .args .s .kp / 8) ≤ 1024 = pow-mono {j = 10} (omega (arith, w .kps)) in
     omega (arith, w .there, w .few, f, shift-one (s .args .s .kp / 8) (omega (arith, w .kps)), c .before .zeros-from .ensures)
 
-put-bit-requires : tie.Need-put-bit-requires
-put-bit-requires c κs =
+put-requires : tie.Need-put-requires
+put-requires c κs =
     let s = c .before .before .before .before .before in
     let a = s .args in
     let w = s .pre .0 in
@@ -34,7 +34,7 @@ put-bit-requires c κs =
     let r = c .before .before .run-end in
     let e = next-full l (a .s) (a .rlgr3) (s .pre .1) _ (z .result) (r .result) q (z .ensures) (rw (length-map (a .xs .now) foldZ) (r .ensures))
     (c .before .if1 .taken) in
-    (room-of (a .rlgr3) (a .xs .now) _ (a .s) w _ e _ (is-full (a .s .kp) (a .s .krp) _ refl) 1 refl, omega arith)
+    (room-of (a .rlgr3) (a .xs .now) _ (a .s) w _ e _ (is-full (a .s .kp) (a .s .krp) _ refl) 1 refl, omega arith, omega arith)
 
 add-t17 : tie.Need-add-t17
 add-t17 c =
@@ -54,7 +54,7 @@ returns c =
     let r = c .before .before .before .before .before .before .run-end in
     let e = next-full l (a .s) (a .rlgr3) (s .pre .1) _ (z .result) (r .result) q (z .ensures) (rw (length-map (a .xs .now) foldZ) (r .ensures))
     (c .before .before .before .before .before .if1 .taken) in
-    onward-full (a .rlgr3) l (a .out .now) (a .s) _ _ e (c .before .before .before .put-bit .ensures) (rw q) (c .more .ensures) refl
+    onward-full (a .rlgr3) l (a .out .now) (a .s) _ _ e (c .before .before .before .put .ensures) (rw q) (c .more .ensures) refl
 
 add-folded-at : tie.Need-add-folded-at
 add-folded-at c =
@@ -132,6 +132,6 @@ add-t10 c =
 pub run-turn-spec : {M : Type 1} → statement M
 run-turn-spec =
     tie.close
-    (tie.spec (λ c. search needs) zeros-from-requires (λ c κs. search needs) add-if1 put-bit-requires add-t17 (λ c κs. search needs) (λ c. search needs)
+    (tie.spec (λ c. search needs) zeros-from-requires (λ c κs. search needs) add-if1 put-requires add-t17 (λ c κs. search needs) (λ c. search needs)
     returns add-folded-at folded-at-requires put-run-requires add-t11 add-t10 (λ c κs. search needs) sub-kr-after (λ c κs. search needs)
     (λ c. search needs) returns-2)
