@@ -73,26 +73,31 @@ module _ (before : List ℕ) (at₀ acc n₀ : ℕ) (out : List ℕ) (at n : ℕ
             ∙ w .bits;
       }
 
+-- the bits of a pen and k more, in whichever way they lie in bytes and in what waits
+wide-bits : (before : List ℕ) (p : Pen) (k v acc : ℕ) (out : List ℕ) (at n : ℕ) → Wide before (p .at) acc (p .n + k) out at n → v < 2 ^ k →
+    acc ≡ p .acc * 2 ^ k + v → (x : ℕ) → x ≡ acc % 2 ^ n → penBits out (record { at = at; acc = x; n = n }) ≡ penBits before p ++ numBits k v
+unfolding penBits
+wide-bits before p k v acc out at n w h q x e =
+    let T = bitsOf (take (p .at) before) in
+    ap (λ (y : ℕ). bitsOf (take at out) ++ numBits n y) e
+    ∙ ap (λ (y : List Bool). bitsOf (take at out) ++ y) (numBits-mod n n acc (le-refl n))
+    ∙ w .bits
+    ∙ ap (λ (y : ℕ). T ++ numBits (p .n + k) y) q
+    ∙ ap (λ (y : List Bool). T ++ y) (two-numbers (p .n) k (p .acc) v h)
+    ∙ sym (append-assoc T (numBits (p .n) (p .acc)) (numBits k v))
+
 -- fewer than a byte wait
 pub wide-end : (before : List ℕ) (p : Pen) (k v acc : ℕ) (out : List ℕ) (at n : ℕ) → Wide before (p .at) acc (p .n + k) out at n → n < 8 →
     acc ≡ p .acc * 2 ^ k + v % 2 ^ k → (x : ℕ) → x ≡ acc % 2 ^ n → Put before p out (record { at = at; acc = x; n = n }) (numBits k v)
-unfolding penBits
 wide-end before p k v acc out at n w h q x e =
-    let T = bitsOf (take (p .at) before) in
-    let j = two-numbers (p .n) k (p .acc) (v % 2 ^ k) (mod-lt v (pow-pos k))
-    ∙ ap (λ (l : List Bool). numBits (p .n) (p .acc) ++ l) (numBits-mod k k v (le-refl k)) in
     record {
       few = h;
       small = rw e (mod-lt acc (pow-pos n));
       place = omega (arith, w .place, length-numBits k v);
       long = w .long;
       rest = w .rest;
-      bits = ap (λ (y : ℕ). bitsOf (take at out) ++ numBits n y) e
-          ∙ ap (λ (y : List Bool). bitsOf (take at out) ++ y) (numBits-mod n n acc (le-refl n))
-          ∙ w .bits
-          ∙ ap (λ (y : ℕ). T ++ numBits (p .n + k) y) q
-          ∙ ap (λ (y : List Bool). T ++ y) j
-          ∙ sym (append-assoc T (numBits (p .n) (p .acc)) (numBits k v));
+      bits = wide-bits before p k (v % 2 ^ k) acc out at n w (mod-lt v (pow-pos k)) q x e
+          ∙ ap (λ (l : List Bool). penBits before p ++ l) (numBits-mod k k v (le-refl k));
     }
 
 -- ---- four bytes at once
@@ -149,9 +154,7 @@ module _ (before : List ℕ) (p : Pen) (k v : ℕ) (ready : ReadyWide (length be
   module _ (acc : ℕ) (e : acc ≡ p .acc * 2 ^ k + v) where
     wide-put : (out : List ℕ) (at n : ℕ) → Wide before (p .at) acc (p .n + k) out at n → at ≡ p .at + (p .n + k) / 32 * 4 → n ≡ (p .n + k) % 32 →
         (x : ℕ) → x ≡ acc % 2 ^ n → PutWide before p out (record { at = at; acc = x; n = n }) (numBits k v)
-    unfolding penBits
     wide-put out at n w ea en x ex =
-        let T = bitsOf (take (p .at) before) in
         let l = length-numBits k v in
         record {
           place = omega (arith, ea, l);
@@ -159,12 +162,7 @@ module _ (before : List ℕ) (p : Pen) (k v : ℕ) (ready : ReadyWide (length be
           small = rw ex (mod-lt acc (pow-pos n));
           long = w .long;
           rest = w .rest;
-          bits = ap (λ (y : ℕ). bitsOf (take at out) ++ numBits n y) ex
-              ∙ ap (λ (y : List Bool). bitsOf (take at out) ++ y) (numBits-mod n n acc (le-refl n))
-              ∙ w .bits
-              ∙ ap (λ (y : ℕ). T ++ numBits (p .n + k) y) e
-              ∙ ap (λ (y : List Bool). T ++ y) (two-numbers (p .n) k (p .acc) v hv)
-              ∙ sym (append-assoc T (numBits (p .n) (p .acc)) (numBits k v));
+          bits = wide-bits before p k v acc out at n w hv e x ex;
         }
 
     -- all of it waits
