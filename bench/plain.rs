@@ -121,10 +121,12 @@ impl Adapt {
         Ok((v << kr) + low)
     }
 
-    /// A GR number that begins with v ones. (One test that falls either way, where `match` would make two: a guess that fails costs more than the rest.)
+    /// A GR number that begins with v ones. (What few ones lead to is worked out before it is asked for, so that one test falls either way and not two: a guess that
+    /// fails costs more than the rest. Of six forms this is the fastest in time, and not the one with the fewest instructions.)
     #[inline(always)]
     fn took(&mut self, v: u32) {
-        self.krp = if v < 2 { self.krp.saturating_sub(2 - 2 * v) } else { (self.krp + v).min(80) };
+        let low = if v == 1 { self.krp } else { self.krp.saturating_sub(2) };
+        self.krp = if v < 2 { low } else { (self.krp + v).min(80) };
     }
 
     fn up(&mut self, d: u32) {
