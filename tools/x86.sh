@@ -1,11 +1,11 @@
 # shellcheck shell=sh disable=SC2034,SC2086  # what is set here is read by those who source this file; words are to be split
-# How x86-64 programs are made and run on this machine, for bindings/test, bench/ and peer/. Sets
+# How x86-64 programs are made and run on this machine, for bench/ and peer/. Sets
 #   cc           a C compiler for x86-64
 #   run          what stands in front of a program: nothing, or an emulator and its words
 #   rust_target  words for rustc and cargo: none, or the target
 #   rust_flags   words for rustc alone: none, or where Rust's library for x86-64 is
 # `missing NAME..` prints the commands that are not there. Nothing is installed here.
-# On Arm it wants what bindings/README.md says. (A library for the machine itself, to take times with, is made by tools/native.)
+# On Arm it wants what bindings/README.md says. (A library for the machine itself is made by tools/archive --target.)
 missing() {
     for command in "$@"; do command -v "$command" >/dev/null || printf '%s\n' "$command"; done
 }

@@ -24,7 +24,7 @@ static void check(int good, int line)
 static const uint8_t sample[49] = {0x31, 0, 0, 0, 1, 0, 0, 0, 0x25, 0, 0, 0, 0xC0, 0xCB, 8, 0, 0, 0, 1, 0, 0xC1, 0xCB, 0x1D, 0, 0,
                                    0, 1, 0xC0, 0xCF, 2, 0, 8, 0, 0, 1, 0x40, 0, 0, 1, 1, 1, 0, 1, 0x40, 0, 0, 1, 1, 4};
 static uint8_t message[64], out[64];
-static size_t size;
+static xurbalenz_size size;
 
 static uint8_t read_with(size_t at, uint8_t value, size_t len)
 {

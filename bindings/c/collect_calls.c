@@ -20,9 +20,9 @@ static void check(int good, int line)
 
 #define CHECK(good) check(good, __LINE__)
 
-static const XurbalenzCollector fresh = {0, 0, 0, 0, 0, 0};
+static const XurbalenzCollector fresh = XURBALENZ_COLLECTOR_FRESH;
 static uint8_t store[64], call;
-static size_t size, taken;
+static xurbalenz_size size, taken;
 
 static uint8_t take(XurbalenzCollector *c, const uint8_t *bytes, size_t n, size_t room)
 {
@@ -39,7 +39,7 @@ static int same(const XurbalenzCollector *a, const XurbalenzCollector *b)
 
 static void layout(void)
 {
-    CHECK(sizeof(XurbalenzCollector) == 32);
+    CHECK(XURBALENZ_COLLECTOR_LAYOUT && sizeof(XurbalenzCollector) == 32 && xurbalenz_collector_32() == 32);
     CHECK(offsetof(XurbalenzCollector, held) == 0 && offsetof(XurbalenzCollector, end) == 8 && offsetof(XurbalenzCollector, head) == 16);
     CHECK(offsetof(XurbalenzCollector, refused) == 24 && offsetof(XurbalenzCollector, part) == 25 && offsetof(XurbalenzCollector, seen) == 26);
     CHECK(XURBALENZ_NO_CALL == 0 && XURBALENZ_HEADER_CALL == 1 && XURBALENZ_FRAME_CALL == 2);

@@ -47,11 +47,11 @@ static int fit_picture(void)
 /* A message that is whole: the store's first bytes. */
 static int message(uint8_t call, size_t size)
 {
-    size_t tiles;
+    xurbalenz_size tiles;
     uint8_t number;
     if (call == XURBALENZ_FRAME_CALL) {
         number = xurbalenz_read_frame_with(&session, store, size, picture, picture_width * picture_height, &work, &tiles);
-        printf("frame, %zu bytes: %u %s; %zu tiles\n", size, number, xurbalenz_word(number), tiles);
+        printf("frame, %zu bytes: %u %s; %zu tiles\n", size, number, xurbalenz_word(number), (size_t)tiles);
         return 1;
     }
     number = xurbalenz_read_header(&session, store, size);
@@ -65,7 +65,7 @@ static uint8_t feed(const uint8_t *bytes, size_t n)
 {
     while (n > 0) {
         uint8_t call;
-        size_t size, taken;
+        xurbalenz_size size, taken;
         uint8_t number = xurbalenz_collect(&collector, bytes, n, store, sizeof store, &call, &size, &taken);
         if (number != XURBALENZ_DONE) return number;
         if (call != XURBALENZ_NO_CALL && !message(call, size)) return 255;

@@ -24,7 +24,7 @@ int main(int count, char **words)
 {
     static const uint8_t both[4] = {0, XURBALENZ_RLGR1, 0, XURBALENZ_RLGR3};
     uint8_t message[64], ack[XURBALENZ_ACK_SIZE];
-    size_t size;
+    xurbalenz_size size;
     if (count > 1) {
         FILE *file = fopen(words[1], "rb");
         if (!file) {

@@ -24,7 +24,7 @@ static const uint8_t luma[10] = XURBALENZ_DEFAULT_QUANT, chroma[10] = {7, 7, 7, 
 static const uint8_t one[10] = {0, 1, 0, 1, 0x66, 0x66, 0x77, 0x88, 0x98, 4};
 static const uint8_t two[15] = {0, 2, 0, 2, 0x66, 0x66, 0x77, 0x88, 0x98, 0x77, 0x77, 0x88, 0x99, 0xA9, 1};
 static uint8_t first[10], second[10], mode, out[4096];
-static size_t size;
+static xurbalenz_size size;
 
 static uint8_t read_with(uint8_t newest, const uint8_t *bytes, size_t len)
 {
@@ -78,7 +78,7 @@ static void frames(void)
     static uint8_t plain[4096];
     uint16_t picture[2] = {7, 7};
     XurbalenzSession s = xurbalenz_session_of(4, 2, 1, XURBALENZ_RLGR1);
-    size_t long_plain, tiles;
+    xurbalenz_size long_plain, tiles;
     CHECK(xurbalenz_write_frame(2, 1, XURBALENZ_RLGR1, luma, 5, pixels, 6, list, XURBALENZ_LIST, scratch, XURBALENZ_LIST, plain, sizeof plain,
                                 &long_plain) == XURBALENZ_DONE);
     CHECK(xurbalenz_write_frame_sets(2, 1, XURBALENZ_RLGR1, luma, luma, 5, pixels, 6, list, XURBALENZ_LIST, scratch, XURBALENZ_LIST, out, sizeof out,

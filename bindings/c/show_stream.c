@@ -104,9 +104,9 @@ static int header(const uint8_t *message, size_t length)
 
 static void frame(const uint8_t *message, size_t length)
 {
-    size_t tiles;
+    xurbalenz_size tiles;
     uint8_t number = xurbalenz_read_frame_with(&session, message, length, picture, picture_width * picture_height, &work, &tiles);
-    printf("frame, %zu bytes: %u %s; %zu tiles\n", length, number, xurbalenz_word(number), tiles);
+    printf("frame, %zu bytes: %u %s; %zu tiles\n", length, number, xurbalenz_word(number), (size_t)tiles);
 }
 
 static void put(uint8_t *at, uint32_t value, int bytes)

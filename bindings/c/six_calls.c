@@ -40,7 +40,7 @@ static void constants(void)
     for (i = 0; i < 18; i++) CHECK(numbers[i] == i && strcmp(xurbalenz_word((uint8_t)i), words[i]) == 0);
     CHECK(strcmp(xurbalenz_word(18), "unknown") == 0 && strcmp(xurbalenz_word(255), "unknown") == 0);
     for (i = 0; i < 18; i++) CHECK(strlen(xurbalenz_says((uint8_t)i)) > 10 && strcmp(xurbalenz_says((uint8_t)i), xurbalenz_says(18)) != 0);
-    CHECK(strcmp(xurbalenz_says(XURBALENZ_PLACE), "a tile starts outside the channel") == 0);
+    CHECK(strcmp(xurbalenz_says(XURBALENZ_PLACE), "a tile starts outside the channel, or a list names a tile that is not there") == 0);
     CHECK(strcmp(xurbalenz_says(18), "a number that has no word here") == 0 && xurbalenz_says(255) == xurbalenz_says(18));
     sprintf(version, "%d.%d.%d", XURBALENZ_VERSION / 10000, XURBALENZ_VERSION / 100 % 100, XURBALENZ_VERSION % 100);
     CHECK(strcmp(version, XURBALENZ_VERSION_TEXT) == 0);
@@ -51,7 +51,7 @@ static void constants(void)
 
 static void components(uint8_t mode)
 {
-    size_t bits = 9, size = 9;
+    xurbalenz_size bits = 9, size = 9;
     int i;
     memset(y, 0, sizeof y);
     y[0] = -1;
@@ -70,7 +70,8 @@ static void frames(uint8_t mode)
 {
     static const uint8_t quant[10] = XURBALENZ_DEFAULT_QUANT;
     static const size_t blocks[4] = {12, 10, 12, 13};
-    size_t size = 9, tiles = 9, at = 0, i;
+    xurbalenz_size size = 9, tiles = 9;
+    size_t at = 0, i;
     CHECK(xurbalenz_write_headers(70, 40, mode, out, XURBALENZ_HEADERS_SIZE - 1, &size) == XURBALENZ_ROOM && size == 0);
     CHECK(xurbalenz_write_headers(70, 40, mode, out, sizeof out, &size) == XURBALENZ_DONE && size == XURBALENZ_HEADERS_SIZE);
     CHECK(xurbalenz_read_header(&session, out, 11) == XURBALENZ_CUT);
@@ -120,7 +121,8 @@ static void records(uint8_t mode)
                                      offsetof(XurbalenzSession, glass)};
     XurbalenzSession fresh = XURBALENZ_FRESH, s = xurbalenz_session_of(4, 70, 40, mode), four = s, three = xurbalenz_session_of(3, 70, 40, 0);
     uint8_t *frame = out + XURBALENZ_HEADERS_SIZE;
-    size_t size = 9, tiles = 9, i;
+    xurbalenz_size size = 9, tiles = 9;
+    size_t i;
     int by;
     CHECK(xurbalenz_write_headers(70, 40, mode, out, XURBALENZ_HEADERS_SIZE, &size) == XURBALENZ_DONE);
     CHECK(xurbalenz_write_frame(70, 40, mode, quant, 5, pixels, sizeof pixels, y, XURBALENZ_LIST, scratch, XURBALENZ_LIST, frame,
@@ -175,7 +177,8 @@ static void works(uint8_t mode)
     static uint8_t again[sizeof out];
     static uint16_t shown[70 * 40 + 1];
     struct XurbalenzSession *s = &session;
-    size_t size = 9, tiles = 9, n = 9, i;
+    xurbalenz_size size = 9, tiles = 9, n = 9;
+    size_t i;
     CHECK(sizeof work == 4 * 4 * 4096 && sizeof work.y == 4 * XURBALENZ_LIST);
     for (i = 0; i < sizeof pixels; i++) pixels[i] = (uint8_t)(i * i >> 5);
     memset(out, 0xA5, sizeof out);
@@ -213,7 +216,7 @@ static void changes(uint8_t mode)
     static uint8_t old[sizeof pixels];
     static uint16_t want[70 * 40];
     uint32_t picks[2] = {7, 7};
-    size_t count = 9, size = 9, full = 9, tiles = 9;
+    xurbalenz_size count = 9, size = 9, full = 9, tiles = 9;
     frames(mode); /* the session's headers are in, and the glass is white */
     memset(old, 255, sizeof old);
     memset(pixels, 255, sizeof pixels);
@@ -263,7 +266,8 @@ static void surplus(uint8_t mode)
 {
     static const uint8_t quant[10] = XURBALENZ_DEFAULT_QUANT;
     static uint8_t bent[sizeof out], tidied[sizeof out];
-    size_t size = 9, cut = 9, tiles = 9, from = 64, to = 64;
+    xurbalenz_size size = 9, cut = 9, tiles = 9;
+    size_t from = 64, to = 64;
     frames(mode);
     memset(pixels + 3 * 65, 100, 9);
     CHECK(xurbalenz_write_frame(70, 40, mode, quant, 5, pixels, sizeof pixels, y, XURBALENZ_LIST, scratch, XURBALENZ_LIST, out, sizeof out, &size) ==
@@ -290,7 +294,7 @@ static void surplus(uint8_t mode)
     CHECK(from + 8 == size && to + 8 == size + 6);
     CHECK(xurbalenz_read_frame(&session, bent, to + 8, picture, 70 * 40, y, XURBALENZ_LIST, cb, XURBALENZ_LIST, cr, XURBALENZ_LIST, scratch, XURBALENZ_LIST,
                                &tiles) == XURBALENZ_TAIL);
-    size_t done = 9;
+    xurbalenz_size done = 9;
     CHECK(xurbalenz_tidy_frame(70, 40, mode, bent, to + 8, y, XURBALENZ_LIST - 1, tidied, sizeof tidied, &done, &cut) == XURBALENZ_BUFFER && done == 0 &&
           cut == 0);
     CHECK(xurbalenz_tidy_frame(70, 40, mode, bent, to + 8, y, XURBALENZ_LIST, tidied, to + 7, &done, &cut) == XURBALENZ_ROOM && done == 0 && cut == 0);

@@ -1,9 +1,10 @@
+/* SPDX-License-Identifier: MIT */
 /*
  * xurbalenz.h - RemoteFX (MS-RDPRFX) pictures for the door glass: its calls are proved for every input.
  *
- * Link target/staticlib/libxurbalenz.a (made by `tools/archive`, x86-64). Its functions read four header blocks and whole frames into a
- * lent picture of 16-bit or 32-bit words, and write headers, components and frames; and they gather header blocks and frames from a network card's
- * bytes, however these are cut;
+ * Link target/staticlib/libxurbalenz.a (made by `tools/archive`, x86-64; `tools/archive --list` says for which machines else). Its functions read four
+ * header blocks and whole frames into a lent picture of 16-bit or 32-bit words, and write headers, components and frames; and they gather header blocks
+ * and frames from a network card's bytes, however these are cut;
  * they make frames of other senders acceptable;
  * and they read and write what a client says of its capabilities and the frames that it acknowledges, and the settings that a cabinet keeps.
  *
@@ -19,10 +20,13 @@
  * WHAT YOU LEND
  *  - A slice is a pointer and a length in elements (not bytes): uint8_t, uint16_t, uint32_t or int32_t, each aligned as its type asks.
  *  - A pointer is never null, also where the length is 0: pass the address of any object of that type then.
- *  - The whole slice must be there to read, and to write where the pointer is not const. Regions lent to one call must not overlap, and
- *    nobody else may write them (or read those that the call writes) during the call.
- *  - THESE THREE ARE NOT CHECKED, nor can they be: a wrong pointer or a wrong length is as bad here as in memcpy.
+ *  - The whole slice must be there to read, and to write where the pointer is not const. Regions lent to one call must not overlap, but for those
+ *    that it only reads (const): these may coincide. Nobody else may write them (or, but for a display controller, read those that the call writes) during the call.
+ *  - It is normal memory, not a device's: words may be read and written at any alignment, and more than one at a time.
+ *  - THESE FOUR ARE NOT CHECKED, nor can they be: a wrong pointer or a wrong length is as bad here as in memcpy.
  *  - What work lists, output and component lists hold before the call does not matter; fresh memory need not be cleared.
+ *  - The picture is only written, and never read. So a display controller may scan it out during a call; but it sees a frame half drawn then, for as
+ *    long as drawing takes. Lend a picture that is not shown, and show it after the call (copy it, or show two in turn and give each every frame).
  *
  * THREADS, MEMORY, TIME
  *  - No global state, no allocation, no input or output, no locks: calls on different memory may run at the same time. One record, picture
@@ -34,12 +38,15 @@
  *    for each of its bytes (docs/BENCH.md).
  *
  * WHAT THE ARCHIVE NEEDS
- *  - Any x86-64 processor (SSE2 and nothing newer) and the System V calling convention, as on Linux. It is position independent: programs and
- *    shared objects may hold it.
- *  - memcpy and memset, and nothing else, of a C library.
- *  - 2,048 bytes of stack (XURBALENZ_STACK; 1,536 before 0.5.0), whatever the input: no function calls itself. Measured were 1,464 for a frame read,
- *    1,545 for one written, 1,641 for a short one and 1,304 for one tidied (bindings/c/stack.c). A dynamic linker that looks them up at their first call
- *    takes more of its own then.
+ *  - Any x86-64 processor (SSE2 and nothing newer) and the System V calling convention, as on Linux; those for Arm: docs/landings/19-arm.md. On Linux it
+ *    is position independent: programs and shared objects may hold it.
+ *  - memcpy and memset, and nothing else, of a C library; on 32-bit Arm __aeabi_memcpy, __aeabi_memclr and their like and __aeabi_uldivmod, which every C
+ *    library and libgcc (or compiler-rt) for it has.
+ *  - 2,048 bytes of stack (XURBALENZ_STACK; 1,536 before 0.5.0), whatever the input: no function calls itself. Measured on x86-64 were 1,464 for a frame
+ *    read, 1,545 for one written, 1,641 for a short one and 1,192 for one tidied; on Arm no call took more than 1,640 (bindings/c/stack.c). A dynamic linker
+ *    that looks them up at their first call takes more of its own then.
+ *
+ * This header is C99 (and C++98, where <stdint.h> is there).
  *
  * The numbers, and the rules behind every sentence here, are the project's requirements; docs/PROMISES.md names the theorem for each.
  */
@@ -57,22 +64,45 @@ extern "C" {
 #define XURBALENZ_VERSION 502
 #define XURBALENZ_VERSION_TEXT "0.5.2"
 
+/* The version of the archive, as a number like that one: not the same where header and archive were not made together. */
+uint32_t xurbalenz_version(void);
+
+/* Lengths and counts have 64 bits on every machine, as they have in the proofs: xurbalenz_size is size_t where that has 64 bits, and uint64_t elsewhere. A length
+   that is handed over converts by itself. What a call stores (size, tiles, bits, taken, count, cut) must be declared xurbalenz_size: a pointer to another
+   type is an error in C++ and in C breaks a constraint, of which every compiler tells. */
+#if defined(SIZE_MAX) && defined(UINT64_MAX) && SIZE_MAX == UINT64_MAX
+typedef size_t xurbalenz_size;
+#else
+typedef uint64_t xurbalenz_size;
+#endif
+
+/* What must hold where this header is compiled; in C99 and C++98 too. */
+#if defined(__cplusplus) && __cplusplus >= 201103L
+#define XURBALENZ_HOLDS(name, what, says) static_assert(what, says)
+#elif defined(__STDC_VERSION__) && __STDC_VERSION__ >= 201112L
+#define XURBALENZ_HOLDS(name, what, says) _Static_assert(what, says)
+#else
+#define XURBALENZ_HOLDS(name, what, says) typedef char xurbalenz_holds_##name[(what) ? 1 : -1]
+#endif
+XURBALENZ_HOLDS(size, sizeof(xurbalenz_size) == 8, "the archive's lengths have 64 bits");
+
 /* ---- the numbers the fitter sees ---- */
 
 #define XURBALENZ_DONE 0
 #define XURBALENZ_CUT 1      /* a block, or the code being read, needs more than is there */
-#define XURBALENZ_BUFFER 2   /* a list is not 4,096 numbers, or a picture is too short, or pixels are not 3 x width x height bytes; or a store is
-                                shorter than what is gathered in it */
-#define XURBALENZ_KIND 3     /* a block type that the call does not take, or not the one due in a frame */
+#define XURBALENZ_BUFFER 2   /* a list is not 4,096 numbers, or a picture is too short or of the other glass, or pixels are not 3 x width x height bytes; or a
+                                store is shorter than what is gathered in it */
+#define XURBALENZ_KIND 3     /* a block type that the call does not take, or not the one due in a frame; settings: a record of no known kind */
 #define XURBALENZ_LENGTH 4   /* blockLen or tilesDataSize disagrees with the layout, or bytes follow the last block */
 #define XURBALENZ_FIELD 5    /* a fixed field differs, or a size or mode is not allowed */
 #define XURBALENZ_TOO_BIG 6  /* over 256 rectangles, 2,048 tiles, 65,535 bytes in a component, or two entries */
 #define XURBALENZ_QUANT 7    /* a quantiser outside 6 to 15, or an index that is not below the number of sets */
-#define XURBALENZ_PLACE 8    /* a tile that starts outside the channel */
+#define XURBALENZ_PLACE 8    /* a tile that starts outside the channel; in a list of tiles, a number that no tile has */
 #define XURBALENZ_RANGE 9    /* a coefficient, LL3 sum or scaled value outside -32,767 to 32,767 */
 #define XURBALENZ_OVERRUN 10 /* a remainder run with no place left for its value, or a second value not zero with no place */
 #define XURBALENZ_TAIL 11    /* after the 4,096th value 8 or more bits remain, or one of them is 1 */
-#define XURBALENZ_ORDER 12   /* a known header that is not due, or a frame before all four headers */
+#define XURBALENZ_ORDER 12   /* a known header that is not due, or a frame before all four headers; a record or a collector that no calls could have made;
+                                settings: the version is not first, or not once */
 #define XURBALENZ_ROOM 13    /* the lent output is shorter than what is to be written, or the store than what is to be gathered */
 #define XURBALENZ_VERSION_NOT_TAKEN 14 /* settings of a version that this reader does not take */
 #define XURBALENZ_NO_SETTING 15        /* settings that have a version and nothing behind it */
@@ -93,17 +123,17 @@ static inline const char *xurbalenz_says(uint8_t number)
 {
     static const char *const sentences[] = {"all that was asked",
                                             "a block, or the code being read, needs more than is there",
-                                            "a list is not 4,096 numbers, or a picture or the pixels do not have their length",
-                                            "not a block type that is taken or due here",
+                                            "a list is not 4,096 numbers, or a picture, the pixels or a store do not have their size",
+                                            "not a block type that is taken or due here; or settings with a record of no known kind",
                                             "a length disagrees with the layout, or bytes follow the last block",
                                             "a fixed field differs, or size or mode is not allowed",
                                             "over 256 rectangles, 2,048 tiles, 65,535 bytes in a component, or two entries",
                                             "a quantiser outside 6 to 15, or an index with no set",
-                                            "a tile starts outside the channel",
+                                            "a tile starts outside the channel, or a list names a tile that is not there",
                                             "a coefficient, LL3 sum or scaled value outside -32,767 to 32,767",
                                             "a value with no place left for it",
                                             "more than filling follows the 4,096th value",
-                                            "a header that is not due, or a frame before all four headers",
+                                            "a header that is not due, a frame before all four headers, or settings whose version is not first and once",
                                             "the output or the store is shorter than what goes into it",
                                             "settings of a version that this reader does not take",
                                             "settings that have a version and nothing behind it",
@@ -138,7 +168,11 @@ static inline const char *xurbalenz_says(uint8_t number)
 /* How many headers are in (0 to 4), the mode, the channel's width and height; tile columns, tile rows and words of the picture, which follow from
    the size; and the glass, 0 for words of 16 bits, 1 for 32. All 0 when fresh: XurbalenzSession s = XURBALENZ_FRESH; A sync keeps the glass.
    Only xurbalenz_read_header changes it. A record that no calls could have made (a stray write, a stale copy, one of the numbers wrong) is
-   answered 12 where a record is judged, and a good sync still starts it over. The bytes behind glass are never read. */
+   answered 12 where a record is judged, and a good sync still starts it over. The bytes behind glass are never read.
+
+   THE SERVER CHOOSES the channel's size, and it need not be the panel's: when headers is 3, compare width and height with the picture's. A picture of more words
+   is drawn with width words a row, at its start, which is not what a wider glass shows; one of fewer is 2 at each frame. So lend one of the channel's own size, or
+   drop the link and say why. A NEW LINK starts with a fresh record (XURBALENZ_FRESH, xurbalenz_open) and a fresh collector; the picture may stay. */
 typedef struct XurbalenzSession {
     uint8_t headers;
     uint8_t mode;
@@ -156,11 +190,7 @@ typedef struct XurbalenzSession {
     (sizeof(XurbalenzSession) == 16 && offsetof(XurbalenzSession, headers) == 0 && offsetof(XurbalenzSession, mode) == 1 &&                         \
      offsetof(XurbalenzSession, width) == 2 && offsetof(XurbalenzSession, height) == 4 && offsetof(XurbalenzSession, columns) == 6 &&               \
      offsetof(XurbalenzSession, rows) == 7 && offsetof(XurbalenzSession, words) == 8 && offsetof(XurbalenzSession, glass) == 12)
-#if defined(__cplusplus) && __cplusplus >= 201103L
-static_assert(XURBALENZ_RECORD_LAYOUT, "the archive lays the record out in 16 bytes");
-#elif defined(__STDC_VERSION__) && __STDC_VERSION__ >= 201112L
-_Static_assert(XURBALENZ_RECORD_LAYOUT, "the archive lays the record out in 16 bytes");
-#endif
+XURBALENZ_HOLDS(record, XURBALENZ_RECORD_LAYOUT, "the archive lays the record out in 16 bytes");
 
 /* The record of four numbers, as they were kept somewhere; the others are worked out from them. */
 static inline XurbalenzSession xurbalenz_session_of(uint8_t headers, uint16_t width, uint16_t height, uint8_t mode)
@@ -178,7 +208,7 @@ static inline XurbalenzSession xurbalenz_session_of(uint8_t headers, uint16_t wi
 
 /* A fresh session for a glass; any other glass makes a record that no calls could have made. */
 #define XURBALENZ_GLASS_16 0 /* pictures of 16-bit words: xurbalenz_read_frame */
-#define XURBALENZ_GLASS_32 1 /* pictures of 32-bit words: xurbalenz_read_frame_32 */
+#define XURBALENZ_GLASS_32 1 /* pictures of 32-bit words, XRGB8888: xurbalenz_read_frame_32 */
 static inline XurbalenzSession xurbalenz_open(uint8_t glass)
 {
     XurbalenzSession s = XURBALENZ_FRESH;
@@ -192,23 +222,28 @@ uint8_t xurbalenz_record_16(void);
 
 /* ---- bytes from the network: the collector ---- */
 
-/* What is kept from call to call beside the store. All 0 when fresh: XurbalenzCollector c = {0, 0, 0, 0, 0, 0}; Only xurbalenz_collect and
+/* What is kept from call to call beside the store. All 0 when fresh: XurbalenzCollector c = XURBALENZ_COLLECTOR_FRESH; Only xurbalenz_collect and
    xurbalenz_collect_reset change it, and you need not look into it: held is how many of the store's bytes are gathered, refused the refusal
    that is kept. One that no calls could have made is answered 12. */
 typedef struct XurbalenzCollector {
-    size_t held;
-    size_t end;
-    size_t head;
+    xurbalenz_size held;
+    xurbalenz_size end;
+    xurbalenz_size head;
     uint8_t refused;
     uint8_t part;
     uint8_t seen;
 } XurbalenzCollector;
 
-#if defined(__cplusplus) && __cplusplus >= 201103L
-static_assert(sizeof(XurbalenzCollector) == 32, "the archive lays the collector out in 32 bytes");
-#elif defined(__STDC_VERSION__) && __STDC_VERSION__ >= 201112L
-_Static_assert(sizeof(XurbalenzCollector) == 32, "the archive lays the collector out in 32 bytes");
-#endif
+#define XURBALENZ_COLLECTOR_FRESH {0, 0, 0, 0, 0, 0}
+
+#define XURBALENZ_COLLECTOR_LAYOUT                                                                                                                  \
+    (sizeof(XurbalenzCollector) == 32 && offsetof(XurbalenzCollector, held) == 0 && offsetof(XurbalenzCollector, end) == 8 &&                       \
+     offsetof(XurbalenzCollector, head) == 16 && offsetof(XurbalenzCollector, refused) == 24 && offsetof(XurbalenzCollector, part) == 25 &&         \
+     offsetof(XurbalenzCollector, seen) == 26)
+XURBALENZ_HOLDS(collector, XURBALENZ_COLLECTOR_LAYOUT, "the archive lays the collector out in 32 bytes");
+
+/* The bytes of the collector, 32. The name carries the layout, as that of xurbalenz_record_16 does. */
+uint8_t xurbalenz_collector_32(void);
 
 #define XURBALENZ_NO_CALL 0     /* nothing is handed on */
 #define XURBALENZ_HEADER_CALL 1 /* store[0 .. size) is a message for xurbalenz_read_header */
@@ -231,21 +266,23 @@ _Static_assert(sizeof(XurbalenzCollector) == 32, "the archive lays the collector
  * one, every block is gathered until the end block (CCC5). Those calls then judge the message, as if it had come in one piece.
  *
  * A LINK THAT STARTS ANEW NEEDS A RESET: call xurbalenz_collect_reset before the first byte of a new connection, and after every refusal but 2.
- * Else what was gathered of the old one stays in front of the new bytes.
+ * Else what was gathered of the old one stays in front of the new bytes. Make the session's record fresh as well.
  *
  * Judged in this order: a collector that no calls could have made (12); a refusal that is kept (its number again); a store shorter than what
  * is gathered, or than the end of the block under way (2, not kept: with the right store it goes on). Then the six bytes of each block's head,
  * when the sixth is there: type not CCC0 to CCC7 (3), blockLen under 6 (4), the frame's earlier blocks and this one longer than the store (13).
  * After 3, 4 and 13 every call answers the same until the reset.
  *
- * Lend the same store from call to call, at least as long as the longest frame. It need not be cleared.
+ * Lend the same store from call to call, at least as long as the longest frame. It need not be cleared. A full frame of a control screen or of a screen of text,
+ * with the quantisers of XURBALENZ_DEFAULT_QUANT, has 0.33 to 0.58 bytes a pixel (docs/BENCH.md), and one of this library's writers never more than
+ * XURBALENZ_FRAME_ROOM(width, height). A frame that is longer than the store is 13, and the link must be dropped; so lend what you can.
  *
  * Afterwards: *taken is how many of the bytes were taken: all when it waits for more, those up to the end of what is handed on, those up to the
  * end of a head that is refused, 0 on every later refusal. *call is one of the three numbers above, and *size how long the message is, else 0;
  * it stands in the store until the next call. The collector is then fresh again. A call that takes nothing changes nothing.
  */
-uint8_t xurbalenz_collect(XurbalenzCollector *c, const uint8_t *bytes, size_t bytes_len, uint8_t *store, size_t store_len, uint8_t *call,
-                          size_t *size, size_t *taken);
+uint8_t xurbalenz_collect(XurbalenzCollector *c, const uint8_t *bytes, xurbalenz_size bytes_len, uint8_t *store, xurbalenz_size store_len,
+                          uint8_t *call, xurbalenz_size *size, xurbalenz_size *taken);
 
 /* Makes the collector fresh, whatever it was: what was gathered is thrown away, and a refusal forgotten. The next byte is the first of a block. */
 void xurbalenz_collect_reset(XurbalenzCollector *c);
@@ -262,7 +299,7 @@ void xurbalenz_collect_reset(XurbalenzCollector *c);
  * Afterwards: done - the record has the header in it (width, height and what follows from them with channels, mode with the context);
  * refused - the record is what it was.
  */
-uint8_t xurbalenz_read_header(XurbalenzSession *s, const uint8_t *message, size_t message_len);
+uint8_t xurbalenz_read_header(XurbalenzSession *s, const uint8_t *message, xurbalenz_size message_len);
 
 /*
  * Reads one frame and draws it; the message is begin (CCC4), region (CCC6), tileset (CCC7), end (CCC5) and nothing else.
@@ -283,17 +320,18 @@ uint8_t xurbalenz_read_header(XurbalenzSession *s, const uint8_t *message, size_
  * Words past width x height never change. The record is left equal in every case (it is not const only because all calls take it alike).
  * Work lists: untouched on 12 and 2; only zeros after every other answer, done too.
  */
-uint8_t xurbalenz_read_frame(XurbalenzSession *s, const uint8_t *message, size_t message_len, uint16_t *picture, size_t picture_len, int32_t *y,
-                             size_t y_len, int32_t *cb, size_t cb_len, int32_t *cr, size_t cr_len, int32_t *scratch, size_t scratch_len,
-                             size_t *tiles);
+uint8_t xurbalenz_read_frame(XurbalenzSession *s, const uint8_t *message, xurbalenz_size message_len, uint16_t *picture, xurbalenz_size picture_len,
+                             int32_t *y, xurbalenz_size y_len, int32_t *cb, xurbalenz_size cb_len, int32_t *cr, xurbalenz_size cr_len,
+                             int32_t *scratch, xurbalenz_size scratch_len, xurbalenz_size *tiles);
 
 /*
- * The same on a glass of 32 bits. picture: 32-bit words, red x 65,536 + green x 256 + blue. All else is said at xurbalenz_read_frame: the same frame changes the
+ * The same on a glass of 32 bits. picture: 32-bit words, red x 65,536 + green x 256 + blue: XRGB8888, whose highest byte is 0. (A layer that takes that byte for
+ * alpha, ARGB8888, shows nothing.) All else is said at xurbalenz_read_frame: the same frame changes the
  * same places. Each of the two answers 2 to a record of the other's glass.
  */
-uint8_t xurbalenz_read_frame_32(XurbalenzSession *s, const uint8_t *message, size_t message_len, uint32_t *picture, size_t picture_len, int32_t *y,
-                                size_t y_len, int32_t *cb, size_t cb_len, int32_t *cr, size_t cr_len, int32_t *scratch, size_t scratch_len,
-                                size_t *tiles);
+uint8_t xurbalenz_read_frame_32(XurbalenzSession *s, const uint8_t *message, xurbalenz_size message_len, uint32_t *picture,
+                                xurbalenz_size picture_len, int32_t *y, xurbalenz_size y_len, int32_t *cb, xurbalenz_size cb_len, int32_t *cr,
+                                xurbalenz_size cr_len, int32_t *scratch, xurbalenz_size scratch_len, xurbalenz_size *tiles);
 
 /*
  * Reads one component's code into a list of 4,096 numbers, quantised, in the order of the code: HL1, LH1, HH1, HL2, LH2, HH2, HL3, LH3, HH3,
@@ -305,7 +343,8 @@ uint8_t xurbalenz_read_frame_32(XurbalenzSession *s, const uint8_t *message, siz
  * Afterwards: done - the list has the values; 5, 2, 6 - the list is untouched; 1, 9, 10, 11 - the list holds only zeros. *bits is the
  * code's length in bits on 0 and on 11 (there: up to the 4,096th value), else 0.
  */
-uint8_t xurbalenz_read_component(uint8_t mode, const uint8_t *code, size_t code_len, int32_t *list, size_t list_len, size_t *bits);
+uint8_t xurbalenz_read_component(uint8_t mode, const uint8_t *code, xurbalenz_size code_len, int32_t *list, xurbalenz_size list_len,
+                                 xurbalenz_size *bits);
 
 /* ---- writing ---- */
 
@@ -316,13 +355,15 @@ uint8_t xurbalenz_read_component(uint8_t mode, const uint8_t *code, size_t code_
  * Writes a component's code: the one code that this list has in this mode.
  * Judged in this order: mode (5), list_len not 4,096 (2), a number outside -32,767 to 32,767 (9), a code over 65,535 bytes (6), out (13).
  */
-uint8_t xurbalenz_write_component(uint8_t mode, const int32_t *list, size_t list_len, uint8_t *out, size_t out_len, size_t *size);
+uint8_t xurbalenz_write_component(uint8_t mode, const int32_t *list, xurbalenz_size list_len, uint8_t *out, xurbalenz_size out_len,
+                                  xurbalenz_size *size);
 
 /*
  * Writes the four header blocks one behind the other: 12, 10, 12 and 13 bytes. Hand them to four header calls.
  * Judged in this order: width 1 to 4,096, height 1 to 2,048, mode (5); fewer than 47 bytes of out (13).
  */
-uint8_t xurbalenz_write_headers(size_t width, size_t height, uint8_t mode, uint8_t *out, size_t out_len, size_t *size);
+uint8_t xurbalenz_write_headers(xurbalenz_size width, xurbalenz_size height, uint8_t mode, uint8_t *out, xurbalenz_size out_len,
+                                xurbalenz_size *size);
 
 /*
  * Writes one frame over the whole channel: all tiles row by row, one rectangle, one quantiser set for Y, Cb and Cr. The last column and row
@@ -339,9 +380,9 @@ uint8_t xurbalenz_write_headers(size_t width, size_t height, uint8_t mode, uint8
  * Afterwards, besides what holds for every writer: list and scratch are untouched on 5, 7 and 2, and hold only zeros after every other
  * answer, done too.
  */
-uint8_t xurbalenz_write_frame(size_t width, size_t height, uint8_t mode, const uint8_t quant[10], uint32_t index, const uint8_t *pixels,
-                              size_t pixels_len, int32_t *list, size_t list_len, int32_t *scratch, size_t scratch_len, uint8_t *out,
-                              size_t out_len, size_t *size);
+uint8_t xurbalenz_write_frame(xurbalenz_size width, xurbalenz_size height, uint8_t mode, const uint8_t quant[10], uint32_t index,
+                              const uint8_t *pixels, xurbalenz_size pixels_len, int32_t *list, xurbalenz_size list_len, int32_t *scratch,
+                              xurbalenz_size scratch_len, uint8_t *out, xurbalenz_size out_len, xurbalenz_size *size);
 
 /* ---- sending only what changed ---- */
 
@@ -359,16 +400,16 @@ uint8_t xurbalenz_write_frame(size_t width, size_t height, uint8_t mode, const u
  * Judged in this order: size (5), either picture's length (2), then over the whole list: a number that is not above the one before it (16), a number that no
  * tile has (8), a tile that differs and is not listed (17). A tile that does not differ may be listed. The empty list is in order.
  */
-uint8_t xurbalenz_check_plan(size_t width, size_t height, const uint8_t *old, size_t old_len, const uint8_t *next,
-                             size_t next_len, const uint32_t *picks, size_t picks_len);
+uint8_t xurbalenz_check_plan(xurbalenz_size width, xurbalenz_size height, const uint8_t *old, xurbalenz_size old_len, const uint8_t *next,
+                             xurbalenz_size next_len, const uint32_t *picks, xurbalenz_size picks_len);
 
 /*
  * Makes the shortest list that xurbalenz_check_plan takes: the numbers of the tiles that differ. A list of XURBALENZ_TILES always has room.
  * Judged in this order: size (5), either picture's length (2), a list with no room for the numbers (13).
  * Afterwards: done - *count is how many there are, picks[0 .. *count) has them, those past it are untouched; refused - picks is untouched, *count is 0.
  */
-uint8_t xurbalenz_make_plan(size_t width, size_t height, const uint8_t *old, size_t old_len, const uint8_t *next,
-                            size_t next_len, uint32_t *picks, size_t picks_len, size_t *count);
+uint8_t xurbalenz_make_plan(xurbalenz_size width, xurbalenz_size height, const uint8_t *old, xurbalenz_size old_len, const uint8_t *next,
+                            xurbalenz_size next_len, uint32_t *picks, xurbalenz_size picks_len, xurbalenz_size *count);
 
 /*
  * Writes one frame of the listed tiles of the new picture, in the list's order: one rectangle over the whole channel, luma's ten quantisers for Y and
@@ -380,10 +421,10 @@ uint8_t xurbalenz_make_plan(size_t width, size_t height, const uint8_t *old, siz
  *
  * Afterwards, besides what holds for every writer: list and scratch are untouched on 5, 7 and 2, and hold only zeros after every other answer, done too.
  */
-uint8_t xurbalenz_write_frame_short(size_t width, size_t height, uint8_t mode, const uint8_t luma[10], const uint8_t chroma[10], uint32_t index,
-                                    const uint8_t *old, size_t old_len, const uint8_t *next, size_t next_len,
-                                    const uint32_t *picks, size_t picks_len, int32_t *list, size_t list_len, int32_t *scratch, size_t scratch_len,
-                                    uint8_t *out, size_t out_len, size_t *size);
+uint8_t xurbalenz_write_frame_short(xurbalenz_size width, xurbalenz_size height, uint8_t mode, const uint8_t luma[10], const uint8_t chroma[10],
+                                    uint32_t index, const uint8_t *old, xurbalenz_size old_len, const uint8_t *next, xurbalenz_size next_len,
+                                    const uint32_t *picks, xurbalenz_size picks_len, int32_t *list, xurbalenz_size list_len, int32_t *scratch,
+                                    xurbalenz_size scratch_len, uint8_t *out, xurbalenz_size out_len, xurbalenz_size *size);
 
 /* ---- what other senders write, made acceptable ---- */
 
@@ -399,8 +440,8 @@ uint8_t xurbalenz_write_frame_short(size_t width, size_t height, uint8_t mode, c
  * Afterwards: done - *size bytes of out are the frame to hand on, bytes past them are untouched, *cut is how many of its codes were changed (0: it is as it came), and
  * list holds only zeros; refused - out and list are untouched, *size and *cut are 0.
  */
-uint8_t xurbalenz_tidy_frame(uint16_t width, uint16_t height, uint8_t mode, const uint8_t *message, size_t message_len, int32_t *list, size_t list_len,
-                             uint8_t *out, size_t out_len, size_t *size, size_t *cut);
+uint8_t xurbalenz_tidy_frame(uint16_t width, uint16_t height, uint8_t mode, const uint8_t *message, xurbalenz_size message_len, int32_t *list,
+                             xurbalenz_size list_len, uint8_t *out, xurbalenz_size out_len, xurbalenz_size *size, xurbalenz_size *cut);
 
 /* ---- capabilities and acknowledgements ---- */
 
@@ -420,27 +461,27 @@ uint8_t xurbalenz_tidy_frame(uint16_t width, uint16_t height, uint8_t mode, cons
  * Reads a client capability container, which is the whole message: *flags is captureFlags, *n how many entries there are (0 to 2), entries the flags
  * and entropyBits (XURBALENZ_RLGR1 or XURBALENZ_RLGR3) of the first and of the second; 0 0 where there is none.
  */
-uint8_t xurbalenz_read_caps(const uint8_t *message, size_t message_len, uint32_t *flags, uint8_t *n, uint8_t entries[4]);
+uint8_t xurbalenz_read_caps(const uint8_t *message, xurbalenz_size message_len, uint32_t *flags, uint8_t *n, uint8_t entries[4]);
 
 /* Writes one. Judged in this order: n over 2 (6), entropyBits of an entry that is there (5), out (13). What stands in entries past n is ignored. */
-uint8_t xurbalenz_write_caps(uint32_t flags, uint8_t n, const uint8_t entries[4], uint8_t *out, size_t out_len, size_t *size);
+uint8_t xurbalenz_write_caps(uint32_t flags, uint8_t n, const uint8_t entries[4], uint8_t *out, xurbalenz_size out_len, xurbalenz_size *size);
 
 /* Reads a frame acknowledge capability, which is the whole message: *count is maxUnacknowledgedFrameCount. */
-uint8_t xurbalenz_read_ack_cap(const uint8_t *message, size_t message_len, uint32_t *count);
+uint8_t xurbalenz_read_ack_cap(const uint8_t *message, xurbalenz_size message_len, uint32_t *count);
 
 /* Writes one: 8 bytes, else 13. */
-uint8_t xurbalenz_write_ack_cap(uint32_t count, uint8_t *out, size_t out_len, size_t *size);
+uint8_t xurbalenz_write_ack_cap(uint32_t count, uint8_t *out, xurbalenz_size out_len, xurbalenz_size *size);
 
 /*
  * Reads a frame acknowledge message from its shareDataHeader on, 22 bytes, which are the whole message; the headers in front are the link's. fields are
  * version (the upper twelve bits of pduType), pduSource, shareId, pad1, streamId, uncompressedLength, compressedType, compressedLength and frameID, in
  * wire order.
  */
-uint8_t xurbalenz_read_ack(const uint8_t *message, size_t message_len, uint32_t fields[9]);
+uint8_t xurbalenz_read_ack(const uint8_t *message, xurbalenz_size message_len, uint32_t fields[9]);
 
 /* Writes one. Judged in this order: a version over 4,095 (5), out (13). */
 uint8_t xurbalenz_write_ack(uint16_t version, uint16_t source, uint32_t share, uint8_t pad, uint8_t stream, uint16_t uncompressed,
-                            uint8_t compression, uint16_t compressed, uint32_t frame, uint8_t *out, size_t out_len, size_t *size);
+                            uint8_t compression, uint16_t compressed, uint32_t frame, uint8_t *out, xurbalenz_size out_len, xurbalenz_size *size);
 
 /* ---- settings kept by the cabinet ---- */
 
@@ -458,50 +499,68 @@ uint8_t xurbalenz_write_ack(uint16_t version, uint16_t source, uint32_t share, u
  *
  * Afterwards: done - luma, chroma and *mode are the settings; refused - all of them are 0.
  */
-uint8_t xurbalenz_read_settings(uint8_t newest, const uint8_t *bytes, size_t bytes_len, uint8_t luma[10], uint8_t chroma[10], uint8_t *mode);
+uint8_t xurbalenz_read_settings(uint8_t newest, const uint8_t *bytes, xurbalenz_size bytes_len, uint8_t luma[10], uint8_t chroma[10], uint8_t *mode);
 
 /*
  * Writes settings: equal sets as version 1, 10 bytes, which every reader takes; else as version 2, 15 bytes, which a reader of version 1 refuses (14).
  * Judged in this order: a quantiser of luma or chroma outside 6 to 15 (7), mode (5), out (13).
  */
-uint8_t xurbalenz_write_settings(const uint8_t luma[10], const uint8_t chroma[10], uint8_t mode, uint8_t *out, size_t out_len, size_t *size);
+uint8_t xurbalenz_write_settings(const uint8_t luma[10], const uint8_t chroma[10], uint8_t mode, uint8_t *out, xurbalenz_size out_len,
+                                 xurbalenz_size *size);
 
 /*
  * xurbalenz_write_frame with luma's quantisers (Y) and chroma's (Cb and Cr). Where they are equal it writes the same bytes; else the frame has two sets,
  * luma's first. All else is said there; 7 is a quantiser of either.
  */
-uint8_t xurbalenz_write_frame_sets(size_t width, size_t height, uint8_t mode, const uint8_t luma[10], const uint8_t chroma[10], uint32_t index,
-                                   const uint8_t *pixels, size_t pixels_len, int32_t *list, size_t list_len, int32_t *scratch, size_t scratch_len,
-                                   uint8_t *out, size_t out_len, size_t *size);
+uint8_t xurbalenz_write_frame_sets(xurbalenz_size width, xurbalenz_size height, uint8_t mode, const uint8_t luma[10], const uint8_t chroma[10],
+                                   uint32_t index, const uint8_t *pixels, xurbalenz_size pixels_len, int32_t *list, xurbalenz_size list_len,
+                                   int32_t *scratch, xurbalenz_size scratch_len, uint8_t *out, xurbalenz_size out_len, xurbalenz_size *size);
 
 /* ---- the record's layout ---- */
 
-/* What the names xurbalenz_read_header, xurbalenz_read_frame and xurbalenz_read_frame_32 stand for from here on: the calls above, and the name of the layout. */
-static inline uint8_t xurbalenz_read_header_16(XurbalenzSession *s, const uint8_t *message, size_t message_len)
+/* What the names xurbalenz_read_header, xurbalenz_read_frame, xurbalenz_read_frame_32, xurbalenz_collect and xurbalenz_collect_reset stand for from here on: the
+   calls above, and the name of the layout. */
+static inline uint8_t xurbalenz_read_header_16(XurbalenzSession *s, const uint8_t *message, xurbalenz_size message_len)
 {
     (void)xurbalenz_record_16();
     return xurbalenz_read_header(s, message, message_len);
 }
 
-static inline uint8_t xurbalenz_read_frame_16(XurbalenzSession *s, const uint8_t *message, size_t message_len, uint16_t *picture,
-                                              size_t picture_len, int32_t *y, size_t y_len, int32_t *cb, size_t cb_len, int32_t *cr, size_t cr_len,
-                                              int32_t *scratch, size_t scratch_len, size_t *tiles)
+static inline uint8_t xurbalenz_read_frame_16(XurbalenzSession *s, const uint8_t *message, xurbalenz_size message_len, uint16_t *picture,
+                                              xurbalenz_size picture_len, int32_t *y, xurbalenz_size y_len, int32_t *cb, xurbalenz_size cb_len,
+                                              int32_t *cr, xurbalenz_size cr_len, int32_t *scratch, xurbalenz_size scratch_len, xurbalenz_size *tiles)
 {
     (void)xurbalenz_record_16();
     return xurbalenz_read_frame(s, message, message_len, picture, picture_len, y, y_len, cb, cb_len, cr, cr_len, scratch, scratch_len, tiles);
 }
 
-static inline uint8_t xurbalenz_read_frame_32_16(XurbalenzSession *s, const uint8_t *message, size_t message_len, uint32_t *picture,
-                                                 size_t picture_len, int32_t *y, size_t y_len, int32_t *cb, size_t cb_len, int32_t *cr,
-                                                 size_t cr_len, int32_t *scratch, size_t scratch_len, size_t *tiles)
+static inline uint8_t xurbalenz_read_frame_32_16(XurbalenzSession *s, const uint8_t *message, xurbalenz_size message_len, uint32_t *picture,
+                                                 xurbalenz_size picture_len, int32_t *y, xurbalenz_size y_len, int32_t *cb, xurbalenz_size cb_len,
+                                                 int32_t *cr, xurbalenz_size cr_len, int32_t *scratch, xurbalenz_size scratch_len,
+                                                 xurbalenz_size *tiles)
 {
     (void)xurbalenz_record_16();
     return xurbalenz_read_frame_32(s, message, message_len, picture, picture_len, y, y_len, cb, cb_len, cr, cr_len, scratch, scratch_len, tiles);
 }
 
+static inline uint8_t xurbalenz_collect_32(XurbalenzCollector *c, const uint8_t *bytes, xurbalenz_size bytes_len, uint8_t *store,
+                                           xurbalenz_size store_len, uint8_t *call, xurbalenz_size *size, xurbalenz_size *taken)
+{
+    (void)xurbalenz_collector_32();
+    return xurbalenz_collect(c, bytes, bytes_len, store, store_len, call, size, taken);
+}
+
+static inline void xurbalenz_collect_reset_32(XurbalenzCollector *c)
+{
+    (void)xurbalenz_collector_32();
+    xurbalenz_collect_reset(c);
+}
+
 #define xurbalenz_read_header xurbalenz_read_header_16
 #define xurbalenz_read_frame xurbalenz_read_frame_16
 #define xurbalenz_read_frame_32 xurbalenz_read_frame_32_16
+#define xurbalenz_collect xurbalenz_collect_32
+#define xurbalenz_collect_reset xurbalenz_collect_reset_32
 
 /* ---- frames with the work lists in one struct ---- */
 
@@ -515,27 +574,45 @@ typedef struct XurbalenzWork {
 } XurbalenzWork;
 
 /* xurbalenz_read_frame and xurbalenz_read_frame_32 with these lists: 2 can then only mean the picture. */
-static inline uint8_t xurbalenz_read_frame_with(XurbalenzSession *s, const uint8_t *message, size_t message_len, uint16_t *picture,
-                                                size_t picture_len, XurbalenzWork *work, size_t *tiles)
+static inline uint8_t xurbalenz_read_frame_with(XurbalenzSession *s, const uint8_t *message, xurbalenz_size message_len, uint16_t *picture,
+                                                xurbalenz_size picture_len, XurbalenzWork *work, xurbalenz_size *tiles)
 {
     return xurbalenz_read_frame(s, message, message_len, picture, picture_len, work->y, XURBALENZ_LIST, work->cb, XURBALENZ_LIST, work->cr,
                                 XURBALENZ_LIST, work->scratch, XURBALENZ_LIST, tiles);
 }
 
-static inline uint8_t xurbalenz_read_frame_32_with(XurbalenzSession *s, const uint8_t *message, size_t message_len, uint32_t *picture,
-                                                   size_t picture_len, XurbalenzWork *work, size_t *tiles)
+static inline uint8_t xurbalenz_read_frame_32_with(XurbalenzSession *s, const uint8_t *message, xurbalenz_size message_len, uint32_t *picture,
+                                                   xurbalenz_size picture_len, XurbalenzWork *work, xurbalenz_size *tiles)
 {
     return xurbalenz_read_frame_32(s, message, message_len, picture, picture_len, work->y, XURBALENZ_LIST, work->cb, XURBALENZ_LIST, work->cr,
                                    XURBALENZ_LIST, work->scratch, XURBALENZ_LIST, tiles);
 }
 
 /* xurbalenz_write_frame with the lists y and scratch of it: 2 can then only mean the pixels. cb and cr are not touched. */
-static inline uint8_t xurbalenz_write_frame_with(size_t width, size_t height, uint8_t mode, const uint8_t quant[10], uint32_t index,
-                                                 const uint8_t *pixels, size_t pixels_len, XurbalenzWork *work, uint8_t *out, size_t out_len,
-                                                 size_t *size)
+static inline uint8_t xurbalenz_write_frame_with(xurbalenz_size width, xurbalenz_size height, uint8_t mode, const uint8_t quant[10], uint32_t index,
+                                                 const uint8_t *pixels, xurbalenz_size pixels_len, XurbalenzWork *work, uint8_t *out,
+                                                 xurbalenz_size out_len, xurbalenz_size *size)
 {
     return xurbalenz_write_frame(width, height, mode, quant, index, pixels, pixels_len, work->y, XURBALENZ_LIST, work->scratch, XURBALENZ_LIST, out,
                                  out_len, size);
+}
+
+/* xurbalenz_write_frame_sets and xurbalenz_write_frame_short with the same two. */
+static inline uint8_t xurbalenz_write_frame_sets_with(xurbalenz_size width, xurbalenz_size height, uint8_t mode, const uint8_t luma[10],
+                                                      const uint8_t chroma[10], uint32_t index, const uint8_t *pixels, xurbalenz_size pixels_len,
+                                                      XurbalenzWork *work, uint8_t *out, xurbalenz_size out_len, xurbalenz_size *size)
+{
+    return xurbalenz_write_frame_sets(width, height, mode, luma, chroma, index, pixels, pixels_len, work->y, XURBALENZ_LIST, work->scratch,
+                                      XURBALENZ_LIST, out, out_len, size);
+}
+
+static inline uint8_t xurbalenz_write_frame_short_with(xurbalenz_size width, xurbalenz_size height, uint8_t mode, const uint8_t luma[10],
+                                                       const uint8_t chroma[10], uint32_t index, const uint8_t *old, xurbalenz_size old_len,
+                                                       const uint8_t *next, xurbalenz_size next_len, const uint32_t *picks, xurbalenz_size picks_len,
+                                                       XurbalenzWork *work, uint8_t *out, xurbalenz_size out_len, xurbalenz_size *size)
+{
+    return xurbalenz_write_frame_short(width, height, mode, luma, chroma, index, old, old_len, next, next_len, picks, picks_len, work->y,
+                                       XURBALENZ_LIST, work->scratch, XURBALENZ_LIST, out, out_len, size);
 }
 
 #ifdef __cplusplus

@@ -1,6 +1,9 @@
 //! What a client can do, and which frames it has shown: the capability container, the frame acknowledge capability and the frame acknowledge message.
 
-use crate::{edge, judged, Mode, Refusal};
+#[cfg(feature = "alloc")]
+use crate::Mode;
+use crate::{edge, judged, Refusal};
+#[cfg(feature = "alloc")]
 use alloc::{vec, vec::Vec};
 
 /// Bytes of a frame acknowledge capability.
@@ -9,6 +12,7 @@ pub const ACK_CAP_SIZE: usize = 8;
 pub const ACK_SIZE: usize = 22;
 
 /// An entry of a capability container: a set of codec properties that a decoder supports.
+#[cfg(feature = "alloc")]
 #[derive(Clone, Copy, Debug, PartialEq, Eq, Hash)]
 pub struct CapsEntry {
     /// Kept and not judged. 2 (CODEC_MODE) says: image mode only.
@@ -32,6 +36,7 @@ pub struct CapsEntry {
 /// assert_eq!(many.bytes(), Err(Refusal::TooBig)); // at most two
 /// # Ok::<(), Refusal>(())
 /// ```
+#[cfg(feature = "alloc")]
 #[derive(Clone, Debug, PartialEq, Eq, Hash)]
 pub struct Caps {
     /// captureFlags, kept and not judged. 1 says: RemoteFX may be mixed with other codecs.
@@ -40,6 +45,7 @@ pub struct Caps {
     pub entries: Vec<CapsEntry>,
 }
 
+#[cfg(feature = "alloc")]
 impl Caps {
     /// Reads a container, which is the whole message. Field by field: bytes that are not there are `Cut`, a fixed field that differs `Field`, a length that
     /// disagrees and bytes after the last entry `Length`, more than two entries `TooBig`.

@@ -1,5 +1,6 @@
 //! Header blocks and frames from a network card's bytes, however these are cut.
 
+#[cfg(feature = "alloc")]
 use alloc::{boxed::Box, vec};
 
 use crate::{edge, judged, Refusal};
@@ -46,16 +47,43 @@ impl<'a> Message<'a> {
 /// assert_eq!(screen.picture(), [0xFFFF; 70 * 40]);
 /// # Ok::<(), Refusal>(())
 /// ```
+///
+/// Without an allocator the store is lent ([`over`](Collector::over)); with the feature `alloc` a collector may own it ([`new`](Collector::new)).
 #[derive(Clone, Debug)]
-pub struct Collector {
+pub struct Collector<S = Store> {
     record: edge::Collector,
-    store: Box<[u8]>,
+    store: S,
 }
 
+/// A collector's store where nothing else is said.
+#[cfg(feature = "alloc")]
+pub type Store = Box<[u8]>;
+/// A collector's store where nothing else is said.
+#[cfg(not(feature = "alloc"))]
+pub type Store = &'static mut [u8];
+
+#[cfg(feature = "alloc")]
 impl Collector {
     /// A fresh collector with a store of so many bytes: the longest frame that it can gather.
     pub fn new(room: usize) -> Collector {
-        Collector { record: edge::Collector::default(), store: vec![0; room].into_boxed_slice() }
+        Collector::over(vec![0; room].into_boxed_slice())
+    }
+}
+
+impl<S: AsMut<[u8]>> Collector<S> {
+    /// A fresh collector over a store, whose length is that of the longest frame that it can gather.
+    ///
+    /// ```
+    /// use xurbalenz::{Collector, Message, Refusal};
+    /// let mut store = [0; 10];
+    /// let mut collector = Collector::over(&mut store[..]);
+    /// let mut rest: &[u8] = &[0xC0, 0xCC, 6, 0, 0, 0, 0xC7, 0xCC, 11, 0, 0, 0];
+    /// assert_eq!(collector.next(&mut rest), Ok(Some(Message::Header(&[0xC0, 0xCC, 6, 0, 0, 0]))));
+    /// assert_eq!(collector.next(&mut rest), Err(Refusal::Room));
+    /// ```
+    pub const fn over(store: S) -> Collector<S> {
+        let record = edge::Collector { held: 0, end: 0, head: 0, refused: 0, part: 0, seen: 0 };
+        Collector { record, store }
     }
 
     /// Takes all the bytes, and hands each message that they complete to `each`. On a refusal the bytes behind the refused head are not taken.
@@ -92,9 +120,10 @@ impl Collector {
     /// # Ok::<(), Refusal>(())
     /// ```
     pub fn next(&mut self, bytes: &mut &[u8]) -> Result<Option<Message<'_>>, Refusal> {
-        let (number, call, size, taken) = edge::collect(&mut self.record, bytes, &mut self.store);
+        let store = self.store.as_mut();
+        let (number, call, size, taken) = edge::collect(&mut self.record, bytes, store);
         *bytes = bytes.get(taken..).unwrap_or_default();
-        let message = self.store.get(..size).unwrap_or_default();
+        let message = store.get(..size).unwrap_or_default();
         judged(
             number,
             match call {
@@ -121,6 +150,6 @@ impl Collector {
 
     /// How many bytes of the store are gathered; a head that is not complete waits beside it and is not counted.
     pub fn held(&self) -> usize {
-        self.record.held
+        self.record.held as usize // no more than the store has
     }
 }

@@ -12,136 +12,145 @@
 
 use crate::Session;
 
+/// A length, as the archive has it: 64 bits on every machine, as in the proofs. (The calls here take and give `usize`.)
+#[cfg(target_pointer_width = "64")]
+pub type Size = usize;
+/// A length, as the archive has it: 64 bits on every machine, as in the proofs. (The calls here take and give `usize`.)
+#[cfg(not(target_pointer_width = "64"))]
+pub type Size = u64;
+
 /// The archive's own functions, as in `bindings/c/xurbalenz.h`. `tools/edge` holds them, and the safe calls below, to what the archive exports.
 mod archive {
-    use super::Collector;
+    use super::{Collector, Size};
     use crate::Session;
 
     extern "C" {
-        pub fn xurbalenz_read_header(s: *mut Session, message: *const u8, message_len: usize) -> u8;
+        pub fn xurbalenz_read_header(s: *mut Session, message: *const u8, message_len: Size) -> u8;
         pub fn xurbalenz_read_frame(
             s: *mut Session,
             message: *const u8,
-            message_len: usize,
+            message_len: Size,
             picture: *mut u16,
-            picture_len: usize,
+            picture_len: Size,
             y: *mut i32,
-            y_len: usize,
+            y_len: Size,
             cb: *mut i32,
-            cb_len: usize,
+            cb_len: Size,
             cr: *mut i32,
-            cr_len: usize,
+            cr_len: Size,
             scratch: *mut i32,
-            scratch_len: usize,
-            tiles: *mut usize,
+            scratch_len: Size,
+            tiles: *mut Size,
         ) -> u8;
         pub fn xurbalenz_read_frame_32(
             s: *mut Session,
             message: *const u8,
-            message_len: usize,
+            message_len: Size,
             picture: *mut u32,
-            picture_len: usize,
+            picture_len: Size,
             y: *mut i32,
-            y_len: usize,
+            y_len: Size,
             cb: *mut i32,
-            cb_len: usize,
+            cb_len: Size,
             cr: *mut i32,
-            cr_len: usize,
+            cr_len: Size,
             scratch: *mut i32,
-            scratch_len: usize,
-            tiles: *mut usize,
+            scratch_len: Size,
+            tiles: *mut Size,
         ) -> u8;
-        pub fn xurbalenz_read_component(mode: u8, code: *const u8, code_len: usize, list: *mut i32, list_len: usize, bits: *mut usize) -> u8;
-        pub fn xurbalenz_write_component(mode: u8, list: *const i32, list_len: usize, out: *mut u8, out_len: usize, size: *mut usize) -> u8;
-        pub fn xurbalenz_write_headers(width: usize, height: usize, mode: u8, out: *mut u8, out_len: usize, size: *mut usize) -> u8;
+        pub fn xurbalenz_read_component(mode: u8, code: *const u8, code_len: Size, list: *mut i32, list_len: Size, bits: *mut Size) -> u8;
+        pub fn xurbalenz_write_component(mode: u8, list: *const i32, list_len: Size, out: *mut u8, out_len: Size, size: *mut Size) -> u8;
+        pub fn xurbalenz_write_headers(width: Size, height: Size, mode: u8, out: *mut u8, out_len: Size, size: *mut Size) -> u8;
         pub fn xurbalenz_write_frame(
-            width: usize,
-            height: usize,
+            width: Size,
+            height: Size,
             mode: u8,
             quant: *const [u8; 10],
             index: u32,
             pixels: *const u8,
-            pixels_len: usize,
+            pixels_len: Size,
             list: *mut i32,
-            list_len: usize,
+            list_len: Size,
             scratch: *mut i32,
-            scratch_len: usize,
+            scratch_len: Size,
             out: *mut u8,
-            out_len: usize,
-            size: *mut usize,
+            out_len: Size,
+            size: *mut Size,
         ) -> u8;
         pub fn xurbalenz_collect(
             c: *mut Collector,
             bytes: *const u8,
-            bytes_len: usize,
+            bytes_len: Size,
             store: *mut u8,
-            store_len: usize,
+            store_len: Size,
             call: *mut u8,
-            size: *mut usize,
-            taken: *mut usize,
+            size: *mut Size,
+            taken: *mut Size,
         ) -> u8;
         pub fn xurbalenz_collect_reset(c: *mut Collector);
         pub fn xurbalenz_record_16() -> u8;
+        pub fn xurbalenz_collector_32() -> u8;
+        pub fn xurbalenz_version() -> u32;
         pub fn xurbalenz_check_plan(
-            width: usize,
-            height: usize,
+            width: Size,
+            height: Size,
             old: *const u8,
-            old_len: usize,
+            old_len: Size,
             next: *const u8,
-            next_len: usize,
+            next_len: Size,
             picks: *const u32,
-            picks_len: usize,
+            picks_len: Size,
         ) -> u8;
         pub fn xurbalenz_make_plan(
-            width: usize,
-            height: usize,
+            width: Size,
+            height: Size,
             old: *const u8,
-            old_len: usize,
+            old_len: Size,
             next: *const u8,
-            next_len: usize,
+            next_len: Size,
             picks: *mut u32,
-            picks_len: usize,
-            count: *mut usize,
+            picks_len: Size,
+            count: *mut Size,
         ) -> u8;
         pub fn xurbalenz_write_frame_short(
-            width: usize,
-            height: usize,
+            width: Size,
+            height: Size,
             mode: u8,
             luma: *const [u8; 10],
             chroma: *const [u8; 10],
             index: u32,
             old: *const u8,
-            old_len: usize,
+            old_len: Size,
             next: *const u8,
-            next_len: usize,
+            next_len: Size,
             picks: *const u32,
-            picks_len: usize,
+            picks_len: Size,
             list: *mut i32,
-            list_len: usize,
+            list_len: Size,
             scratch: *mut i32,
-            scratch_len: usize,
+            scratch_len: Size,
             out: *mut u8,
-            out_len: usize,
-            size: *mut usize,
+            out_len: Size,
+            size: *mut Size,
         ) -> u8;
         pub fn xurbalenz_tidy_frame(
             width: u16,
             height: u16,
             mode: u8,
             message: *const u8,
-            message_len: usize,
+            message_len: Size,
             list: *mut i32,
-            list_len: usize,
+            list_len: Size,
             out: *mut u8,
-            out_len: usize,
-            size: *mut usize,
-            cut: *mut usize,
+            out_len: Size,
+            size: *mut Size,
+            cut: *mut Size,
         ) -> u8;
-        pub fn xurbalenz_read_caps(message: *const u8, message_len: usize, flags: *mut u32, n: *mut u8, entries: *mut [u8; 4]) -> u8;
-        pub fn xurbalenz_write_caps(flags: u32, n: u8, entries: *const [u8; 4], out: *mut u8, out_len: usize, size: *mut usize) -> u8;
-        pub fn xurbalenz_read_ack_cap(message: *const u8, message_len: usize, count: *mut u32) -> u8;
-        pub fn xurbalenz_write_ack_cap(count: u32, out: *mut u8, out_len: usize, size: *mut usize) -> u8;
-        pub fn xurbalenz_read_ack(message: *const u8, message_len: usize, fields: *mut [u32; 9]) -> u8;
+        pub fn xurbalenz_read_caps(message: *const u8, message_len: Size, flags: *mut u32, n: *mut u8, entries: *mut [u8; 4]) -> u8;
+        pub fn xurbalenz_write_caps(flags: u32, n: u8, entries: *const [u8; 4], out: *mut u8, out_len: Size, size: *mut Size) -> u8;
+        pub fn xurbalenz_read_ack_cap(message: *const u8, message_len: Size, count: *mut u32) -> u8;
+        pub fn xurbalenz_write_ack_cap(count: u32, out: *mut u8, out_len: Size, size: *mut Size) -> u8;
+        pub fn xurbalenz_read_ack(message: *const u8, message_len: Size, fields: *mut [u32; 9]) -> u8;
         pub fn xurbalenz_write_ack(
             version: u16,
             source: u16,
@@ -153,41 +162,35 @@ mod archive {
             compressed: u16,
             frame: u32,
             out: *mut u8,
-            out_len: usize,
-            size: *mut usize,
+            out_len: Size,
+            size: *mut Size,
         ) -> u8;
         pub fn xurbalenz_read_settings(
             newest: u8,
             bytes: *const u8,
-            bytes_len: usize,
+            bytes_len: Size,
             luma: *mut [u8; 10],
             chroma: *mut [u8; 10],
             mode: *mut u8,
         ) -> u8;
-        pub fn xurbalenz_write_settings(
-            luma: *const [u8; 10],
-            chroma: *const [u8; 10],
-            mode: u8,
-            out: *mut u8,
-            out_len: usize,
-            size: *mut usize,
-        ) -> u8;
+        pub fn xurbalenz_write_settings(luma: *const [u8; 10], chroma: *const [u8; 10], mode: u8, out: *mut u8, out_len: Size, size: *mut Size)
+            -> u8;
         pub fn xurbalenz_write_frame_sets(
-            width: usize,
-            height: usize,
+            width: Size,
+            height: Size,
             mode: u8,
             luma: *const [u8; 10],
             chroma: *const [u8; 10],
             index: u32,
             pixels: *const u8,
-            pixels_len: usize,
+            pixels_len: Size,
             list: *mut i32,
-            list_len: usize,
+            list_len: Size,
             scratch: *mut i32,
-            scratch_len: usize,
+            scratch_len: Size,
             out: *mut u8,
-            out_len: usize,
-            size: *mut usize,
+            out_len: Size,
+            size: *mut Size,
         ) -> u8;
     }
 }
@@ -197,11 +200,11 @@ mod archive {
 #[derive(Clone, Copy, Debug, Default, PartialEq, Eq, Hash)]
 pub struct Collector {
     /// How many bytes of the store are gathered.
-    pub held: usize,
+    pub held: Size,
     /// Where the block under way ends; 0 between blocks.
-    pub end: usize,
+    pub end: Size,
     /// The bytes of a head that waits, as one number, low byte first.
-    pub head: usize,
+    pub head: Size,
     /// The refusal that is kept; 0 when none is.
     pub refused: u8,
     /// What is gathered: 0 nothing, 1 a header block, 2 a block alone for the frame call, 3 a frame, 4 a frame, in its end block.
@@ -210,8 +213,13 @@ pub struct Collector {
     pub seen: u8,
 }
 
-// The archive lays the record out as C does.
-const _: () = assert!(core::mem::size_of::<Collector>() == 32 && core::mem::align_of::<Collector>() == 8);
+// The archive lays the record out as C does. Its calls are made together with `xurbalenz_collector_32`, so that another layout does not link.
+const _: () = {
+    use core::mem::{align_of, offset_of, size_of};
+    assert!(size_of::<Size>() == 8 && size_of::<Collector>() == 32 && align_of::<Collector>() == 8);
+    assert!(offset_of!(Collector, held) == 0 && offset_of!(Collector, end) == 8 && offset_of!(Collector, head) == 16);
+    assert!(offset_of!(Collector, refused) == 24 && offset_of!(Collector, part) == 25 && offset_of!(Collector, seen) == 26);
+};
 
 // SAFETY, for every call below: each pointer and length come from one Rust reference or slice, so they are not null, aligned, valid for that
 // many elements, and what is `&mut` overlaps nothing else. The archive has no state of its own and keeps no pointer. Its functions have no
@@ -224,11 +232,28 @@ fn record_16() -> u8 {
     unsafe { archive::xurbalenz_record_16() }
 }
 
+// The same of the collector.
+#[inline]
+fn collector_32() -> u8 {
+    unsafe { archive::xurbalenz_collector_32() }
+}
+
+/// The version of the archive, 10,000 x major + 100 x minor + patch. Where it is not the crate's, the two were not made together.
+///
+/// ```
+/// let parts: Vec<u32> = env!("CARGO_PKG_VERSION").split('.').map(|n| n.parse().unwrap()).collect();
+/// assert_eq!(xurbalenz::edge::version(), 10_000 * parts[0] + 100 * parts[1] + parts[2]);
+/// ```
+#[inline]
+pub fn version() -> u32 {
+    unsafe { archive::xurbalenz_version() }
+}
+
 /// Reads one header block: the number. Refused, the record is what it was.
 #[inline]
 pub fn read_header(s: &mut Session, message: &[u8]) -> u8 {
     record_16();
-    unsafe { archive::xurbalenz_read_header(s, message.as_ptr(), message.len()) }
+    unsafe { archive::xurbalenz_read_header(s, message.as_ptr(), message.len() as Size) }
 }
 
 /// Reads one frame and draws it: the number, and how many tiles it lists (0 when refused). See [`crate::read_frame`].
@@ -248,21 +273,21 @@ pub fn read_frame(
         archive::xurbalenz_read_frame(
             s,
             message.as_ptr(),
-            message.len(),
+            message.len() as Size,
             picture.as_mut_ptr(),
-            picture.len(),
+            picture.len() as Size,
             y.as_mut_ptr(),
-            y.len(),
+            y.len() as Size,
             cb.as_mut_ptr(),
-            cb.len(),
+            cb.len() as Size,
             cr.as_mut_ptr(),
-            cr.len(),
+            cr.len() as Size,
             scratch.as_mut_ptr(),
-            scratch.len(),
+            scratch.len() as Size,
             &mut tiles,
         )
     };
-    (number, tiles)
+    (number, tiles as usize)
 }
 
 /// The same into a picture of 32-bit words. See [`crate::read_frame_32`].
@@ -282,45 +307,47 @@ pub fn read_frame_32(
         archive::xurbalenz_read_frame_32(
             s,
             message.as_ptr(),
-            message.len(),
+            message.len() as Size,
             picture.as_mut_ptr(),
-            picture.len(),
+            picture.len() as Size,
             y.as_mut_ptr(),
-            y.len(),
+            y.len() as Size,
             cb.as_mut_ptr(),
-            cb.len(),
+            cb.len() as Size,
             cr.as_mut_ptr(),
-            cr.len(),
+            cr.len() as Size,
             scratch.as_mut_ptr(),
-            scratch.len(),
+            scratch.len() as Size,
             &mut tiles,
         )
     };
-    (number, tiles)
+    (number, tiles as usize)
 }
 
 /// Reads one component's code: the number, and the code's length in bits (on 0 and 11, else 0). See [`crate::read_component`].
 #[inline]
 pub fn read_component(mode: u8, code: &[u8], list: &mut [i32]) -> (u8, usize) {
     let mut bits = 0;
-    let number = unsafe { archive::xurbalenz_read_component(mode, code.as_ptr(), code.len(), list.as_mut_ptr(), list.len(), &mut bits) };
-    (number, bits)
+    let number =
+        unsafe { archive::xurbalenz_read_component(mode, code.as_ptr(), code.len() as Size, list.as_mut_ptr(), list.len() as Size, &mut bits) };
+    (number, bits as usize)
 }
 
 /// Writes one component's code: the number, and the bytes written (0 when refused). See [`crate::write_component_into`].
 #[inline]
 pub fn write_component(mode: u8, list: &[i32], out: &mut [u8]) -> (u8, usize) {
     let mut size = 0;
-    let number = unsafe { archive::xurbalenz_write_component(mode, list.as_ptr(), list.len(), out.as_mut_ptr(), out.len(), &mut size) };
-    (number, size)
+    let number =
+        unsafe { archive::xurbalenz_write_component(mode, list.as_ptr(), list.len() as Size, out.as_mut_ptr(), out.len() as Size, &mut size) };
+    (number, size as usize)
 }
 
 /// Writes the four header blocks: the number, and the bytes written (0 when refused). See [`crate::write_headers_into`].
 #[inline]
 pub fn write_headers(width: usize, height: usize, mode: u8, out: &mut [u8]) -> (u8, usize) {
     let mut size = 0;
-    let number = unsafe { archive::xurbalenz_write_headers(width, height, mode, out.as_mut_ptr(), out.len(), &mut size) };
-    (number, size)
+    let number = unsafe { archive::xurbalenz_write_headers(width as Size, height as Size, mode, out.as_mut_ptr(), out.len() as Size, &mut size) };
+    (number, size as usize)
 }
 
 /// Writes one frame: the number, and the bytes written (0 when refused). See [`crate::write_frame_into`].
@@ -340,23 +367,23 @@ pub fn write_frame(
     let mut size = 0;
     let number = unsafe {
         archive::xurbalenz_write_frame(
-            width,
-            height,
+            width as Size,
+            height as Size,
             mode,
             quant,
             index,
             pixels.as_ptr(),
-            pixels.len(),
+            pixels.len() as Size,
             list.as_mut_ptr(),
-            list.len(),
+            list.len() as Size,
             scratch.as_mut_ptr(),
-            scratch.len(),
+            scratch.len() as Size,
             out.as_mut_ptr(),
-            out.len(),
+            out.len() as Size,
             &mut size,
         )
     };
-    (number, size)
+    (number, size as usize)
 }
 
 /// Judges a list of the tiles that are to be sent: the number. Tiles are numbered row by row from 0; 16 is a list that does not rise, 8 a number that
@@ -371,7 +398,18 @@ pub fn write_frame(
 /// ```
 #[inline]
 pub fn check_plan(width: usize, height: usize, old: &[u8], next: &[u8], picks: &[u32]) -> u8 {
-    unsafe { archive::xurbalenz_check_plan(width, height, old.as_ptr(), old.len(), next.as_ptr(), next.len(), picks.as_ptr(), picks.len()) }
+    unsafe {
+        archive::xurbalenz_check_plan(
+            width as Size,
+            height as Size,
+            old.as_ptr(),
+            old.len() as Size,
+            next.as_ptr(),
+            next.len() as Size,
+            picks.as_ptr(),
+            picks.len() as Size,
+        )
+    }
 }
 
 /// Lists the tiles that differ: the number, and how many there are (0 when refused). It is the shortest list that [`check_plan`] takes.
@@ -379,9 +417,19 @@ pub fn check_plan(width: usize, height: usize, old: &[u8], next: &[u8], picks: &
 pub fn make_plan(width: usize, height: usize, old: &[u8], next: &[u8], picks: &mut [u32]) -> (u8, usize) {
     let mut count = 0;
     let number = unsafe {
-        archive::xurbalenz_make_plan(width, height, old.as_ptr(), old.len(), next.as_ptr(), next.len(), picks.as_mut_ptr(), picks.len(), &mut count)
+        archive::xurbalenz_make_plan(
+            width as Size,
+            height as Size,
+            old.as_ptr(),
+            old.len() as Size,
+            next.as_ptr(),
+            next.len() as Size,
+            picks.as_mut_ptr(),
+            picks.len() as Size,
+            &mut count,
+        )
     };
-    (number, count)
+    (number, count as usize)
 }
 
 /// Writes one frame of the listed tiles of the new picture: the number, and the bytes written (0 when refused). A glass that shows what a full frame of
@@ -413,28 +461,28 @@ pub fn write_frame_short(
     let mut size = 0;
     let number = unsafe {
         archive::xurbalenz_write_frame_short(
-            width,
-            height,
+            width as Size,
+            height as Size,
             mode,
             luma,
             chroma,
             index,
             old.as_ptr(),
-            old.len(),
+            old.len() as Size,
             next.as_ptr(),
-            next.len(),
+            next.len() as Size,
             picks.as_ptr(),
-            picks.len(),
+            picks.len() as Size,
             list.as_mut_ptr(),
-            list.len(),
+            list.len() as Size,
             scratch.as_mut_ptr(),
-            scratch.len(),
+            scratch.len() as Size,
             out.as_mut_ptr(),
-            out.len(),
+            out.len() as Size,
             &mut size,
         )
     };
-    (number, size)
+    (number, size as usize)
 }
 
 /// Passes one frame of another sender on: the number, the bytes to hand on and how many of its codes were changed (both 0 when refused). A frame that the panel
@@ -457,16 +505,16 @@ pub fn tidy_frame(width: u16, height: u16, mode: u8, message: &[u8], list: &mut 
             height,
             mode,
             message.as_ptr(),
-            message.len(),
+            message.len() as Size,
             list.as_mut_ptr(),
-            list.len(),
+            list.len() as Size,
             out.as_mut_ptr(),
-            out.len(),
+            out.len() as Size,
             &mut size,
             &mut cut,
         )
     };
-    (number, size, cut)
+    (number, size as usize, cut as usize)
 }
 
 /// Takes bytes of the stream, up to the end of the first message that is whole: the number; to which call the message goes (1 to the header call,
@@ -485,14 +533,17 @@ pub fn tidy_frame(width: u16, height: u16, mode: u8, message: &[u8], list: &mut 
 #[inline]
 pub fn collect(c: &mut Collector, bytes: &[u8], store: &mut [u8]) -> (u8, u8, usize, usize) {
     let (mut call, mut size, mut taken) = (0, 0, 0);
-    let number =
-        unsafe { archive::xurbalenz_collect(c, bytes.as_ptr(), bytes.len(), store.as_mut_ptr(), store.len(), &mut call, &mut size, &mut taken) };
-    (number, call, size, taken)
+    collector_32();
+    let number = unsafe {
+        archive::xurbalenz_collect(c, bytes.as_ptr(), bytes.len() as Size, store.as_mut_ptr(), store.len() as Size, &mut call, &mut size, &mut taken)
+    };
+    (number, call, size as usize, taken as usize)
 }
 
 /// Makes the collector fresh: what was gathered is thrown away, and a refusal forgotten.
 #[inline]
 pub fn collect_reset(c: &mut Collector) {
+    collector_32();
     unsafe { archive::xurbalenz_collect_reset(c) }
 }
 
@@ -501,7 +552,7 @@ pub fn collect_reset(c: &mut Collector) {
 #[inline]
 pub fn read_caps(message: &[u8], entries: &mut [u8; 4]) -> (u8, u32, u8) {
     let (mut flags, mut n) = (0, 0);
-    let number = unsafe { archive::xurbalenz_read_caps(message.as_ptr(), message.len(), &mut flags, &mut n, entries) };
+    let number = unsafe { archive::xurbalenz_read_caps(message.as_ptr(), message.len() as Size, &mut flags, &mut n, entries) };
     (number, flags, n)
 }
 
@@ -509,15 +560,15 @@ pub fn read_caps(message: &[u8], entries: &mut [u8; 4]) -> (u8, u32, u8) {
 #[inline]
 pub fn write_caps(flags: u32, n: u8, entries: &[u8; 4], out: &mut [u8]) -> (u8, usize) {
     let mut size = 0;
-    let number = unsafe { archive::xurbalenz_write_caps(flags, n, entries, out.as_mut_ptr(), out.len(), &mut size) };
-    (number, size)
+    let number = unsafe { archive::xurbalenz_write_caps(flags, n, entries, out.as_mut_ptr(), out.len() as Size, &mut size) };
+    (number, size as usize)
 }
 
 /// Reads a frame acknowledge capability: the number, and maxUnacknowledgedFrameCount (0 when refused).
 #[inline]
 pub fn read_ack_cap(message: &[u8]) -> (u8, u32) {
     let mut count = 0;
-    let number = unsafe { archive::xurbalenz_read_ack_cap(message.as_ptr(), message.len(), &mut count) };
+    let number = unsafe { archive::xurbalenz_read_ack_cap(message.as_ptr(), message.len() as Size, &mut count) };
     (number, count)
 }
 
@@ -525,15 +576,15 @@ pub fn read_ack_cap(message: &[u8]) -> (u8, u32) {
 #[inline]
 pub fn write_ack_cap(count: u32, out: &mut [u8]) -> (u8, usize) {
     let mut size = 0;
-    let number = unsafe { archive::xurbalenz_write_ack_cap(count, out.as_mut_ptr(), out.len(), &mut size) };
-    (number, size)
+    let number = unsafe { archive::xurbalenz_write_ack_cap(count, out.as_mut_ptr(), out.len() as Size, &mut size) };
+    (number, size as usize)
 }
 
 /// Reads a frame acknowledge message from its shareDataHeader on: the number; into `fields` go its nine numbers in wire order, all 0 when refused. See
 /// [`crate::Ack`].
 #[inline]
 pub fn read_ack(message: &[u8], fields: &mut [u32; 9]) -> u8 {
-    unsafe { archive::xurbalenz_read_ack(message.as_ptr(), message.len(), fields) }
+    unsafe { archive::xurbalenz_read_ack(message.as_ptr(), message.len() as Size, fields) }
 }
 
 /// Writes a frame acknowledge message: the number, and the bytes written (0 when refused).
@@ -564,11 +615,11 @@ pub fn write_ack(
             compressed,
             frame,
             out.as_mut_ptr(),
-            out.len(),
+            out.len() as Size,
             &mut size,
         )
     };
-    (number, size)
+    (number, size as usize)
 }
 
 /// Reads settings, for a reader that knows versions up to `newest` (1 or 2): the number and the mode; into `luma` and `chroma` go the quantisers. All is 0
@@ -576,7 +627,7 @@ pub fn write_ack(
 #[inline]
 pub fn read_settings(newest: u8, bytes: &[u8], luma: &mut [u8; 10], chroma: &mut [u8; 10]) -> (u8, u8) {
     let mut mode = 0;
-    let number = unsafe { archive::xurbalenz_read_settings(newest, bytes.as_ptr(), bytes.len(), luma, chroma, &mut mode) };
+    let number = unsafe { archive::xurbalenz_read_settings(newest, bytes.as_ptr(), bytes.len() as Size, luma, chroma, &mut mode) };
     (number, mode)
 }
 
@@ -584,8 +635,8 @@ pub fn read_settings(newest: u8, bytes: &[u8], luma: &mut [u8; 10], chroma: &mut
 #[inline]
 pub fn write_settings(luma: &[u8; 10], chroma: &[u8; 10], mode: u8, out: &mut [u8]) -> (u8, usize) {
     let mut size = 0;
-    let number = unsafe { archive::xurbalenz_write_settings(luma, chroma, mode, out.as_mut_ptr(), out.len(), &mut size) };
-    (number, size)
+    let number = unsafe { archive::xurbalenz_write_settings(luma, chroma, mode, out.as_mut_ptr(), out.len() as Size, &mut size) };
+    (number, size as usize)
 }
 
 /// Writes one frame with luma's and chroma's quantisers: the number, and the bytes written (0 when refused). See [`crate::write_frame_sets_into`].
@@ -606,22 +657,22 @@ pub fn write_frame_sets(
     let mut size = 0;
     let number = unsafe {
         archive::xurbalenz_write_frame_sets(
-            width,
-            height,
+            width as Size,
+            height as Size,
             mode,
             luma,
             chroma,
             index,
             pixels.as_ptr(),
-            pixels.len(),
+            pixels.len() as Size,
             list.as_mut_ptr(),
-            list.len(),
+            list.len() as Size,
             scratch.as_mut_ptr(),
-            scratch.len(),
+            scratch.len() as Size,
             out.as_mut_ptr(),
-            out.len(),
+            out.len() as Size,
             &mut size,
         )
     };
-    (number, size)
+    (number, size as usize)
 }

@@ -9,11 +9,14 @@
 //! - [`write_headers`], [`write_component`], [`write_frame`] return what they wrote; `.._into` write into memory that you lend.
 //! - [`Caps`], [`Ack`], [`read_ack_cap`] and [`write_ack_cap_into`] read and write what a client says it can do, and which frames it has shown.
 //! - [`Settings`] are the quantisers and the mode that a cabinet keeps, from and to bytes; they write frames with luma's and chroma's own quantisers.
-//! - [`edge`] has the calls with plain numbers, as C sees them; the checker, the planner and the short frame's writer stand only there.
+//! - [`make_plan`], [`check_plan`] and [`write_frame_short`] send only the tiles that changed.
+//! - [`edge`] has the calls with plain numbers, as C sees them.
 //!
-//! The crate needs neither std nor any other crate, but `alloc` for [`Screen`], [`Collector`], [`Caps`], [`Settings`] and the writers that return a `Vec`. It links
-//! `target/staticlib/libxurbalenz.a` of the repository (make it with `tools/archive`), or the one in the folder `XURBALENZ_LIB_DIR`. That archive is
-//! x86-64 code and needs `memcpy` and `memset`, less than 1 KiB of stack, and nothing else.
+//! The crate needs neither std nor any other crate, but `alloc` for [`Screen`], [`Caps`], a [`Collector`] that owns its store, and the writers that return a `Vec`. These
+//! are the feature `alloc`, which is there unless `default-features = false` is said: firmware without an allocator links all else, in memory that it lends.
+//!
+//! It links `target/staticlib/libxurbalenz.a` of the repository (make it with `tools/archive`; for Arm `tools/archive --target NAME`), or the one in the folder
+//! `XURBALENZ_LIB_DIR`. That archive needs `memcpy` and `memset` (on 32-bit Arm their like, and libgcc's division), 2,048 bytes of stack, and nothing else.
 //!
 //! ```
 //! use xurbalenz::{read_component, write_component, Mode};
@@ -32,20 +35,30 @@
 #![no_std]
 #![warn(missing_docs)]
 
+#[cfg(feature = "alloc")]
 extern crate alloc;
 
 mod capabilities;
 mod collector;
 pub mod edge;
+mod plan;
 mod refusal;
+#[cfg(feature = "alloc")]
 mod screen;
 mod settings;
 
+#[cfg(feature = "alloc")]
 use alloc::{vec, vec::Vec};
 
-pub use capabilities::{read_ack_cap, write_ack_cap_into, Ack, Caps, CapsEntry, ACK_CAP_SIZE, ACK_SIZE};
-pub use collector::{Collector, Message};
+pub use capabilities::{read_ack_cap, write_ack_cap_into, Ack, ACK_CAP_SIZE, ACK_SIZE};
+#[cfg(feature = "alloc")]
+pub use capabilities::{Caps, CapsEntry};
+pub use collector::{Collector, Message, Store};
+pub use plan::{check_plan, make_plan_into, write_frame_short_into};
+#[cfg(feature = "alloc")]
+pub use plan::{make_plan, write_frame_short};
 pub use refusal::{CodeRefusal, Refusal};
+#[cfg(feature = "alloc")]
 pub use screen::{Screen, Word};
 pub use settings::{write_frame_sets_into, Reader, Settings, SETTINGS_SIZE};
 
@@ -59,6 +72,8 @@ pub const MAX_HEIGHT: usize = 2048;
 pub const HEADERS_SIZE: usize = 47;
 /// The most bytes that a component's code may have.
 pub const MAX_COMPONENT: usize = 65_535;
+/// Bytes of stack with which every call of the archive runs, its arguments counted in.
+pub const STACK: usize = 2048;
 
 /// The two modes of the component code.
 ///
@@ -374,6 +389,7 @@ pub fn write_component_into(mode: Mode, list: &[i32], out: &mut [u8]) -> Result<
 }
 
 /// Writes a component's code: the one code that the list has in this mode. Refused as in [`write_component_into`], but never by `Room`.
+#[cfg(feature = "alloc")]
 pub fn write_component(mode: Mode, list: &[i32]) -> Result<Vec<u8>, Refusal> {
     let mut out = vec![0; MAX_COMPONENT];
     let size = write_component_into(mode, list, &mut out)?;
@@ -394,6 +410,7 @@ pub fn write_headers_into(width: usize, height: usize, mode: Mode, out: &mut [u8
 }
 
 /// Writes the four header blocks one behind the other; [`header_blocks`] takes them apart for four header calls.
+#[cfg(feature = "alloc")]
 pub fn write_headers(width: usize, height: usize, mode: Mode) -> Result<Vec<u8>, Refusal> {
     let mut out = vec![0; HEADERS_SIZE];
     let size = write_headers_into(width, height, mode, &mut out)?;
@@ -472,6 +489,7 @@ pub fn write_frame_into(
 /// assert_eq!(write_frame(64, 63, Mode::Rlgr1, Quant::DEFAULT, 1, &grey), Err(Refusal::Buffer));
 /// # Ok::<(), Refusal>(())
 /// ```
+#[cfg(feature = "alloc")]
 pub fn write_frame(width: usize, height: usize, mode: Mode, quant: Quant, index: u32, pixels: &[u8]) -> Result<Vec<u8>, Refusal> {
     let (mut list, mut scratch) = (vec![0; LIST], vec![0; LIST]);
     in_room(width, height, |out| write_frame_into(width, height, mode, quant, index, pixels, &mut list, &mut scratch, out))
@@ -491,6 +509,7 @@ pub fn write_frame(width: usize, height: usize, mode: Mode, quant: Quant, index:
 /// assert_eq!(tidy_frame(64, 64, Mode::Rlgr3, &frame), (frame.clone(), 0));
 /// # Ok::<(), xurbalenz::Refusal>(())
 /// ```
+#[cfg(feature = "alloc")]
 pub fn tidy_frame(width: u16, height: u16, mode: Mode, frame: &[u8]) -> (Vec<u8>, usize) {
     let (mut list, mut out) = (vec![0; LIST], vec![0; frame.len()]);
     let (_, size, cut) = edge::tidy_frame(width, height, mode.number(), frame, &mut list, &mut out); // list and room are as asked
@@ -499,6 +518,7 @@ pub fn tidy_frame(width: u16, height: u16, mode: Mode, frame: &[u8]) -> (Vec<u8>
 }
 
 // What a frame writer writes, in as much room as it takes.
+#[cfg(feature = "alloc")]
 fn in_room(width: usize, height: usize, mut write: impl FnMut(&mut [u8]) -> Result<usize, Refusal>) -> Result<Vec<u8>, Refusal> {
     // A size that is not allowed is refused before room is judged, so any room will do for it.
     let (w, h) = (width.min(MAX_WIDTH), height.min(MAX_HEIGHT));
@@ -515,6 +535,7 @@ fn in_room(width: usize, height: usize, mut write: impl FnMut(&mut [u8]) -> Resu
 }
 
 // What was written, and no memory behind it.
+#[cfg(feature = "alloc")]
 fn cut_to(mut out: Vec<u8>, size: usize) -> Vec<u8> {
     out.truncate(size);
     out.shrink_to_fit();

@@ -27,10 +27,10 @@ use core::{error::Error, fmt};
 pub enum Refusal {
     /// 1: a block, or the code being read, needs more than is there.
     Cut,
-    /// 2: a list is not 4,096 numbers, a picture is too short, or pixels are not 3 x width x height bytes; or a store is shorter than what is
-    /// gathered in it.
+    /// 2: a list is not 4,096 numbers, a picture is too short or of the other glass, or pixels are not 3 x width x height bytes; or a store is
+    /// shorter than what is gathered in it.
     Buffer,
-    /// 3: a block type that the call does not take, or not the one due in a frame.
+    /// 3: a block type that the call does not take, or not the one due in a frame; settings: a record of no known kind.
     Kind,
     /// 4: blockLen or tilesDataSize disagrees with the layout, or bytes follow the last block.
     Length,
@@ -40,7 +40,7 @@ pub enum Refusal {
     TooBig,
     /// 7: a quantiser outside 6 to 15, or an index that is not below the number of sets.
     Quant,
-    /// 8: a tile that starts outside the channel.
+    /// 8: a tile that starts outside the channel; in a list of tiles, a number that no tile has.
     Place,
     /// 9: a coefficient, LL3 sum or scaled value outside -32,767 to 32,767.
     Range,
@@ -48,7 +48,8 @@ pub enum Refusal {
     Overrun,
     /// 11: after the 4,096th value 8 or more bits remain, or one of them is 1.
     Tail,
-    /// 12: a known header that is not due, or a frame before all four headers.
+    /// 12: a known header that is not due, or a frame before all four headers; a record or a collector that no calls could have made; settings: the
+    /// version is not first, or not once.
     Order,
     /// 13: the lent output is shorter than what is to be written, or the store than what is to be gathered.
     Room,
@@ -126,17 +127,17 @@ impl Refusal {
     const fn words(self) -> (&'static str, &'static str) {
         match self {
             Refusal::Cut => ("cut", "a block, or the code being read, needs more than is there"),
-            Refusal::Buffer => ("buffer", "a list is not 4,096 numbers, or a picture or the pixels do not have their length"),
-            Refusal::Kind => ("kind", "not a block type that is taken or due here"),
+            Refusal::Buffer => ("buffer", "a list is not 4,096 numbers, or a picture, the pixels or a store do not have their size"),
+            Refusal::Kind => ("kind", "not a block type that is taken or due here; or settings with a record of no known kind"),
             Refusal::Length => ("length", "a length disagrees with the layout, or bytes follow the last block"),
             Refusal::Field => ("field", "a fixed field differs, or size or mode is not allowed"),
             Refusal::TooBig => ("too big", "over 256 rectangles, 2,048 tiles, 65,535 bytes in a component, or two entries"),
             Refusal::Quant => ("quant", "a quantiser outside 6 to 15, or an index with no set"),
-            Refusal::Place => ("place", "a tile starts outside the channel"),
+            Refusal::Place => ("place", "a tile starts outside the channel, or a list names a tile that is not there"),
             Refusal::Range => ("range", "a coefficient, LL3 sum or scaled value outside -32,767 to 32,767"),
             Refusal::Overrun => ("overrun", "a value with no place left for it"),
             Refusal::Tail => ("tail", "more than filling follows the 4,096th value"),
-            Refusal::Order => ("order", "a header that is not due, or a frame before all four headers"),
+            Refusal::Order => ("order", "a header that is not due, a frame before all four headers, or settings whose version is not first and once"),
             Refusal::Room => ("room", "the output or the store is shorter than what goes into it"),
             Refusal::VersionNotTaken => ("version not taken", "settings of a version that this reader does not take"),
             Refusal::NoSetting => ("no setting", "settings that have a version and nothing behind it"),
@@ -155,7 +156,7 @@ impl Refusal {
     ///
     /// ```
     /// use xurbalenz::Refusal;
-    /// assert_eq!((Refusal::Place.word(), Refusal::Place.says()), ("place", "a tile starts outside the channel"));
+    /// assert_eq!((Refusal::Place.word(), Refusal::Place.says()), ("place", "a tile starts outside the channel, or a list names a tile that is not there"));
     /// ```
     pub const fn says(self) -> &'static str {
         self.words().1

@@ -1,6 +1,9 @@
 //! Settings that a cabinet keeps over a service visit, and frames written with luma's and chroma's own quantisers.
 
-use crate::{cut_to, edge, in_room, judged, Mode, Quant, Refusal, LIST};
+#[cfg(feature = "alloc")]
+use crate::{cut_to, in_room, LIST};
+use crate::{edge, judged, Mode, Quant, Refusal};
+#[cfg(feature = "alloc")]
 use alloc::{vec, vec::Vec};
 
 /// An output of this size always has room for settings.
@@ -74,6 +77,7 @@ impl Settings {
     }
 
     /// Their bytes.
+    #[cfg(feature = "alloc")]
     pub fn bytes(&self) -> Result<Vec<u8>, Refusal> {
         let mut out = vec![0; SETTINGS_SIZE];
         let size = self.write_into(&mut out)?;
@@ -91,6 +95,7 @@ impl Settings {
     /// assert!(two.write_frame(70, 40, 0, &pixels)?.len() > one.write_frame(70, 40, 0, &pixels)?.len());
     /// # Ok::<(), xurbalenz::Refusal>(())
     /// ```
+    #[cfg(feature = "alloc")]
     pub fn write_frame(&self, width: usize, height: usize, index: u32, pixels: &[u8]) -> Result<Vec<u8>, Refusal> {
         let (mut list, mut scratch) = (vec![0; LIST], vec![0; LIST]);
         in_room(width, height, |out| write_frame_sets_into(width, height, self, index, pixels, &mut list, &mut scratch, out))

@@ -3,7 +3,10 @@
 mod common;
 
 use common::*;
-use xurbalenz::{edge::Collector as Record, Collector, Message, Refusal};
+use xurbalenz::{
+    edge::{Collector as Record, Size},
+    Collector, Message, Refusal,
+};
 
 /// Bytes that are often blocks: good ones, wrong types, wrong lengths, frames with anything inside.
 fn stream(rng: &mut Rng, blocks: usize) -> Vec<u8> {
@@ -126,7 +129,7 @@ fn any_record_and_store() {
     let mut rng = Rng::new(33);
     let mut answers = [0; 14];
     for i in 0..200_000 {
-        let mut near = |n: usize| *rng.pick(&[0, 1, 5, 6, 7, 12, n, n + 1, 1 << 32, (1 << 32) - 1, 0xCCC0, 0x0000_0006_CCC1, usize::MAX]);
+        let mut near = |n: Size| *rng.pick(&[0, 1, 5, 6, 7, 12, n, n + 1, 1 << 32, (1 << 32) - 1, 0xCCC0, 0x0000_0006_CCC1, Size::MAX]);
         let mut record =
             Record { held: near(20), end: near(30), head: near(40), refused: near(2) as u8, part: (near(2) % 6) as u8, seen: (near(3) % 8) as u8 };
         match i % 3 {

@@ -9,7 +9,7 @@ use xurbalenz::{edge, Mode, Quant, Session, LIST};
 
 // Of the C library, which std links anyway.
 extern "C" {
-    fn mmap(at: *mut c_void, length: usize, may: i32, flags: i32, file: i32, offset: i64) -> *mut c_void;
+    fn mmap(at: *mut c_void, length: usize, may: i32, flags: i32, file: i32, offset: isize) -> *mut c_void;
     fn mprotect(at: *mut c_void, length: usize, may: i32) -> i32;
     fn munmap(at: *mut c_void, length: usize) -> i32;
 }

@@ -4,7 +4,7 @@ mod common;
 
 use common::*;
 use std::{fmt::Write, fs, path::Path};
-use xurbalenz::{edge, edge::Collector, Session, LIST};
+use xurbalenz::{edge, edge::Collector, Glass, Session, LIST};
 
 fn fnv(bytes: impl IntoIterator<Item = u8>) -> String {
     let hash = bytes.into_iter().fold(0xCBF2_9CE4_8422_2325_u64, |h, b| (h ^ b as u64).wrapping_mul(0x100_0000_01B3));
@@ -66,13 +66,14 @@ fn pixels(word: &str, width: usize, length: usize) -> Vec<u8> {
 }
 
 /// The requests of document 02 that these files need.
-const LANDED: [&str; 5] = ["one", "three", "four", "five", "twelve"];
+const LANDED: [&str; 6] = ["one", "three", "four", "five", "eleven", "twelve"];
 
 /// What a case carries from line to line.
 #[derive(Default)]
 struct Case {
     session: Session,
     picture: Vec<u16>,
+    wide: Vec<u32>,
     headers: Vec<u8>,
     component: Vec<u8>,
     frame: Vec<u8>,
@@ -80,6 +81,34 @@ struct Case {
     collector: Collector,
     memory: Vec<u8>,
     lent: usize,
+}
+
+/// Bytes with some of them changed: `P^XX` joined by commas.
+fn flipped(mut bytes: Vec<u8>, flips: &str) -> Vec<u8> {
+    for item in flips.split(',').filter(|_| flips != "-") {
+        let (at, by) = item.split_once('^').expect("P^XX");
+        if let Some(byte) = bytes.get_mut(number::<usize>(at)) {
+            *byte ^= u8::from_str_radix(by, 16).expect("hex");
+        }
+    }
+    bytes
+}
+
+/// The old and the new picture of a line: OLD OLDLEN NEW NEWLEN FLIPS.
+fn two_pictures(width: &str, words: &[&str]) -> (Vec<u8>, Vec<u8>) {
+    let [old, old_len, new, new_len, flips] = words else { panic!("two pictures") };
+    (pixels(old, number(width), number(old_len)), flipped(pixels(new, number(width), number(new_len)), flips))
+}
+
+fn picks(word: &str) -> Vec<u32> {
+    items(word, |v| vec![number(v)])
+}
+
+/// Two lists for three lengths: those that are not 4,096 first.
+fn two_lengths(three: [&str; 3]) -> [usize; 2] {
+    let mut lengths = three.map(number::<usize>);
+    lengths.sort_by_key(|&n| n == LIST);
+    [lengths[0], lengths[1]]
 }
 
 /// Numbers with blanks between them.
@@ -95,11 +124,17 @@ fn record(s: Session) -> String {
 impl Case {
     fn show(&mut self, message: &[u8], lengths: &[&str]) -> String {
         let lengths: Vec<usize> = lengths.iter().map(|n| number(n)).collect();
-        let shown = frame_with(self.session, message, &self.picture, [lengths[0], lengths[1], lengths[2], LIST]);
-        let work = if shown.zeros { 'z' } else { 'u' };
-        self.picture = shown.picture;
-        let hash = fnv(self.picture.iter().flat_map(|w| w.to_le_bytes()));
-        format!("{} {} {work} {} {hash}", shown.number, shown.tiles, record(self.session))
+        let lengths = [lengths[0], lengths[1], lengths[2], LIST];
+        let (number, tiles, zeros, hash) = if self.session.glass() == Some(Glass::Bits32) {
+            let shown = frame_with(self.session, message, &self.wide, lengths);
+            self.wide = shown.picture;
+            (shown.number, shown.tiles, shown.zeros, fnv(self.wide.iter().flat_map(|w| w.to_le_bytes())))
+        } else {
+            let shown = frame_with(self.session, message, &self.picture, lengths);
+            self.picture = shown.picture;
+            (shown.number, shown.tiles, shown.zeros, fnv(self.picture.iter().flat_map(|w| w.to_le_bytes())))
+        };
+        format!("{number} {tiles} {} {} {hash}", if zeros { 'z' } else { 'u' }, record(self.session))
     }
 
     fn read(mode: u8, code: &[u8], length: usize) -> String {
@@ -172,15 +207,30 @@ impl Case {
                 let pixels = pixels(pix, number(width), number(length));
                 let sent =
                     Sent { width: number(width), height: number(height), mode: number(mode), quant: sets[0], index: number(index), pixels: &pixels };
-                // two lists for three lengths: those that are not 4,096 first
-                let mut lengths = [l1, l2, l3].map(|n| number::<usize>(n));
-                lengths.sort_by_key(|&n| n == LIST);
-                let lengths = [lengths[0], lengths[1]];
+                let lengths = two_lengths([l1, l2, l3]);
                 let (number, size, out) = match sets[..] {
                     [_] => write_frame_with(sent, lengths, number(room)),
                     [_, chroma] => write_frame_sets_with(sent, chroma, lengths, number(room)),
                     _ => panic!("one set or two"),
                 };
+                self.frame = out[..size].to_vec();
+                let work = if matches!(number, 5 | 7 | 2) { 'u' } else { 'z' };
+                format!("{number} {size} {work} {}", fnv(out))
+            }
+            ["chk", width, height, pictures @ .., tiles] => {
+                let (old, new) = two_pictures(width, pictures);
+                check_plan((number(width), number(height)), &old, &new, &picks(tiles)).to_string()
+            }
+            ["plan", width, height, pictures @ .., room] => {
+                let (old, new) = two_pictures(width, pictures);
+                let (number, count, list) = make_plan((number(width), number(height)), &old, &new, number(room));
+                format!("{number} {count} {}", fnv(list.iter().flat_map(|p| p.to_le_bytes())))
+            }
+            ["wsf", width, height, mode, luma, chroma, index, pictures @ .., tiles, l1, l2, l3, room] => {
+                let (old, new) = two_pictures(width, pictures);
+                let sent =
+                    Sent { width: number(width), height: number(height), mode: number(mode), quant: ten(luma), index: number(index), pixels: &new };
+                let (number, size, out) = write_short_with(sent, ten(chroma), &old, &picks(tiles), two_lengths([l1, l2, l3]), number(room));
                 self.frame = out[..size].to_vec();
                 let work = if matches!(number, 5 | 7 | 2) { 'u' } else { 'z' };
                 format!("{number} {size} {work} {}", fnv(out))
@@ -233,11 +283,15 @@ impl Case {
         match words {
             // requests of document 02 that the case needs, and the session's glass: the panel has just these
             ["opt", requests @ ..] => assert!(requests.iter().all(|r| LANDED.contains(r)), "not landed: {requests:?}"),
-            ["glass", bits] => assert_eq!(*bits, "16", "no other glass yet"),
+            ["glass", bits] => self.session = Session::open(if *bits == "32" { Glass::Bits32 } else { Glass::Bits16 }),
             ["rec", headers, width, height, mode] => self.session = Session::of_numbers(number(headers), number(width), number(height), number(mode)),
-            ["pic", length, seed] => {
-                let (length, seed): (usize, usize) = (number(length), number(seed));
-                self.picture = (0..length).map(|i| (i * 25_173 + seed * 13_849 + 1) as u16).collect();
+            ["pic", length, seed, bits @ ..] => {
+                let (length, seed): (u64, u64) = (number(length), number(seed));
+                let words = (0..length).map(|i| (i * 25_173 + seed * 13_849 + 1) % (1 << 24));
+                match bits {
+                    ["32"] => self.wide = words.map(|w| w as u32).collect(),
+                    _ => self.picture = words.map(|w| w as u16).collect(),
+                }
             }
             ["col", room] => {
                 self.lent = number(room);
@@ -341,4 +395,18 @@ fn settings() {
     assert_eq!(run("request_five.vec"), (483, 1545));
     assert_eq!(run("request_five_frames.vec"), (21, 120));
     assert_eq!(run("request_five_glass.vec"), (6, 24));
+}
+
+#[test]
+fn what_changed() {
+    assert_eq!(run("request_eleven.vec"), (169, 645));
+    assert_eq!(run("request_eleven_frames.vec"), (19, 110));
+    assert_eq!(run("request_eleven_glass.vec"), (7, 56));
+    assert_eq!(run("request_eleven_glass_32.vec"), (4, 32));
+}
+
+#[test]
+fn days() {
+    assert_eq!(run("request_fourteen.vec"), (72, 799));
+    assert_eq!(run("request_fourteen_32.vec"), (24, 249));
 }

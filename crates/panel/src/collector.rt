@@ -98,3 +98,11 @@ pub extern "C" fn xurbalenz_collect_reset(c: &mut Collector)
 {
     *c = collect::reset();
 }
+
+// The bytes of the collector's record. Its name carries the layout, as `xurbalenz_record_16` does.
+#[no_mangle]
+pub extern "C" fn xurbalenz_collector_32() -> u8
+    ensures { λ n. ⌜ n ≡ 32 ⌝ }
+{
+    32
+}

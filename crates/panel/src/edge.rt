@@ -82,6 +82,14 @@ pub extern "C" fn xurbalenz_record_16() -> u8
     16
 }
 
+// The version: 10,000 x major + 100 x minor + patch, as in the header (XURBALENZ_VERSION), so that a program can tell an archive of another one.
+#[no_mangle]
+pub extern "C" fn xurbalenz_version() -> u32
+    ensures { λ n. ⌜ n ≡ 502 ⌝ }
+{
+    502
+}
+
 // What the header call has to hand over: 01's number, and the record to be stored.
 struct Handed {
     number: u8,

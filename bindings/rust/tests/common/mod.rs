@@ -55,8 +55,29 @@ impl Guard for u16 {
     const WORD: u16 = 0xC35A;
 }
 
+impl Guard for u32 {
+    const WORD: u32 = 0xC335_A5C3;
+}
+
 impl Guard for i32 {
     const WORD: i32 = 0x4335_A5C3;
+}
+
+/// A picture's word, and the frame call for it.
+pub trait Word: Guard {
+    fn read(s: &mut Session, message: &[u8], picture: &mut [Self], lists: [&mut [i32]; 4]) -> (u8, usize);
+}
+
+impl Word for u16 {
+    fn read(s: &mut Session, message: &[u8], picture: &mut [u16], [y, cb, cr, scratch]: [&mut [i32]; 4]) -> (u8, usize) {
+        edge::read_frame(s, message, picture, y, cb, cr, scratch)
+    }
+}
+
+impl Word for u32 {
+    fn read(s: &mut Session, message: &[u8], picture: &mut [u32], [y, cb, cr, scratch]: [&mut [i32]; 4]) -> (u8, usize) {
+        edge::read_frame_32(s, message, picture, y, cb, cr, scratch)
+    }
 }
 
 const GUARDS: usize = 64;
@@ -192,21 +213,21 @@ pub fn collect(collector: Collector, given: &[u8], store: &[u8]) -> Collected {
 
 /// What a frame call came to.
 #[derive(Clone, Debug, PartialEq)]
-pub struct Shown {
+pub struct Shown<W = u16> {
     pub number: u8,
     pub tiles: usize,
-    pub picture: Vec<u16>,
+    pub picture: Vec<W>,
     /// Untouched, or all zeros.
     pub zeros: bool,
 }
 
 /// The frame call with work lists of these lengths.
-pub fn frame_with(session: Session, message: &[u8], picture: &[u16], lengths: [usize; 4]) -> Shown {
+pub fn frame_with<W: Word>(session: Session, message: &[u8], picture: &[W], lengths: [usize; 4]) -> Shown<W> {
     let mut s = LentRecord::of(session);
     let m = Lent::of(message);
     let mut p = Lent::of(picture);
     let [mut y, mut cb, mut cr, mut scratch] = lengths.map(|n| Lent::filled(7, n));
-    let (number, tiles) = edge::read_frame(&mut s.record, m.part(), p.part_mut(), y.part_mut(), cb.part_mut(), cr.part_mut(), scratch.part_mut());
+    let (number, tiles) = W::read(&mut s.record, m.part(), p.part_mut(), [&mut y, &mut cb, &mut cr, &mut scratch].map(Lent::part_mut));
     kept(m, message);
     let after = p.taken();
     let lists = [y, cb, cr, scratch].map(Lent::taken);
@@ -262,7 +283,7 @@ pub fn read_component(mode: u8, code: &[u8], length: usize) -> (u8, usize, Vec<i
 // "Writers leave their output untouched on every refusal; when done they say the length in bytes, refused 0, and bytes past it are untouched."
 fn written(number: u8, size: usize, out: Lent<u8>) -> (u8, usize, Vec<u8>) {
     let out = out.taken();
-    assert!(number <= 13, "number {number}");
+    assert!(number <= 13 || matches!(number, 16 | 17), "number {number}");
     assert!(number == 0 || size == 0, "refused {number}, and a length reported");
     assert!(out[size..].iter().all(|&b| b == 0xA5), "the output past {size} bytes was touched ({number})");
     (number, size, out)
@@ -334,6 +355,44 @@ fn written_frame(
 /// The frame writer with good work lists.
 pub fn write_frame(sent: Sent, room: usize) -> (u8, usize, Vec<u8>) {
     write_frame_with(sent, [LIST; 2], room)
+}
+
+// ---- what changed: a list of tiles, whoever made it, and the short frame
+
+/// The checker: the number.
+pub fn check_plan(size: (usize, usize), old: &[u8], next: &[u8], picks: &[u32]) -> u8 {
+    let (o, n, p) = (Lent::of(old), Lent::of(next), Lent::of(picks));
+    let number = edge::check_plan(size.0, size.1, o.part(), n.part(), p.part());
+    kept(o, old);
+    kept(n, next);
+    kept(p, picks);
+    assert!(matches!(number, 0 | 2 | 5 | 8 | 16 | 17), "number {number}");
+    number
+}
+
+/// The planner, into a list of so many numbers, each 7 before: number, count, list.
+pub fn make_plan(size: (usize, usize), old: &[u8], next: &[u8], room: usize) -> (u8, usize, Vec<u32>) {
+    let (o, n, mut p) = (Lent::of(old), Lent::of(next), Lent::filled(7, room));
+    let (number, count) = edge::make_plan(size.0, size.1, o.part(), n.part(), p.part_mut());
+    kept(o, old);
+    kept(n, next);
+    let picks = p.taken();
+    assert!(matches!(number, 0 | 2 | 5 | 13), "number {number}");
+    assert!(number == 0 || count == 0, "refused {number}, and a count reported");
+    assert!(picks[count..].iter().all(|&p| p == 7), "the list past {count} was touched ({number})");
+    assert!(number != 0 || check_plan(size, old, next, &picks[..count]) == 0, "a list of our own is refused");
+    (number, count, picks)
+}
+
+/// The short frame's writer with work lists of these lengths: number, length, output.
+pub fn write_short_with(sent: Sent, chroma: [u8; 10], old: &[u8], picks: &[u32], lengths: [usize; 2], room: usize) -> (u8, usize, Vec<u8>) {
+    let (o, p) = (Lent::of(old), Lent::of(picks));
+    let written = written_frame(sent.pixels, lengths, room, |next, list, scratch, out| {
+        edge::write_frame_short(sent.width, sent.height, sent.mode, &sent.quant, &chroma, sent.index, o.part(), next, p.part(), list, scratch, out)
+    });
+    kept(o, old);
+    kept(p, picks);
+    written
 }
 
 // ---- settings: the numbers that their reader has are 1, 3, 5, 7, 12, 14 and 15, and a refusal gives no settings
