@@ -1,0 +1,16 @@
+-- A row is what stands at its place (`row-known`).
+use mir.Facts.{toZ-ofZ}
+use Rattle.app_compare.specs.laws.Files.{at-read, row-known}
+use borrow.Author.Needs.{needs}
+use native.Mathlib.Omega.{arith}
+use Rattle.app_compare.proofs.files.read_row.Statement.{statement}
+use Rattle.app_compare.proofs.files.read_row.Tie as tie
+
+read-at-requires : tie.Need-read-at-requires
+read-at-requires c κs = (omega (arith, c .before .place .ensures .1), omega (arith, c .before .before .before .pre .0, c .before .before .before .pre .1))
+
+returns : tie.Need-returns
+returns c = row-known _ _ _ _ _ (c .before .before .before .before .place .ensures .0) (at-read (toZ-ofZ (c .before .before .before .before .before .before .fits .fd)) (c .before .before .read-at .ensures))
+
+pub read-row-spec : {M : Type 1} → statement M
+read-row-spec = tie.close (tie.spec (λ c κs. search needs) (λ c. search needs) read-at-requires (λ c. search needs) returns)
