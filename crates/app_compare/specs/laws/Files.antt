@@ -112,7 +112,8 @@ like-end f p r e g i =
     let n = length-take 2 (drop end f) in
     let m = length-drop end f in
     let same : eqb (end + length (take 2 (drop end f))) (4 + 2 * (p .width * p .height)) ≡ eqb (length f) (4 + 2 * (p .width * p .height)) =
-    eqb-alike (end + length (take 2 (drop end f))) (4 + 2 * (p .width * p .height)) (length f) (4 + 2 * (p .width * p .height)) (λ q. omega arith) (λ q. omega arith) in
+    eqb-alike (end + length (take 2 (drop end f))) (4 + 2 * (p .width * p .height)) (length f) (4 + 2 * (p .width * p .height)) (λ q. omega arith)
+    (λ q. omega arith) in
     record {
       width = ap (λ (x : Pic). x .width) i ∙ a;
       height = ap (λ (x : Pic). x .height) i ∙ b;
@@ -139,7 +140,9 @@ pub row-done :
     → RowDone w y fa fb from to r
 row-done w y fa fb from to a b r e f c s =
     record {
-      counts = c ∙ ap (λ (x : List ℕ). rowCounted (wordsOf x) (wordsOf b) w y from) e ∙ ap (λ (x : List ℕ). rowCounted (wordsOf (rowOf fa w y)) (wordsOf x) w y from) f;
+      counts =
+          c ∙ ap (λ (x : List ℕ). rowCounted (wordsOf x) (wordsOf b) w y from) e
+          ∙ ap (λ (x : List ℕ). rowCounted (wordsOf (rowOf fa w y)) (wordsOf x) w y from) f;
       whole = s ∙ ap (λ (x : List ℕ). rowsWhole w x b) e ∙ ap (rowsWhole w (rowOf fa w y)) f;
     }
 
@@ -277,7 +280,12 @@ pub front-length : (row : List ℕ) (size : ℕ) → size ≤ length row → len
 front-length row size h = simp length-take (omega arith)
 
 pub head-known :
-    (fd : ℤ) (last s : List ℕ) (n : ℕ) (p : Pic) → length last ≡ 4 → ReadAt fd 0 (length last) (firstOf last n) → s ≡ firstOf last n → p ≡ picOf s → HeadRead fd p
+    (fd : ℤ) (last s : List ℕ) (n : ℕ) (p : Pic)
+    → length last ≡ 4
+    → ReadAt fd 0 (length last) (firstOf last n)
+    → s ≡ firstOf last n
+    → p ≡ picOf s
+    → HeadRead fd p
 head-known fd last s n p l k e f =
     record {
       told =
@@ -308,7 +316,8 @@ pub look-head : (fd : ℤ) (p : Pic) → HeadRead fd p → sizeGood (p .width) (
 look-head fd p k g =
     record {
       told =
-          told-map (λ (file : Files). p ≡ picOf (take 4 (file fd))) (λ (file : Files). Like p (picOf (file fd))) (λ file e. like-head (file fd) p e g) (k .told);
+          told-map (λ (file : Files). p ≡ picOf (take 4 (file fd))) (λ (file : Files). Like p (picOf (file fd))) (λ file e. like-head (file fd) p e g)
+          (k .told);
     }
 
 pub look-end : (fd : ℤ) (p r : Pic) → HeadRead fd p → sizeGood (p .width) (p .height) ≡ true → EndRead fd p r → Looked fd r
@@ -417,12 +426,18 @@ module _ (a b : ℤ) (p q : Pic) (v : Verdict) (e : v ≡ verdictOf p q) (la : L
       record {
         told =
             told-two Alike-files
-            (λ (file : Files). Has (p .width) (p .height) (file a) → Has (p .width) (p .height) (file b) → RowsDone (p .width) (p .height) (file a) (file b) from to good)
+            (λ (file : Files).
+            Has (p .width) (p .height) (file a) → Has (p .width) (p .height) (file b) → RowsDone (p .width) (p .height) (file a) (file b) from to good)
             (λ (file : Files). FilesRead (file a) (file b) from to r)
             (λ file l m. files-tiles p q v e (file a) (file b) (l .0) (l .1) from to good u r t m after s) looked (k .told);
       }
 
-  pub seen-sized : (u : Verdict) (r : Seen) → (u ≡ Tiles → v ≡ Tiles) → (r .verdict ≡ u) × (r .width ≡ p .width) × (r .height ≡ p .height) → r .verdict ≡ Tiles → Sized (r .width) (r .height)
+  pub seen-sized :
+      (u : Verdict) (r : Seen)
+      → (u ≡ Tiles → v ≡ Tiles)
+      → (r .verdict ≡ u) × (r .width ≡ p .width) × (r .height ≡ p .height)
+      → r .verdict ≡ Tiles
+      → Sized (r .width) (r .height)
   seen-sized u r f s t = rw (s .1, s .2) (tiles-sized p q v e (f (sym (s .0) ∙ t)))
 
 -- ---- the text

@@ -27,7 +27,10 @@ use Rattle.app_compare.specs.Text.{Texted, Put, tilesIn, linesIn, Lined}
 -- ---- one piece, two pieces
 
 pub put-copy :
-    (from to text : List ℕ) (n : ℕ) → n + length text ≤ length from → to ≡ patch from n (take (length text) (drop 0 text)) → Put from to n (n + length text) text
+    (from to text : List ℕ) (n : ℕ)
+    → n + length text ≤ length from
+    → to ≡ patch from n (take (length text) (drop 0 text))
+    → Put from to n (n + length text) text
 unfolding written
 put-copy from to text n h e =
     let f : to ≡ patch from n text = e ∙ ap (patch from n) (take-length text) in
@@ -194,7 +197,12 @@ tiles-length : (t : ℕ) → length (tilesText t) ≤ 27
 unfolding tilesText
 tiles-length t = let l = decimal-length t in simp length-append (omega arith)
 
-pub texted-tiles : (ls : List Line) (out to : List ℕ) (n t r : ℕ) → length out ≡ 131072 → Lined ls out n t → Put out to n r (tilesText t) → Texted to r (textOf Tiles ls)
+pub texted-tiles :
+    (ls : List Line) (out to : List ℕ) (n t r : ℕ)
+    → length out ≡ 131072
+    → Lined ls out n t
+    → Put out to n r (tilesText t)
+    → Texted to r (textOf Tiles ls)
 unfolding textOf
 texted-tiles ls out to n t r l d p =
     record {
@@ -206,7 +214,8 @@ pub texted-bad : (ls : List Line) (out to : List ℕ) (r : ℕ) → length out �
 unfolding textOf
 texted-bad ls out to r l p = record { fits = omega (arith, p .end, p .len); text = p .text }
 
-pub texted-size : (ls : List Line) (out to : List ℕ) (r : ℕ) → length out ≡ 131072 → Put out to 0 r (115 ∷ 105 ∷ 122 ∷ 101 ∷ 10 ∷ []) → Texted to r (textOf Size ls)
+pub texted-size :
+    (ls : List Line) (out to : List ℕ) (r : ℕ) → length out ≡ 131072 → Put out to 0 r (115 ∷ 105 ∷ 122 ∷ 101 ∷ 10 ∷ []) → Texted to r (textOf Size ls)
 unfolding textOf
 texted-size ls out to r l p = record { fits = omega (arith, p .end, p .len); text = p .text }
 

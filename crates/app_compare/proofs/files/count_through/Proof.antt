@@ -22,22 +22,34 @@ loop-holds : tie.Need-loop-holds Inv-loop μ-loop
 loop-holds c = (omega arith, search needs, rows-start _ _ _ _)
 
 count-both-requires : tie.Need-count-both-requires Inv-loop μ-loop
-count-both-requires c κs = c .before .before .before .before .pre
+count-both-requires c κs =
+    let s = c .before .before .before .before in
+    s .pre
 
 returns : tie.Need-returns Inv-loop μ-loop
 returns c =
-    at-rows (toZ-ofZ (c .before .before .before .before .before .before .before .before .fits .a)) (toZ-ofZ (c .before .before .before .before .before .before .before .before .fits .b))
-    (rows-short _ _ _ _ (c .before .before .before .before .before .before .loop .y) _ _ _ _ _ (c .before .before .before .count-both .ensures) (not-true _ (c .if1 .taken)) (omega arith))
+    let s3 = c .before .before .before in
+    let s6 = s3 .before .before .before in
+    let s8 = s6 .before .before in
+    at-rows (toZ-ofZ (s8 .fits .a)) (toZ-ofZ (s8 .fits .b))
+    (rows-short _ _ _ _ (s6 .loop .y) _ _ _ _ _ (s3 .count-both .ensures) (not-true _ (c .if1 .taken)) (omega arith))
 
 loop-again : tie.Need-loop-again Inv-loop μ-loop
-loop-again c = (omega arith, search needs, rows-more _ _ _ _ _ _ _ _ (c .before .before .before .before .before .before .loop .inv .2) (c .before .before .before .count-both .ensures))
+loop-again c =
+    let s3 = c .before .before .before in
+    let s6 = s3 .before .before .before in
+    (omega arith, search needs, rows-more _ _ _ _ _ _ _ _ (s6 .loop .inv .2) (s3 .count-both .ensures))
 
 same-length-2 : tie.Need-same-length-2 Inv-loop μ-loop
 same-length-2 c = c .before .loop .inv .1
 
 returns-2 : tie.Need-returns-2 Inv-loop μ-loop
 returns-2 c =
-    at-rows (toZ-ofZ (c .before .before .before .fits .a)) (toZ-ofZ (c .before .before .before .fits .b)) (rows-all _ _ _ _ (c .before .loop .y) _ _ (omega arith) (c .before .loop .inv .2))
+    let s = c .before .before .before in
+    at-rows (toZ-ofZ (s .fits .a)) (toZ-ofZ (s .fits .b)) (rows-all _ _ _ _ (c .before .loop .y) _ _ (omega arith) (c .before .loop .inv .2))
 
 pub count-through-spec : {M : Type 1} → statement M
-count-through-spec = tie.close (tie.spec Inv-loop μ-loop loop-holds count-both-requires (λ c. search needs) returns (λ c. omega arith) (λ c. omega arith) loop-again same-length-2 returns-2)
+count-through-spec =
+    tie.close
+    (tie.spec Inv-loop μ-loop loop-holds count-both-requires (λ c. search needs) returns (λ c. omega arith) (λ c. omega arith) loop-again
+    same-length-2 returns-2)

@@ -11,7 +11,9 @@ returns : tie.Need-returns
 returns c = (omega arith, read-known _ _ _ _ (as-read _))
 
 returns-2 : tie.Need-returns-2
-returns-2 c = (c .before .before .read-full .ensures .0, read-known _ _ _ _ (as-read _))
+returns-2 c =
+    let s = c .before .before in
+    (s .read-full .ensures .0, read-known _ _ _ _ (as-read _))
 
 pub read-into-spec : {M : Type 1} → statement M
 read-into-spec = tie.close (tie.spec (λ c. search needs) (λ c κs. search needs) returns (λ c κs. search needs) (λ c. search needs) returns-2)

@@ -7,10 +7,16 @@ use Rattle.app_compare.proofs.files.read_row.Statement.{statement}
 use Rattle.app_compare.proofs.files.read_row.Tie as tie
 
 read-at-requires : tie.Need-read-at-requires
-read-at-requires c κs = (omega (arith, c .before .place .ensures .1), omega (arith, c .before .before .before .pre .0, c .before .before .before .pre .1))
+read-at-requires c κs =
+    let s = c .before .before .before in
+    (omega (arith, c .before .place .ensures .1), omega (arith, s .pre .0, s .pre .1))
 
 returns : tie.Need-returns
-returns c = row-known _ _ _ _ _ (c .before .before .before .before .place .ensures .0) (at-read (toZ-ofZ (c .before .before .before .before .before .before .fits .fd)) (c .before .before .read-at .ensures))
+returns c =
+    let s2 = c .before .before in
+    let s4 = s2 .before .before in
+    let s6 = s4 .before .before in
+    row-known _ _ _ _ _ (s4 .place .ensures .0) (at-read (toZ-ofZ (s6 .fits .fd)) (s2 .read-at .ensures))
 
 pub read-row-spec : {M : Type 1} → statement M
 read-row-spec = tie.close (tie.spec (λ c κs. search needs) (λ c. search needs) read-at-requires (λ c. search needs) returns)

@@ -6,12 +6,17 @@ use Rattle.app_compare.proofs.text.put_field.Statement.{statement}
 use Rattle.app_compare.proofs.text.put_field.Tie as tie
 
 put-requires : tie.Need-put-requires
-put-requires c κs = omega (arith, c .before .before .before .before .put-number .ensures .1, c .before .before .before .before .put-number .ensures .0 .len, c .before .before .before .before .before .before .before .pre)
+put-requires c κs =
+    let s4 = c .before .before .before .before in
+    let s7 = s4 .before .before .before in
+    omega (arith, s4 .put-number .ensures .1, s4 .put-number .ensures .0 .len, s7 .pre)
 
 returns : tie.Need-returns
 returns c =
-    let a = c .before .before .before .before .before .before .before .put-number .ensures in
-    let b = c .before .before .put .ensures in
+    let s2 = c .before .before in
+    let s7 = s2 .before .before .before .before .before in
+    let a = s7 .put-number .ensures in
+    let b = s2 .put .ensures in
     (put-two _ _ _ _ _ _ _ _ (a .0) b, omega (arith, a .1, b .end))
 
 pub put-field-spec : {M : Type 1} → statement M

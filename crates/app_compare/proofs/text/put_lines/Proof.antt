@@ -15,29 +15,60 @@ abbrev μ-loop : tie.MeasureT-loop
 μ-loop counts width height out₀ at₀ t₀ k₀ out at t k = tilesIn width height - k
 
 loop-holds : tie.Need-loop-holds Inv-loop μ-loop
-loop-holds c = lining-none _ _ _ _ (c .before .before .pre .0) (c .before .before .pre .1)
+loop-holds c =
+    let s = c .before .before in
+    lining-none _ _ _ _ (s .pre .0) (s .pre .1)
 
 put-line-requires : tie.Need-put-line-requires Inv-loop μ-loop
-put-line-requires c κs = lining-next (c .before .before .before .before .before .loop .inv) (sym (c .before .before .before .before .next-tile .ensures) ∙ c .before .before .j .given .1) .room
+put-line-requires c κs =
+    let s2 = c .before .before in
+    let s4 = s2 .before .before in
+    let s5 = s4 .before in
+    lining-next (s5 .loop .inv) (sym (s4 .next-tile .ensures) ∙ s2 .j .given .1) .room
 
 add-t : tie.Need-add-t Inv-loop μ-loop
-add-t c = let m = lining-next (c .before .before .before .before .before .before .before .before .loop .inv) (sym (c .before .before .before .before .before .before .before .next-tile .ensures) ∙ c .before .before .before .before .before .j .given .1) in omega (arith, m .few)
+add-t c =
+    let s5 = c .before .before .before .before .before in
+    let s7 = s5 .before .before in
+    let s8 = s7 .before in
+    let m = lining-next (s8 .loop .inv) (sym (s7 .next-tile .ensures) ∙ s5 .j .given .1) in omega (arith, m .few)
 
 add-k : tie.Need-add-k Inv-loop μ-loop
-add-k c = let m = lining-next (c .before .before .before .before .before .before .before .before .loop .inv) (sym (c .before .before .before .before .before .before .before .next-tile .ensures) ∙ c .before .before .before .before .before .j .given .1) in omega (arith, m .below, c .before .before .before .before .before .before .before .before .loop .inv .few)
+add-k c =
+    let s5 = c .before .before .before .before .before in
+    let s7 = s5 .before .before in
+    let s8 = s7 .before in
+    let m = lining-next (s8 .loop .inv) (sym (s7 .next-tile .ensures) ∙ s5 .j .given .1) in omega (arith, m .below, s8 .loop .inv .few)
 
 loop-less : tie.Need-loop-less Inv-loop μ-loop
-loop-less c = lining-next (c .before .before .before .before .before .before .before .before .loop .inv) (sym (c .before .before .before .before .before .before .before .next-tile .ensures) ∙ c .before .before .before .before .before .j .given .1) .less
+loop-less c =
+    let s5 = c .before .before .before .before .before in
+    let s7 = s5 .before .before in
+    let s8 = s7 .before in
+    lining-next (s8 .loop .inv) (sym (s7 .next-tile .ensures) ∙ s5 .j .given .1) .less
 
 loop-again : tie.Need-loop-again Inv-loop μ-loop
 loop-again c =
-    lining-more (c .before .before .before .before .before .before .before .before .loop .inv) (sym (c .before .before .before .before .before .before .before .next-tile .ensures) ∙ c .before .before .before .before .before .j .given .1) (c .before .before .put-line .ensures .0) (c .before .before .put-line .ensures .1)
+    let s2 = c .before .before in
+    let s5 = s2 .before .before .before in
+    let s7 = s5 .before .before in
+    let s8 = s7 .before in
+    lining-more (s8 .loop .inv) (sym (s7 .next-tile .ensures) ∙ s5 .j .given .1) (s2 .put-line .ensures .0) (s2 .put-line .ensures .1)
 
 same-length : tie.Need-same-length Inv-loop μ-loop
-same-length c = c .before .before .before .loop .inv .len ∙ sym (c .before .before .before .before .before .before .pre .1)
+same-length c =
+    let s3 = c .before .before .before in
+    let s6 = s3 .before .before .before in
+    s3 .loop .inv .len ∙ sym (s6 .pre .1)
 
 returns : tie.Need-returns Inv-loop μ-loop
-returns c = lining-all (c .before .before .before .loop .inv) (sym (c .before .before .next-tile .ensures) ∙ c .enum-told .given .1)
+returns c =
+    let s2 = c .before .before in
+    let s3 = s2 .before in
+    lining-all (s3 .loop .inv) (sym (s2 .next-tile .ensures) ∙ c .enum-told .given .1)
 
 pub put-lines-spec : {M : Type 1} → statement M
-put-lines-spec = tie.close (tie.spec Inv-loop μ-loop loop-holds (λ c κs. search needs) (λ c. search needs) put-line-requires add-t add-k loop-less loop-again (λ c. search needs) same-length returns)
+put-lines-spec =
+    tie.close
+    (tie.spec Inv-loop μ-loop loop-holds (λ c κs. search needs) (λ c. search needs) put-line-requires add-t add-k loop-less loop-again
+    (λ c. search needs) same-length returns)

@@ -6,14 +6,22 @@ use Rattle.app_compare.proofs.text.put_tiles.Statement.{statement}
 use Rattle.app_compare.proofs.text.put_tiles.Tie as tie
 
 put-requires : tie.Need-put-requires
-put-requires c κs = omega (arith, c .before .before .before .pre)
+put-requires c κs =
+    let s = c .before .before .before in
+    omega (arith, s .pre)
 
 put-field-requires : tie.Need-put-field-requires
-put-field-requires c κs = omega (arith, c .before .before .before .put .ensures .end, c .before .before .before .put .ensures .len, c .before .before .before .before .before .before .before .pre)
+put-field-requires c κs =
+    let s3 = c .before .before .before in
+    let s7 = s3 .before .before .before .before in
+    omega (arith, s3 .put .ensures .end, s3 .put .ensures .len, s7 .pre)
 
 returns : tie.Need-returns
 returns c =
-    put-is _ _ _ _ _ _ (tiles-text (c .before .before .before .before .before .before .before .before .before .before .args .t)) (put-two _ _ _ _ _ _ _ _ (c .before .before .before .before .before .before .put .ensures) (c .before .before .put-field .ensures .0))
+    let s2 = c .before .before in
+    let s6 = s2 .before .before .before .before in
+    let s10 = s6 .before .before .before .before in
+    put-is _ _ _ _ _ _ (tiles-text (s10 .args .t)) (put-two _ _ _ _ _ _ _ _ (s6 .put .ensures) (s2 .put-field .ensures .0))
 
 pub put-tiles-spec : {M : Type 1} → statement M
 put-tiles-spec = tie.close (tie.spec (λ c. search needs) put-requires put-field-requires (λ c. search needs) returns)
