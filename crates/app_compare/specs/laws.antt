@@ -1,1 +1,3 @@
-pub mod Saying
+pub mod Told
+pub mod Files
+pub mod Text

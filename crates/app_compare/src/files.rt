@@ -1,177 +1,182 @@
-// Two .pic files read by their rows. A file that cannot be opened or has no head is one of which nothing is known.
-ghost use Prim.Native.Nat.{_≤_};
+// Two .pic files read at their places, "one pixel row of each file at a time". What is promised holds of all files of which the pieces that came are parts
+// (specs/Told), so of those that were there: that a read of a descriptor at a place gives that file's bytes is assumed in `read_at`, and nowhere else. A file
+// that cannot be opened, a read that fails and a file that has no places (a pipe) are files of which no more comes.
+ghost use mathlib.Core.Path.{_≡_};
+ghost use Prim.Native.Nat.{_+_, _*_, _≤_};
 ghost use lib.ListN.{length};
+ghost use Rattle.app_text.specs.First.{firstOf};
+ghost use Rattle.app_compare.specs.Outside.{Opened};
+ghost use Rattle.app_compare.specs.Files.{ReadAt, HeadRead, EndRead, Looked, RowRead};
+ghost use Rattle.app_compare.specs.Files.{rowsWhole, RowCounted, RowsCounted, afterRows, BothRead};
+ghost use Rattle.tile_diff.specs.laws.Request.{Sized};
+ghost use Rattle.tile_diff.specs.declared.pic.Verdict.the-variants.{Tiles};
 use tile_diff::pic::Pic;
 use tile_diff::pic::Verdict;
 
-// An open file and what its head says; the descriptor is below 0 where there is none.
-pub struct File {
-    pub fd: i32,
-    pub pic: Pic,
+// What two files give, and the first one's size.
+pub struct Seen {
+    pub verdict: Verdict,
+    pub width: u16,
+    pub height: u16,
 }
 
-// How many bytes came of each of two files.
-struct Came {
-    a: usize,
-    b: usize,
-}
-
-fn head(fd: i32) -> Pic {
-    let mut bytes = [0u8; 4];
-    let n = io::read_full(fd, &mut bytes);
-    tile_diff::pic::pic_of(&bytes[..n])
-}
-
-pub fn open(name: &[u8]) -> File {
-    let fd = os::open_read(name);
-    if fd < 0 {
-        let none = Pic {
-            width: 0,
-            height: 0,
-            bytes: 0,
-        };
-        return File { fd: fd, pic: none };
-    }
-    let pic = head(fd);
-    File { fd: fd, pic: pic }
-}
-
-pub fn close(f: File)
-    ensures { λ _. ⌜ Unit ⌝ }
+// The descriptor of the file of a name, below 0 where it cannot be opened.
+pub fn open(name: &[u8]) -> i32
+    ensures { λ r. ⌜ Opened (now (name .entry)) r ⌝ }
 {
-    if 0 <= f.fd {
-        libc::close(f.fd);
-    }
+    os::open_read(name)
 }
 
-// A pixel row of so many words: how many bytes came.
-pub fn read_row(fd: i32, row: &mut [u8], width: u16) -> usize
-    ensures { λ r. ⌜ (r ≤ 131070) × (r ≤ length (now («row» .exit))) ⌝ }
+// So many bytes of a file, from a place on, into a part that is lent: how many came.
+fn read_into(fd: i32, place: usize, part: &mut [u8]) -> usize
+    requires { ⌜ place ≤ 1099511627776 ⌝ }
+    ensures { λ r. ⌜ (r ≤ length (now (part .exit))) × ReadAt fd place (length (now (part .exit))) (firstOf (now (part .exit)) r) ⌝ }
 {
-    let size = 2 * (width as usize);
-    if row.len() < size {
+    let at = place as i64;
+    if libc::lseek(fd, at, libc::SEEK_SET) != at {
         return 0;
     }
-    io::read_full(fd, &mut row[0..size])
+    io::read_full(fd, part)
 }
 
-// The file's end behind its last row: 1 where a byte follows, else 0.
-fn tail(fd: i32) -> usize
-    ensures { λ r. ⌜ r ≤ 1 ⌝ }
+// The same into the start of a list.
+fn read_at(fd: i32, place: usize, size: usize, row: &mut [u8]) -> usize
+    requires { ⌜ (place ≤ 1099511627776) × (size ≤ length (now row)) ⌝ }
+    ensures { λ r. ⌜ ReadAt fd place size (firstOf (now (row .exit)) r) ⌝ }
 {
-    let mut one = [0u8; 1];
-    io::read_full(fd, &mut one)
+    read_into(fd, place, &mut row[0..size])
 }
 
-// The first of some bytes, none where there are fewer.
-pub fn start(bytes: &[u8], n: usize) -> &[u8] {
-    if bytes.len() < n {
-        return &bytes[..0];
-    }
-    let a = 0;
-    &bytes[a..n]
-}
-
-// A row that nothing is done with.
-fn pass_row(fd: i32, width: u16) -> usize
-    ensures { λ r. ⌜ r ≤ 131070 ⌝ }
+// What a file's head says: no size where it is cut or missing.
+fn head(fd: i32) -> Pic
+    ensures { λ r. ⌜ HeadRead fd r ⌝ }
 {
-    let mut row = [0u8; 8192];
-    read_row(fd, &mut row, width)
+    let mut bytes = [0u8; 4];
+    let n = read_into(fd, 0, &mut bytes);
+    tile_diff::pic::pic_of(app_text::loading::first(&bytes, n))
 }
 
-// The rows of one file by itself, up to the first that is short, and whether a byte follows: how many bytes came behind the head.
-fn read_through(fd: i32, width: u16, height: u16) -> usize
-    ensures { λ r. ⌜ r ≤ 8589803521 ⌝ }
+// The place of a picture's last byte.
+fn end_of(p: Pic) -> usize
+    ensures { λ r. ⌜ (r ≡ 3 + 2 * (p .width * p .height)) × (r ≤ 8589934592) ⌝ }
 {
-    let mut got: usize = 0;
-    let mut y: u16 = 0;
-    while y < height {
-        let n = pass_row(fd, width);
-        got += n;
-        if n < 2 * (width as usize) {
-            return got;
-        }
-        y += 1;
-    }
-    got + tail(fd)
+    3 + 2 * (p.width as usize * p.height as usize)
 }
 
-// Row y of each file; where both came whole, their differing words are counted.
-fn count_both(a: i32, b: i32, width: u16, y: u16, counts: &mut [u32]) -> Came
-    ensures { λ r. ⌜ (r .a ≤ 131070) × (r .b ≤ 131070) ⌝ }
+// Where a file has the size that its head says, two bytes asked for at its end tell whether it is short, whole or too long.
+fn with_end(fd: i32, p: Pic) -> Pic
+    ensures { λ r. ⌜ EndRead fd p r ⌝ }
 {
-    let mut first = [0u8; 8192];
-    let mut second = [0u8; 8192];
-    let n = read_row(a, &mut first, width);
-    let m = read_row(b, &mut second, width);
-    tile_diff::count::count_row(start(&first, n), start(&second, m), width, y, counts);
-    Came { a: n, b: m }
-}
-
-fn is_short(c: Came, width: u16) -> bool {
-    if c.a < 2 * (width as usize) {
-        return true;
-    }
-    c.b < 2 * (width as usize)
-}
-
-// The rows of two files of one size, up to the first that is short, and whether a byte follows either.
-fn count_through(a: i32, b: i32, width: u16, height: u16, counts: &mut [u32]) -> Came
-    ensures { λ r. ⌜ (r .a ≤ 8589803521) × (r .b ≤ 8589803521) ⌝ }
-{
-    let mut first: usize = 0;
-    let mut second: usize = 0;
-    let mut y: u16 = 0;
-    while y < height {
-        let c = count_both(a, b, width, y, counts);
-        first += c.a;
-        second += c.b;
-        if is_short(c, width) {
-            return Came {
-                a: first,
-                b: second,
-            };
-        }
-        y += 1;
-    }
-    Came {
-        a: first + tail(a),
-        b: second + tail(b),
-    }
-}
-
-// A file's head, and the bytes behind it.
-fn with_rows(p: Pic, came: usize) -> Pic
-    requires { ⌜ came ≤ 8589803521 ⌝ }
-{
+    let mut two = [0u8; 2];
+    let end = end_of(p);
+    let n = read_into(fd, end, &mut two);
     Pic {
         width: p.width,
         height: p.height,
-        bytes: 4 + came,
+        bytes: end + n,
     }
 }
 
-fn is_size(p: Pic) -> bool {
-    session::is_size(p.width as usize, p.height as usize)
+// What is known of a file: its size, and whether it is whole.
+fn look(fd: i32) -> Pic
+    ensures { λ r. ⌜ Looked fd r ⌝ }
+{
+    let p = head(fd);
+    if session::is_size(p.width as usize, p.height as usize) {
+        return with_end(fd, p);
+    }
+    p
 }
 
-// Both files read through, "one pixel row of each file at a time", each by its own rows where their sizes differ, since one of them may still be bad;
-// where the sizes are equal the counts are made on the way.
-pub fn read_both(a: File, b: File, counts: &mut [u32]) -> Verdict {
-    let p = a.pic;
-    let q = b.pic;
-    if !is_size(p) {
-        return Verdict::Bad;
+// Where row y begins in a file.
+fn place(width: u16, y: u16) -> usize
+    ensures { λ r. ⌜ (r ≡ 4 + 2 * (y * width)) × (r ≤ 8589934592) ⌝ }
+{
+    4 + 2 * (y as usize * width as usize)
+}
+
+// Row y of a file of some width: how many of its bytes came.
+pub fn read_row(fd: i32, width: u16, y: u16, row: &mut [u8]) -> usize
+    requires { ⌜ (width ≤ 4096) × (length (now row) ≡ 8192) ⌝ }
+    ensures { λ r. ⌜ RowRead fd width y (firstOf (now (row .exit)) r) ⌝ }
+{
+    read_at(fd, place(width, y), 2 * (width as usize), row)
+}
+
+// Are both rows whole, by their bytes?
+fn are_rows(a: &[u8], b: &[u8], width: u16) -> bool
+    ensures { λ r. ⌜ r ≡ rowsWhole width (now (a .entry)) (now (b .entry)) ⌝ }
+{
+    let size = 2 * (width as usize);
+    if a.len() < size {
+        return false;
     }
-    if !is_size(q) {
-        return Verdict::Bad;
+    size <= b.len()
+}
+
+// Row y of each file, its differing words counted; whether both came whole.
+fn count_both(a: i32, b: i32, width: u16, y: u16, counts: &mut [u32]) -> bool
+    requires { ⌜ width ≤ 4096 ⌝ }
+    ensures { λ r. ⌜ RowCounted a b width y (now (counts .entry)) (now (counts .exit)) r ⌝ }
+{
+    let mut first = [0u8; 8192];
+    let mut second = [0u8; 8192];
+    let n = read_row(a, width, y, &mut first);
+    let m = read_row(b, width, y, &mut second);
+    let of_a = app_text::loading::first(&first, n);
+    let of_b = app_text::loading::first(&second, m);
+    tile_diff::count::count_row(of_a, of_b, width, y, counts);
+    are_rows(of_a, of_b, width)
+}
+
+// All rows of two files of one size; false where one came short all the same.
+fn count_through(a: i32, b: i32, width: u16, height: u16, counts: &mut [u32]) -> bool
+    requires { ⌜ width ≤ 4096 ⌝ }
+    ensures { λ r. ⌜ RowsCounted a b width height (now (counts .entry)) (now (counts .exit)) r ⌝ }
+{
+    let mut y: u16 = 0;
+    while y < height {
+        if !count_both(a, b, width, y, counts) {
+            return false;
+        }
+        y += 1;
     }
-    if p.width == q.width && p.height == q.height {
-        let c = count_through(a.fd, b.fd, p.width, p.height, counts);
-        return tile_diff::pic::judge(with_rows(p, c.a), with_rows(q, c.b));
+    true
+}
+
+// A picture whose row came short is bad.
+fn verdict_of(good: bool) -> Verdict
+    ensures { λ r. ⌜ r ≡ afterRows good ⌝ }
+{
+    if good {
+        return Verdict::Tiles;
     }
-    let m = read_through(a.fd, p.width, p.height);
-    let n = read_through(b.fd, q.width, q.height);
-    tile_diff::pic::judge(with_rows(p, m), with_rows(q, n))
+    Verdict::Bad
+}
+
+fn as_seen(v: Verdict, p: Pic) -> Seen
+    ensures { λ r. ⌜ (r .verdict ≡ v) × (r .width ≡ p .width) × (r .height ≡ p .height) ⌝ }
+{
+    Seen {
+        verdict: v,
+        width: p.width,
+        height: p.height,
+    }
+}
+
+// Both files: each is judged by its head and its end first, so that "bad" goes before "size"; then the rows of two of one size are counted.
+pub fn read_both(a: i32, b: i32, counts: &mut [u32]) -> Seen
+    ensures { λ r. ⌜ BothRead a b (now (counts .entry)) (now (counts .exit)) r × (r .verdict ≡ Tiles → Sized (r .width) (r .height)) ⌝ }
+{
+    let p = look(a);
+    let q = look(b);
+    let v = tile_diff::pic::judge(p, q);
+    match v {
+        Verdict::Bad => as_seen(Verdict::Bad, p),
+        Verdict::Size => as_seen(Verdict::Size, p),
+        Verdict::Tiles => {
+            let good = count_through(a, b, p.width, p.height, counts);
+            as_seen(verdict_of(good), p)
+        }
+    }
 }

@@ -1,18 +1,15 @@
 // The picture for people as a BMP: the second picture dimmed, the differing tiles framed. Its rows go from below, so each is looked up in the file again.
-
-// Where row y begins in a file.
-fn place(width: u16, y: u16) -> i64 {
-    (4 + 2 * (width as usize * y as usize)) as i64
-}
+ghost use Prim.Native.Nat.{_≤_};
 
 // The words of row y, marked, as the bytes of a row of the BMP, to the output: whether they could be written.
-fn write_row(out: i32, fd: i32, width: u16, height: u16, y: u16, counts: &[u32]) -> bool {
+fn write_row(out: i32, fd: i32, width: u16, height: u16, y: u16, counts: &[u32]) -> bool
+    requires { ⌜ width ≤ 4096 ⌝ }
+{
     let mut row = [0u8; 8192];
     let mut words = [0u16; 4096];
-    libc::lseek(fd, place(width, y), libc::SEEK_SET);
-    let n = crate::files::read_row(fd, &mut row, width);
+    let n = crate::files::read_row(fd, width, y, &mut row);
     tile_diff::mark::mark_row(
-        crate::files::start(&row, n),
+        app_text::loading::first(&row, n),
         width,
         height,
         y,
@@ -23,7 +20,9 @@ fn write_row(out: i32, fd: i32, width: u16, height: u16, y: u16, counts: &[u32])
     app_pictures::out::write_start(out, &row, app_pictures::bmp::row_size(width))
 }
 
-fn write_up(out: i32, fd: i32, width: u16, height: u16, counts: &[u32]) -> bool {
+fn write_up(out: i32, fd: i32, width: u16, height: u16, counts: &[u32]) -> bool
+    requires { ⌜ width ≤ 4096 ⌝ }
+{
     let mut left = height;
     while 0 < left {
         left -= 1;
@@ -34,7 +33,9 @@ fn write_up(out: i32, fd: i32, width: u16, height: u16, counts: &[u32]) -> bool 
     true
 }
 
-fn write_bmp(out: i32, fd: i32, width: u16, height: u16, counts: &[u32]) -> bool {
+fn write_bmp(out: i32, fd: i32, width: u16, height: u16, counts: &[u32]) -> bool
+    requires { ⌜ width ≤ 4096 ⌝ }
+{
     if app_pictures::out::write_bmp_head(out, width, height) {
         return write_up(out, fd, width, height, counts);
     }
@@ -43,6 +44,7 @@ fn write_bmp(out: i32, fd: i32, width: u16, height: u16, counts: &[u32]) -> bool
 
 // The BMP of a second picture whose counts are known, to the file that argument i names.
 pub fn bmp_out(i: usize, fd: i32, width: u16, height: u16, counts: &[u32])
+    requires { ⌜ width ≤ 4096 ⌝ }
     ensures { λ _. ⌜ Unit ⌝ }
 {
     let out = app_pictures::out::open_output(i);

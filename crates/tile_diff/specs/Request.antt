@@ -3,17 +3,20 @@
 -- (01 is this project's scope document, 02 its change requests, 001 is MS-RDPRFX: README, "What 01 is".)
 use Prim.Native.Nat.{ℕ, zero, suc, _+_, _*_, _<_, _≤_}
 use mathlib.Core.Path.{_≡_}
+use mathlib.Core.Logic.{_⊎_}
+use mathlib.Core.Bool.{true, false}
 use mathlib.Core.List.{List, [], _∷_, List·Memᴰ}
 use lib.ListN.{take, drop, replicate}
 use lib.Dec.{ltb, eqb}
 use Rattle.whole.specs.Row.{_!_⨾_, _⇒_∣_}
 use Rattle.session.specs.Header.{tilesOver}
 use Rattle.tile_diff.specs.Tiles.{wordsOf, differs, listed}
-use Rattle.tile_diff.specs.Pic.{picOf, verdictOf}
+use Rattle.tile_diff.specs.Pic.{picOf, isWhole, verdictOf}
 use Rattle.tile_diff.specs.Counts.{rowCounted, nextTile}
 use Rattle.tile_diff.specs.declared.count.Line.{Line}
 use Rattle.tile_diff.specs.declared.count.Next.the-variants.{Tile, End}
-use Rattle.tile_diff.specs.declared.pic.Verdict.the-variants.{Tiles}
+use Rattle.tile_diff.specs.declared.pic.Pic.{Pic}
+use Rattle.tile_diff.specs.declared.pic.Verdict.the-variants.{Bad, Size, Tiles}
 
 -- the words of a file, behind its head
 abbrev pub pictureOf : List ℕ → List ℕ
@@ -36,6 +39,14 @@ noCounts = replicate 2048 0
 pub data Asked (cs : List ℕ) (w h : ℕ) : ℕ → List Line → Type 0 where
   none : {k : ℕ} → nextTile cs w h k ≡ End → Asked cs w h k []
   more : {k j : ℕ} {l : Line} {ls : List Line} → nextTile cs w h k ≡ Tile j l → Asked cs w h (j + 1) ls → Asked cs w h k (l ∷ ls)
+
+-- two files that are neither bad nor of different sizes, and a caller who has asked for their lines: all that `lines` below asks for
+pub record CanBeAsked : Type 0 where
+  pub a : List ℕ
+  pub b : List ℕ
+  pub tiles : verdictOf (picOf a) (picOf b) ≡ Tiles
+  pub ls : List Line
+  pub asked : Asked (rowsCounted a b (picOf a .width) (picOf a .height) noCounts) (picOf a .width) (picOf a .height) 0 ls
 
 -- 1 where a line is that of column x and row y, else 0
 unfoldable pub isOf : ℕ → ℕ → Line → ℕ
@@ -62,6 +73,13 @@ pub data RowByRow (columns : ℕ) : ℕ → List Line → Type 0 where
   next : {k : ℕ} {l : Line} {ls : List Line} → k ≤ l .y * columns + l .x → RowByRow columns (l .y * columns + l .x + 1) ls → RowByRow columns k (l ∷ ls)
 
 pub record RequestSeven : Type 0 where
+  -- "\"bad\", which goes before \"size\"": whatever the other file is
+  pub bad-before-size : (p q : Pic) → (isWhole p ≡ false) ⊎ (isWhole q ≡ false) → verdictOf p q ≡ Bad
+  -- "Different sizes print only \"size\""
+  pub different-sizes :
+      (p q : Pic) → isWhole p ≡ true → isWhole q ≡ true → ((p .width ≡ q .width) × (p .height ≡ q .height) → ⊥) → verdictOf p q ≡ Size
+  -- and nothing else is bad or of different sizes
+  pub one-size : (p q : Pic) → isWhole p ≡ true → isWhole q ≡ true → p .width ≡ q .width → p .height ≡ q .height → verdictOf p q ≡ Tiles
   -- "The counts are those of a definition over the two word lists", and so are the lines: two files that are neither bad nor of different sizes
   pub lines :
       (a b : List ℕ) (ls : List Line)
@@ -69,6 +87,7 @@ pub record RequestSeven : Type 0 where
       → let w = picOf a .width in let h = picOf a .height in
       Asked (rowsCounted a b w h noCounts) w h 0 ls
       → ls ≡ listed (pictureOf a) (pictureOf b) w h
+  pub can-be-asked : CanBeAsked
   -- "every differing tile is listed once", and none that does not differ
   pub once :
       (ps qs : List ℕ) (w h x y : ℕ)
@@ -80,3 +99,6 @@ pub record RequestSeven : Type 0 where
   pub row-by-row : (ps qs : List ℕ) (w h : ℕ) → RowByRow (tilesOver w) 0 (listed ps qs w h)
   -- "Equal pictures print only \"tiles 0\""
   pub equal : (ps : List ℕ) (w h : ℕ) → listed ps ps w h ≡ []
+  -- "Two pictures that differ only in the top left word print \"0 0 1\"", of every size
+  pub top-left :
+      (p q : ℕ) (ws : List ℕ) (w h : ℕ) → 1 ≤ w → 1 ≤ h → (p ≡ q → ⊥) → listed (p ∷ ws) (q ∷ ws) w h ≡ record { x = 0; y = 0; n = 1 } ∷ []

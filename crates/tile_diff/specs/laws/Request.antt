@@ -1,26 +1,31 @@
 -- Request Seven, proved: from the bytes of two files to the lines.
 use Prim.Native.Nat.{ℕ, zero, suc, _+_, _*_, _-_, _/_, _%_, _≤_, _<_}
 use mathlib.Core.Path.{_≡_, refl, ap, sym, subst⁻¹, _∙_}
+use mathlib.Core.Logic.{_⊎_, ⊎-elim}
 use mathlib.Core.Bool.{Bool, true, false}
 use mathlib.Core.List.{List, [], _∷_, List·Memᴰ}
 use native.Mathlib.Omega.{arith}
-use native.Mathlib.Nat.{mod-lt, div-lt-iff-lt-mul, mul-le-mul, mul-le-mul-right, mul-comm, div-add-mod'}
+use native.Mathlib.Nat.{mod-lt, div-lt-iff-lt-mul, mul-le-mul, mul-le-mul-right, mul-comm, div-add-mod', zero-mod, zero-div}
 use lib.Arith.{digits-lt, digits-div, digits-mod}
 use lib.ListN.{length, getD, take, drop, length-drop, length-replicate, getD-replicate}
 use lib.Dec.{eqb, leb, ltb}
-use borrow.Author.Tests.{eqb-true, leb-true}
+use borrow.Author.Tests.{eqb-true, eq-eqb, leb-true}
 use Rattle.wire.specs.Le.{le16}
 use Rattle.session.specs.Header.{tilesOver, sizeGood}
 use Rattle.whole.specs.Row.{_!_⨾_, _⇒_∣_}
 use Rattle.whole.specs.laws.Row.{held}
 use Rattle.tile_diff.specs.Tiles.{wordsOf, howMany, differsAt, differs, linesOf, listed}
 use Rattle.tile_diff.specs.Pic.{picOf, isWhole, sizesJudge, verdictOf}
-use Rattle.tile_diff.specs.Request.{pictureOf, rowOf, rowsCounted, noCounts, Asked, timesIn, Right, RequestSeven}
+use Rattle.tile_diff.specs.Request.{pictureOf, rowOf, rowsCounted, noCounts, Asked, none, more, CanBeAsked, timesIn, Right, RequestSeven}
 use Rattle.tile_diff.specs.laws.Words.{words-length}
-use Rattle.tile_diff.specs.laws.Count.{some-columns, same}
+use Rattle.tile_diff.specs.Counts.{nextTile}
+use Rattle.tile_diff.specs.laws.Count.{some-columns, same, not-same, next-none}
+use Rattle.tile_diff.specs.laws.Cases.{cases}
 use Rattle.tile_diff.specs.laws.Picture.{placesCounted, counts, rowAt, row-places, places-count, count-differs, many-none}
-use Rattle.tile_diff.specs.laws.Listed.{lines-same, lines-none, times-once, shown-only, rising, asked-lines}
+use Rattle.tile_diff.specs.laws.Listed.{lines-same, lines-none, times-once, shown-only, rising, asked-lines, found-from}
 use Rattle.tile_diff.specs.declared.count.Line.{Line}
+use Rattle.tile_diff.specs.declared.count.Next.{Next}
+use Rattle.tile_diff.specs.declared.count.Next.the-variants.{Tile, End}
 use Rattle.tile_diff.specs.declared.pic.Pic.{Pic}
 use Rattle.tile_diff.specs.declared.pic.Verdict.the-variants.{Bad, Size, Tiles}
 
@@ -67,24 +72,26 @@ module _ (a b : List ℕ) (w h : ℕ) (cs : List ℕ) (p : h * w ≤ length (pic
 pub record Sized (w h : ℕ) : Type 0 where
   pub wide : 1 ≤ w
   pub wider : w ≤ 4096
+  pub some : 1 ≤ h
   pub high : h ≤ 2048
 
-size-is : (w h : ℕ) → sizeGood w h ≡ true → Sized w h
+pub size-is : (w h : ℕ) → sizeGood w h ≡ true → Sized w h
 unfolding sizeGood
 size-is w h e =
     let a = held (leb 1 w) false _ true (λ z. cannot z) (sym e) in
     let b = held (leb w 4096) false _ true (λ z. cannot z) (a .1) in
     let c = held (leb 1 h) false _ true (λ z. cannot z) (b .1) in
-    record { wide = leb-true 1 w (a .0); wider = leb-true w 4096 (b .0); high = leb-true h 2048 (sym (c .1)) }
+    record { wide = leb-true 1 w (a .0); wider = leb-true w 4096 (b .0); some = leb-true 1 h (c .0); high = leb-true h 2048 (sym (c .1)) }
   where
     cannot : true ≡ false → ⊥
     cannot z = let n : _≡_ {A = ℕ} 0 1 = cc in omega arith
 
 pub record Whole (m : List ℕ) (w h : ℕ) : Type 0 where
   pub sized : Sized w h
+  pub size : length m ≡ 4 + 2 * (h * w)
   pub words : length (pictureOf m) ≡ h * w
 
-bytes-are : (m : List ℕ) → 1 ≤ picOf m .width → picOf m .bytes ≡ length m
+pub bytes-are : (m : List ℕ) → 1 ≤ picOf m .width → picOf m .bytes ≡ length m
 unfolding picOf _!_⨾_
 bytes-are m = by (leb 4 (length m))
   where
@@ -93,7 +100,7 @@ bytes-are m = by (leb 4 (length m))
     by true h = refl
     by false h = absurd (omega arith)
 
-whole-is : (m : List ℕ) → isWhole (picOf m) ≡ true → Whole m (picOf m .width) (picOf m .height)
+pub whole-is : (m : List ℕ) → isWhole (picOf m) ≡ true → Whole m (picOf m .width) (picOf m .height)
 unfolding isWhole
 whole-is m e =
     let a = held (sizeGood (picOf m .width) (picOf m .height)) false _ true (λ z. let n : _≡_ {A = ℕ} 0 1 = cc in omega arith) (sym e) in
@@ -101,13 +108,13 @@ whole-is m e =
     let b : picOf m .bytes ≡ 4 + 2 * (picOf m .width * picOf m .height) = eqb-true _ _ (sym (a .1)) in
     let l = bytes-are m (s .wide) in
     let c = mul-comm (picOf m .width) (picOf m .height) in
-    record { sized = s; words = words-length (drop 4 m) ∙ rw (length-drop 4 m) (omega arith) }
+    record { sized = s; size = omega arith; words = words-length (drop 4 m) ∙ rw (length-drop 4 m) (omega arith) }
 
 pub record Both (a b : List ℕ) : Type 0 where
   pub first : Whole a (picOf a .width) (picOf a .height)
   pub second : Whole b (picOf a .width) (picOf a .height)
 
-both-are : (a b : List ℕ) → verdictOf (picOf a) (picOf b) ≡ Tiles → Both a b
+pub both-are : (a b : List ℕ) → verdictOf (picOf a) (picOf b) ≡ Tiles → Both a b
 unfolding verdictOf sizesJudge
 both-are a b e =
     let p = held (isWhole (picOf a)) Bad _ Tiles (λ z. let n : _≡_ {A = ℕ} 0 1 = cc in omega arith) (sym e) in
@@ -120,7 +127,7 @@ both-are a b e =
 
 -- ---- the counts of the definition
 
-few-tiles : (w h : ℕ) → Sized w h → tilesOver w * tilesOver h ≤ 2048
+pub few-tiles : (w h : ℕ) → Sized w h → tilesOver w * tilesOver h ≤ 2048
 unfolding tilesOver
 few-tiles w h s = mul-le-mul {n₂ = 64} {m₂ = 32} (omega arith) (omega arith)
 
@@ -147,14 +154,18 @@ module _ (a b : List ℕ) (w h : ℕ) (p : Whole a w h) (q : Whole b w h) where
       ∙ ap (λ (j : ℕ). howMany (counts ps qs w j) (h * w)) (sym (div-add-mod' k (tilesOver w)))
       ∙ count-differs ps qs w h (k % tilesOver w) (k / tilesOver w) (p .sized .wide) (mod-lt k u)
 
-  pub lines-are : (ls : List Line) → Asked (rowsCounted a b w h noCounts) w h 0 ls → ls ≡ listed (pictureOf a) (pictureOf b) w h
+  pub counted-lines :
+      linesOf (λ j. getD (rowsCounted a b w h noCounts) j 0) (tilesOver w) (tilesOver w * tilesOver h) 0 ≡ listed (pictureOf a) (pictureOf b) w h
   unfolding listed
+  counted-lines = lines-same _ _ (tilesOver w) (tilesOver w * tilesOver h) 0 (λ j l. count-is j (omega arith))
+
+  pub lines-are : (ls : List Line) → Asked (rowsCounted a b w h noCounts) w h 0 ls → ls ≡ listed (pictureOf a) (pictureOf b) w h
   lines-are ls r =
       let all = tilesOver w * tilesOver h in
       let e : all - 0 ≡ all = omega arith in
       asked-lines (rowsCounted a b w h noCounts) w h 0 ls (omega arith) r
       ∙ ap (λ (m : ℕ). linesOf (λ j. getD (rowsCounted a b w h noCounts) j 0) (tilesOver w) m 0) e
-      ∙ lines-same _ _ (tilesOver w) all 0 (λ j l. count-is j (omega arith))
+      ∙ counted-lines
 
 -- ---- the lines of the definition
 
@@ -195,10 +206,126 @@ listed-equal : (ps : List ℕ) (w h : ℕ) → listed ps ps w h ≡ []
 unfolding listed
 listed-equal ps w h = lines-none _ (tilesOver w) (tilesOver w * tilesOver h) 0 (λ j. none-differs ps w h (j % tilesOver w) (j / tilesOver w))
 
+-- ---- what is judged
+
+pub bad-first : (p q : Pic) → (isWhole p ≡ false) ⊎ (isWhole q ≡ false) → verdictOf p q ≡ Bad
+unfolding verdictOf _!_⨾_
+bad-first p q r = ⊎-elim (λ e. rw e) (λ e. rw e (by (isWhole p))) r
+  where
+    by : (t : Bool) → (t ! Bad ⨾ Bad) ≡ Bad
+    by true = refl
+    by false = refl
+
+module _ (p q : Pic) (e : isWhole p ≡ true) (f : isWhole q ≡ true) where
+  pub other-size : ((p .width ≡ q .width) × (p .height ≡ q .height) → ⊥) → verdictOf p q ≡ Size
+  unfolding verdictOf sizesJudge _!_⨾_
+  other-size d = rw (e, f) (by (eqb (p .width) (q .width)) (eqb (p .height) (q .height)) refl refl)
+    where
+      by : (t u : Bool) → eqb (p .width) (q .width) ≡ t → eqb (p .height) (q .height) ≡ u → (t ! Size ⨾ u ! Size ⨾ Tiles) ≡ Size
+      by true true a b = absurd (d (eqb-true (p .width) (q .width) a, eqb-true (p .height) (q .height) b))
+      by true false a b = refl
+      by false u a b = refl
+
+  pub same-size : p .width ≡ q .width → p .height ≡ q .height → verdictOf p q ≡ Tiles
+  unfolding verdictOf sizesJudge _!_⨾_
+  same-size a b = rw (e, f, eq-eqb (p .width) (q .width) a, eq-eqb (p .height) (q .height) b)
+
+-- ---- the top left word
+
+-- a test that only place 0 can meet
+many-first : (t : ℕ → Bool) → ((i : ℕ) → t (suc i) ≡ false) → (n : ℕ) → howMany t (suc n) ≡ (t 0 ⇒ 1 ∣ 0)
+unfolding howMany _⇒_∣_
+many-first t e zero = omega arith
+many-first t e (suc n) = rw (e n, many-first t e n) (omega arith)
+
+lines-none-from : (f : ℕ → ℕ) (c m k : ℕ) → ((j : ℕ) → k ≤ j → f j ≡ 0) → linesOf f c m k ≡ []
+unfolding linesOf _⇒_∣_
+lines-none-from f c zero k e = refl
+lines-none-from f c (suc m) k e = rw (e k (omega arith)) (lines-none-from f c m (k + 1) (λ j h. e j (omega arith)))
+
+module _ (p q : ℕ) (ws : List ℕ) (w h : ℕ) (wide : 1 ≤ w) (high : 1 ≤ h) (d : p ≡ q → ⊥) where
+  -- how often the top left word counts for a tile
+  abbrev once : ℕ → ℕ → ℕ
+  once x y = (eqb 0 x ! false ⨾ eqb 0 y ! false ⨾ true) ⇒ 1 ∣ 0
+
+  corner : (x y : ℕ) → differs (p ∷ ws) (q ∷ ws) w h x y ≡ once x y
+  unfolding differs differsAt
+  corner x y =
+      let m : 1 * 1 ≤ h * w = mul-le-mul {n₂ = h} {m₂ = w} high wide in
+      let s : h * w ≡ suc (h * w - 1) = omega arith in
+      rw s
+      (many-first (differsAt (p ∷ ws) (q ∷ ws) w x y)
+      (λ i. nothing (eqb (suc i % w / 64) x) (eqb (suc i / w / 64) y) _ (same {a = getD ws i 0} {b = getD ws i 0} refl refl refl)) (h * w - 1)
+      ∙ rw (zero-mod w, zero-div w, not-same {a = p} {b = q} refl refl d))
+
+  -- for tile 0 once, and for no other
+  at-first : (c : ℕ) → once (0 % c) (0 / c) ≡ 1
+  unfolding _!_⨾_ _⇒_∣_
+  at-first c = rw (zero-mod c, zero-div c)
+
+  at-others : (c j : ℕ) → 1 ≤ j → once (j % c) (j / c) ≡ 0
+  unfolding _!_⨾_ _⇒_∣_
+  at-others c j l = by (eqb 0 (j % c)) (eqb 0 (j / c)) refl refl
+    where
+      by : (t u : Bool) → eqb 0 (j % c) ≡ t → eqb 0 (j / c) ≡ u → _≡_ {A = ℕ} ((t ! false ⨾ u ! false ⨾ true) ⇒ 1 ∣ 0) 0
+      by true true a b =
+          let m : 0 ≡ j % c = eqb-true 0 (j % c) a in
+          let n : 0 ≡ j / c = eqb-true 0 (j / c) b in
+          let z : 0 * c + 0 ≡ j = rw (sym m, sym n) at (div-add-mod' j c) in
+          absurd (omega arith)
+      by true false a b = refl
+      by false u a b = refl
+
+  pub top-left-line : listed (p ∷ ws) (q ∷ ws) w h ≡ record { x = 0; y = 0; n = 1 } ∷ []
+  unfolding listed linesOf _⇒_∣_
+  top-left-line =
+      let c = tilesOver w in
+      let f : ℕ → ℕ = λ k. differs (p ∷ ws) (q ∷ ws) w h (k % c) (k / c) in
+      let m : 1 * 1 ≤ c * tilesOver h = mul-le-mul {n₂ = c} {m₂ = tilesOver h} (some-tiles w wide) (some-tiles h high) in
+      let s : c * tilesOver h ≡ suc (c * tilesOver h - 1) = omega arith in
+      let first : f 0 ≡ 1 = corner (0 % c) (0 / c) ∙ at-first c in
+      let others = lines-none-from f c (c * tilesOver h - 1) 1 (λ j l. corner (j % c) (j / c) ∙ at-others c j l) in
+      rw (s, first, others, zero-mod c, zero-div c)
+
+-- ---- the premises of `lines` can be met: whoever asks comes to an end, whatever the counts
+
+pub record Answers (cs : List ℕ) (w h k : ℕ) : Type 0 where
+  pub ls : List Line
+  pub asked : Asked cs w h k ls
+
+module _ (cs : List ℕ) (w h : ℕ) where
+  ask : (n k : ℕ) → tilesOver w * tilesOver h - k ≤ n → Answers cs w h k
+  unfolding nextTile
+  ask zero k l =
+      let e : tilesOver w * tilesOver h - k ≡ 0 = omega arith in
+      record { ls = []; asked = none (sym (next-none cs (tilesOver w) (tilesOver w * tilesOver h - k) k e)) }
+  ask (suc n) k l = by (nextTile cs w h k) refl (λ j m. ask n (j + 1) m)
+    where
+      by : (x : Next) → nextTile cs w h k ≡ x → ((j : ℕ) → tilesOver w * tilesOver h - (j + 1) ≤ n → Answers cs w h (j + 1)) → Answers cs w h k
+      by End e r = record { ls = []; asked = none e }
+      by (Tile j m) e r =
+          let f : k ≤ j = found-from cs (tilesOver w) (tilesOver w * tilesOver h - k) k j m e in
+          let i = r j (omega arith) in
+          record { ls = m ∷ i .ls; asked = more e (i .asked) }
+
+-- a word of each that differs
+one-word : CanBeAsked
+one-word =
+    let a : List ℕ = 1 ∷ 0 ∷ 1 ∷ 0 ∷ 1 ∷ 2 ∷ [] in
+    let b : List ℕ = 1 ∷ 0 ∷ 1 ∷ 0 ∷ 3 ∷ 4 ∷ [] in
+    let w = picOf a .width in let h = picOf a .height in
+    let i = ask (rowsCounted a b w h noCounts) w h (tilesOver w * tilesOver h - 0) 0 (omega arith) in
+    record { a = a; b = b; tiles = cases .tiles; ls = i .ls; asked = i .asked }
+
 pub requestSeven : RequestSeven
 unfolding listed
 requestSeven =
     record {
+      bad-before-size = bad-first;
+      different-sizes = other-size;
+      one-size = same-size;
+      can-be-asked = one-word;
+      top-left = top-left-line;
       lines = λ a b ls e r. lines-are a b (picOf a .width) (picOf a .height) (both-are a b e .first) (both-are a b e .second) ls r;
       once = listed-once;
       only = listed-only;
