@@ -37,10 +37,10 @@ module _ (mode : ℕ) (good : isMode mode ≡ true) where
   arguments-0 = rw good
 
   module _ (sendable : Sendable grey 1 1 mode (setsBy 6 7)) where
-    abbrev bytes : List ℕ
+    abbrev pub bytes : List ℕ
     bytes = frameOver 0 1 1 mode (setsBy 6 7) grey
 
-    sending-0 : 0 ≡ sendFaultOver 0 1 1 mode (setsBy 6 7) grey (length bytes)
+    pub sending-0 : 0 ≡ sendFaultOver 0 1 1 mode (setsBy 6 7) grey (length bytes)
     unfolding sendFaultOver
     sending-0 = goes-on _ _ _ (sym (sendable .none)) (passes _ _ _ _ (le-leb (length bytes) (length bytes) (omega arith)) refl)
 
