@@ -107,13 +107,12 @@ module _ (p : List ℕ) (w h mode : ℕ) (q : Quants) (bytes : Bytes p) (luma : 
   tile-most : (k : ℕ) → tileLen (tileOver p w h mode q k) ≤ 194911
   tile-most k = omega (arith, tile-long p w h mode q k, most k 0 y-good, most k 1 cb-good, most k 2 cr-good)
 
-  -- n tiles, each by its number
-  pub tiles-most : (pick : ℕ → ℕ) (n i : ℕ) → length (tilesOf (λ j. tileOver p w h mode q (pick j)) n i) ≤ 194911 * n
+  tiles-most : (n i : ℕ) → length (tilesOf (tileOver p w h mode q) n i) ≤ 194911 * n
   unfolding tilesOf
-  tiles-most pick zero i = omega arith
-  tiles-most pick (suc n) i =
-      let t = λ (j : ℕ). tileOver p w h mode q (pick j) in
-      omega (arith, length-append (tileOf (t i)) (tilesOf t n (i + 1)), tile-length (t i), tile-most (pick i), tiles-most pick n (i + 1))
+  tiles-most zero i = omega arith
+  tiles-most (suc n) i =
+      let t = tileOver p w h mode q in
+      omega (arith, length-append (tileOf (t i)) (tilesOf t n (i + 1)), tile-length (t i), tile-most i, tiles-most n (i + 1))
 
   pub frame-most :
       (index : ℕ) → length (setsOf q) ≡ 10 * setCount (setsOf q) →
@@ -121,7 +120,7 @@ module _ (p : List ℕ) (w h mode : ℕ) (q : Quants) (bytes : Bytes p) (luma : 
   unfolding frameOver
   frame-most index tens =
       let t = tileOver p w h mode q in
-      omega (arith, frame-long index w h mode (setsOf q) (tilesNo w h) tens t, tiles-most (λ k. k) (tilesNo w h) 0)
+      omega (arith, frame-long index w h mode (setsOf q) (tilesNo w h) tens t, tiles-most (tilesNo w h) 0)
 
 -- ---- the call over luma's and chroma's sets
 

@@ -95,7 +95,8 @@ to-count size n rest s l =
 
 to-entries :
     (n : ℕ) (rest : List ℕ) → n ≤ 2 →
-    walk (capset (21 + 8 * n)) (bytes16 0xCBC1 ++ (bytes32 (13 + 8 * n) ++ (1 ∷ (bytes16 0xCFC0 ++ (bytes16 n ++ (bytes16 8 ++ rest)))))) ≡ walk (entries n) rest
+    walk (capset (21 + 8 * n)) (bytes16 0xCBC1 ++ (bytes32 (13 + 8 * n) ++ (1 ∷ (bytes16 0xCFC0 ++ (bytes16 n ++ (bytes16 8 ++ rest))))))
+    ≡ walk (entries n) rest
 unfolding behind spelled bytes16 _!_⨾_
 to-entries n rest l =
     let e : 21 + 8 * n ≡ 8 + (13 + 8 * n) = omega arith in

@@ -174,7 +174,8 @@ block-refusing capsLength =
     behind One _ λ codecId. row (eqb codecId 1) 5 _ (read-numbers .fixed) (
     behind Two _ λ capsetType. row (eqb capsetType 0xCFC0) 5 _ (read-numbers .fixed) (
     behind Two _ λ numIcaps. row (leb numIcaps 2) 6 _ says-6 (
-    behind Two _ λ icapLen. row (eqb icapLen 8) 4 _ (read-numbers .length) (row (eqb setLen (13 + 8 * numIcaps)) 4 _ (read-numbers .length) (entries-refusing numIcaps))))))))))
+    behind Two _ λ icapLen. row (eqb icapLen 8) 4 _ (read-numbers .length) (
+    row (eqb setLen (13 + 8 * numIcaps)) 4 _ (read-numbers .length) (entries-refusing numIcaps))))))))))
 
 pub container-refusing : Refusing readNumber container
 unfolding container

@@ -104,7 +104,8 @@ module _ (r s : ReadCaps) (a : Caps) (e : r .answer ≡ Taken a) where
 
 caps-numbers : (r : ReadCaps) (n : ℕ) → r .answer ≡ Refused n → readNumber n ≡ true
 unfolding readCaps
-caps-numbers r n e = read-says Taken Refused container container-both caps-apart readNumber read-numbers container-refusing (r .message) n (sym (r .promise) ∙ e)
+caps-numbers r n e =
+    read-says Taken Refused container container-both caps-apart readNumber read-numbers container-refusing (r .message) n (sym (r .promise) ∙ e)
 
 module _ (r s : ReadAckCap) (a : ℕ) (e : r .answer ≡ TakenCap a) where
   took-cap : readAckCap (r .message) ≡ TakenCap a
@@ -121,7 +122,8 @@ module _ (r s : ReadAckCap) (a : ℕ) (e : r .answer ≡ TakenCap a) where
 
 ack-cap-numbers : (r : ReadAckCap) (n : ℕ) → r .answer ≡ RefusedCap n → ackSays n ≡ true
 unfolding readAckCap
-ack-cap-numbers r n e = read-says TakenCap RefusedCap ackCap ack-cap-both ack-cap-apart ackSays ack-numbers ack-cap-refusing (r .message) n (sym (r .promise) ∙ e)
+ack-cap-numbers r n e =
+    read-says TakenCap RefusedCap ackCap ack-cap-both ack-cap-apart ackSays ack-numbers ack-cap-refusing (r .message) n (sym (r .promise) ∙ e)
 
 module _ (r s : ReadAck) (a : Ack) (e : r .answer ≡ TakenAck a) where
   took-ack : readAck (r .message) ≡ TakenAck a

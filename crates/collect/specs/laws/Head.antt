@@ -39,10 +39,10 @@ few-walk s n (b ∷ bs) e l =
     let t = state (waiting (c .part) (c .held) (c .seen + 1) d) (s .store) in
     let w = few-walk t (n + 1) bs refl (omega arith) in
     let same : walk t (n + 1) bs ≡ walk s n (b ∷ bs) =
-        sym
-        (walk-first s n b bs
-        ∙ ap (λ (r : HandOver). followed r bs) (sym (head-waits s b d (n + 1) e (omega arith) refl))
-        ∙ walk-on (t .collector) (s .store) bs (n + 1)) in
+    sym
+    (walk-first s n b bs
+    ∙ ap (λ (r : HandOver). followed r bs) (sym (head-waits s b d (n + 1) e (omega arith) refl))
+    ∙ walk-on (t .collector) (s .store) bs (n + 1)) in
     let a = w .taken in
     let z = w .seen in
     subst (Waiting s n (b ∷ bs)) same (record { answer = w .answer; taken = omega arith; store = w .store; held = w .held; seen = omega arith })

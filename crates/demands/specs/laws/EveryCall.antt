@@ -9,15 +9,14 @@ use Rattle.demands.specs.laws.Edge.{write-call-once}
 
 one-collector : OneCollector
 one-collector = record {
-  collect = λ c c₁ c₂ bytes store s₁ s₂ g₁ g₂ k₁ k₂ t₁ t₂ n₁ n₂ x y.
-      (
-        x .number ∙ sym (y .number),
-        x .goes ∙ sym (y .goes),
-        x .long ∙ sym (y .long),
-        x .took ∙ sym (y .took),
-        x .collector ∙ sym (y .collector),
-        x .left ∙ sym (y .left),
-      );
+  collect = λ c c₁ c₂ bytes store s₁ s₂ g₁ g₂ k₁ k₂ t₁ t₂ n₁ n₂ x y. (
+    x .number ∙ sym (y .number),
+    x .goes ∙ sym (y .goes),
+    x .long ∙ sym (y .long),
+    x .took ∙ sym (y .took),
+    x .collector ∙ sym (y .collector),
+    x .left ∙ sym (y .left),
+  );
   collect-reset = λ c₁ c₂ x y. x ∙ sym y;
 }
 

@@ -45,7 +45,7 @@ abbrev pub tens : ℕ → List ℕ
 tens v = replicate 10 v
 
 abbrev pub sixes : List ℕ
-sixes = tens 6
+sixes = replicate 10 6
 
 abbrev pub setsBy : ℕ → ℕ → Quants
 setsBy a b = record { luma = record { v = tens a }; chroma = record { v = tens b } }

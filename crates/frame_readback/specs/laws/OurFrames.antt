@@ -285,11 +285,10 @@ pub our-own-frames-over :
     FrameRead glass (recordOf glass 4 w h mode) (take (writingLength r) out′) pic y cb cr tmp pic′ y′ cb′ cr′ tmp′ answer →
     AllTaken s₀ w h mode (take (writingLength hr) ho′) × ShownOver glass p w h q pic pic′ answer
 our-own-frames-over glass s₀ w h mode ho ho′ hr either hw e q index p list list′ scratch scratch′ out out′ r luma chroma fw f
-    pic y cb cr tmp pic′ y′ cb′ cr′ tmp′ answer ly lb lr lt room done =
-    (
+    pic y cb cr tmp pic′ y′ cb′ cr′ tmp′ answer ly lb lr lt room done = (
       our-headers s₀ w h mode ho ho′ hr hw e,
       own-frame-over glass w h mode either q index p list list′ scratch scratch′ out out′ r luma chroma fw f pic y cb cr tmp pic′ y′ cb′ cr′ tmp′ answer ly lb
-      lr lt room done,
+          lr lt room done,
     )
 
 -- with one set for both it is what 01 says

@@ -107,7 +107,8 @@ pub ack-told :
 ack-told m fields number b p =
     let call : ReadAck = record { message = m; bytes = b; answer = readAck m; promise = refl } in (
       p .fields-are,
-      ap (λ (n : ℕ). readingOf TakenAck RefusedAck n (ackFields (readAck m))) (p .said) ∙ ack-is (readAck m) (λ n e. ack-among n (requestTwelve .of-ack .numbers call n e)),
+      ap (λ (n : ℕ). readingOf TakenAck RefusedAck n (ackFields (readAck m))) (p .said)
+          ∙ ack-is (readAck m) (λ n e. ack-among n (requestTwelve .of-ack .numbers call n e)),
     )
 
 pub ack-once :

@@ -42,11 +42,10 @@ module _ (w h mode : ℕ) (luma chroma : List ℕ) (index : ℕ) (old new ks : L
       WriteShortCall w h mode luma chroma index old new ks list a scratch c out o₁ s₁ n₁ →
       WriteShortCall w h mode luma chroma index old new ks list b scratch d out o₂ s₂ n₂ →
       (n₁ ≡ n₂) × (s₁ ≡ s₂) × (a ≡ b) × (c ≡ d) × (o₁ ≡ o₂)
-  short-once a b c d o₁ o₂ s₁ s₂ n₁ n₂ x y =
-      (
-        x .wrote .number ∙ sym (y .wrote .number),
-        x .wrote .long ∙ sym (y .wrote .long),
-        x .first ∙ sym (y .first),
-        x .second ∙ sym (y .second),
-        x .wrote .left ∙ sym (y .wrote .left),
-      )
+  short-once a b c d o₁ o₂ s₁ s₂ n₁ n₂ x y = (
+    x .wrote .number ∙ sym (y .wrote .number),
+    x .wrote .long ∙ sym (y .wrote .long),
+    x .first ∙ sym (y .first),
+    x .second ∙ sym (y .second),
+    x .wrote .left ∙ sym (y .wrote .left),
+  )

@@ -1,5 +1,5 @@
--- What request Eleven's page asks of calls is met: one black pixel that turns grey, its tile listed, sets that differ, in both modes, on either glass. The short
--- frame is written, and so is the full one; a glass shows the old picture; and both frames are read on it.
+-- What request Eleven's page asks of calls is met: one black pixel that turns grey, its tile listed, sets that differ, in both modes, on either glass. The
+-- short frame is written, and so is the full one; a glass shows the old picture; and both frames are read on it.
 -- Assumes nothing.
 use Prim.Native.Nat.{ℕ}
 use mathlib.Core.Path.{_≡_, refl, sym, _∙_}
@@ -46,7 +46,9 @@ module _ (mode : ℕ) (good : isMode mode ≡ true) (sendable : Sendable grey 1 
 
   sending-0 : 0 ≡ sendFaultPicked 0 1 1 mode (setsBy 6 7) grey (allTiles 1 1) (length bytes)
   unfolding sendFaultPicked
-  sending-0 = goes-on _ _ _ (all-refusals grey 1 1 mode (setsBy 6 7) ∙ sym (sendable .none)) (passes _ _ _ _ (le-leb (length bytes) (length bytes) (omega arith)) refl)
+  sending-0 =
+      goes-on _ _ _ (all-refusals grey 1 1 mode (setsBy 6 7) ∙ sym (sendable .none))
+      (passes _ _ _ _ (le-leb (length bytes) (length bytes) (omega arith)) refl)
 
   fault-0 : 0 ≡ shortFault 1 1 mode (setsBy 6 7) 0 black grey (allTiles 1 1) 4096 4096 (length bytes)
   unfolding shortFault

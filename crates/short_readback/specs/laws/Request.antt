@@ -103,7 +103,8 @@ module _ (c : WriteShort) where
           let g = o .args .picture in
           let a = list-good (c .width) (c .height) (c .old) (c .new) (c .picks) (o .pictures) f in
           let few = rising-few (tilesNo (c .width) (c .height)) (c .picks) (a .order) (a .exist) in
-          let n = short-fits (c .index) (c .width) (c .height) (c .mode) (c .quants) (c .new) (c .picks) bytes (g .luma) (g .chroma) (c .luma) (c .chroma) few in
+          let n =
+          short-fits (c .index) (c .width) (c .height) (c .mode) (c .quants) (c .new) (c .picks) bytes (g .luma) (g .chroma) (c .luma) (c .chroma) few in
           only-room e
           ∙ sym (passes _ _ _ _ (le-leb (length (framePicked (c .index) (c .width) (c .height) (c .mode) (c .quants) (c .new) (c .picks))) (length (c .out))
           (omega arith)) refl)
