@@ -1,5 +1,6 @@
 -- The six calls as a customer sees them: what was given, what was answered, what lent memory holds afterwards (marked ′), and that the
--- call's promise, which is its `ensures`, holds of them. Nothing else is known of a call. First the panel's own, then the same six for C.
+-- call's promise, which is its `ensures`, holds of them. Nothing else is known of a call. First the panel's own, then the same six for C, and
+-- the frame writers over two sets and of listed tiles.
 use Prim.Native.Nat.{ℕ}
 use mathlib.Core.Path.{_≡_, refl}
 use mathlib.Core.List.{List}
@@ -17,7 +18,9 @@ use Rattle.code_write.specs.Write.{ComponentWritten}
 use Rattle.frame.specs.declared.call.FrameReading.{FrameReading}
 use Rattle.frame.specs.Frame.{FrameRead}
 use Rattle.frame_write.specs.FrameWrite.{FrameWritten}
-use Rattle.panel.specs.Edge.{ReadHeaderCall, frameAnswer, ReadFrameCall, ReadComponentCall, WriteHeadersCall, WriteFrameCall}
+use Rattle.panel.specs.Edge.{ReadHeaderCall, frameAnswer, ReadFrameCall, ReadComponentCall, WriteComponentCall, WriteHeadersCall, WriteFrameCall}
+use Rattle.panel.specs.Cabinet.{WriteFrameSetsCall}
+use Rattle.panel.specs.Short.{WriteShortCall}
 
 -- read_header
 pub record ReadHeader : Type 0 where
@@ -162,6 +165,16 @@ pub record CReadComponent : Type 0 where
   pub number : ℕ
   pub promise : ReadComponentCall mode bytes list list′ bits number
 
+-- xurbalenz_write_component
+pub record CWriteComponent : Type 0 where
+  pub mode : ℕ
+  pub list : List ℤ
+  pub out : List ℕ
+  pub out′ : List ℕ
+  pub size : ℕ
+  pub number : ℕ
+  pub promise : WriteComponentCall mode list out out′ size number
+
 -- xurbalenz_write_headers
 pub record CWriteHeaders : Type 0 where
   pub width : ℕ
@@ -190,6 +203,46 @@ pub record CWriteFrame : Type 0 where
   pub size : ℕ
   pub number : ℕ
   pub promise : WriteFrameCall width height mode quant index pixels list list′ scratch scratch′ out out′ size number
+
+-- xurbalenz_write_frame_sets: ten quantisers for Y, ten for Cb and Cr
+pub record CWriteFrameSets : Type 0 where
+  pub width : ℕ
+  pub height : ℕ
+  pub mode : ℕ
+  pub luma : List ℕ
+  pub chroma : List ℕ
+  pub index : ℕ
+  pub pixels : List ℕ
+  pub list : List ℤ
+  pub scratch : List ℤ
+  pub out : List ℕ
+  pub list′ : List ℤ
+  pub scratch′ : List ℤ
+  pub out′ : List ℕ
+  pub size : ℕ
+  pub number : ℕ
+  pub promise : WriteFrameSetsCall width height mode luma chroma index pixels list list′ scratch scratch′ out out′ size number
+
+-- xurbalenz_write_frame_short
+pub record CWriteShort : Type 0 where
+  pub width : ℕ
+  pub height : ℕ
+  pub mode : ℕ
+  pub luma : List ℕ
+  pub chroma : List ℕ
+  pub index : ℕ
+  pub old : List ℕ
+  pub new : List ℕ
+  pub picks : List ℕ
+  pub list : List ℤ
+  pub scratch : List ℤ
+  pub out : List ℕ
+  pub list′ : List ℤ
+  pub scratch′ : List ℤ
+  pub out′ : List ℕ
+  pub size : ℕ
+  pub number : ℕ
+  pub promise : WriteShortCall width height mode luma chroma index old new picks list list′ scratch scratch′ out out′ size number
 
 -- ---- any number of header and frame calls, one after the other on one record: from what it was to what it is then
 pub data OnOneRecord : Session → Session → Type 0 where

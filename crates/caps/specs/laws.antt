@@ -1,5 +1,6 @@
 pub mod Back
 pub mod Cases
+pub mod Fields
 pub mod Number
 pub mod Read
 pub mod ReadBack

@@ -26,6 +26,7 @@ pub record Cases : Type 0 where
   -- five bytes of a head wait, of whatever type; the sixth is judged: 3, then 4, then 13
   pub waits : collectOf (state fresh []) (0xC8 ∷ 0xCC ∷ 0 ∷ 0 ∷ 0 ∷ []) ≡ took 5 (step (waiting 0 0 5 0xCCC8) [] More)
   pub kind : collectOf (state (waiting 0 0 5 0xCCC8) []) (0 ∷ 9 ∷ []) ≡ took 1 (step (refusing 3 0 0 0xCCC8) [] (Refused 3))
+  pub below : collectOf (state fresh []) (head 0xBF 6) ≡ took 6 (step (refusing 3 0 0 0x6CCBF) [] (Refused 3))
   pub size : collectOf (state fresh []) (head 0xC7 5) ≡ took 6 (step (refusing 4 0 0 0x5CCC7) [] (Refused 4))
   pub full : collectOf (state fresh (room 7)) (head 0xC7 8) ≡ took 6 (step (refusing 13 0 0 0x8CCC7) (room 7) (Refused 13))
   -- the frame's earlier blocks count

@@ -1,10 +1,11 @@
 -- 02's request One over the calls: what a caller does with the bytes that the card gives him, and what he can rely on, sentence by sentence.
 -- `requestOne` (specs/RequestLaws) proves all of it.
 -- (01 is this project's scope document, 02 its change requests, 001 is MS-RDPRFX: README, "What 01 is".)
-use Prim.Native.Nat.{ℕ, _+_, _≤_, _<_}
+use Prim.Native.Nat.{ℕ, _+_, _*_, _≤_, _<_}
 use mathlib.Core.Path.{_≡_}
 use mathlib.Core.Bool.{true}
 use mathlib.Core.List.{List, [], _∷_, _++_}
+use mathlib.Core.Logic.{_⊎_}
 use lib.Dec.{leb}
 use lib.ListN.{length, getD, take, drop}
 use Rattle.wire.specs.Le.{bytes16, bytes32, patch}
@@ -12,7 +13,7 @@ use Rattle.whole.specs.Row.{_⇒_∣_}
 use Rattle.collect.specs.declared.Collector.{Collector}
 use Rattle.collect.specs.declared.Collected.the-variants.{More, Header, Frame, Refused}
 use Rattle.collect.specs.declared.Took.{Took}
-use Rattle.collect.specs.Collect.{State, Part, fresh, headBytes, state, step, took, said, collectorMade, collectorFault, collectOf, partsOf}
+use Rattle.collect.specs.Collect.{State, Part, fresh, refusing, headBytes, state, step, took, said, collectorMade, collectorFault, collectOf, partsOf}
 
 -- ---- bytes
 
@@ -103,6 +104,36 @@ pub record Reached (c : Collector) : Type 0 where
   pub small : Bytes bytes
   pub is : collectOf (state fresh store) bytes .step .state .collector ≡ c
 
+-- ---- a head: its six bytes, and how it is refused
+
+abbrev pub headBytesOf : ℕ → ℕ → List ℕ
+headBytesOf kind size = bytes16 kind ++ bytes32 size
+
+-- a type and a blockLen that six bytes can say
+pub record Head (kind size : ℕ) : Type 0 where
+  pub kind-small : kind < 65536
+  pub size-small : size < 4294967296
+
+-- between blocks, outside a frame or in one, over a store that fits what is gathered
+pub record BetweenBlocks (s : State) : Type 0 where
+  pub no-block : s .collector .end ≡ 0
+  pub takes : 0 ≡ collectorFault (s .collector) (length (s .store))
+
+-- a head is refused with a number: its six bytes are taken and none behind them, they stay beside the store, and the store, with the frame's earlier blocks
+-- in it, is as it was
+abbrev pub HeadRefused : ℕ → State → ℕ → ℕ → List ℕ → Type 0
+HeadRefused number s kind size more =
+    collectOf s (headBytesOf kind size ++ more)
+    ≡ took 6 (step (refusing number (s .collector .part) (s .collector .held) (kind + 65536 * size)) (s .store) (Refused number))
+
+-- bytes of a head that is not complete yet: all of them are taken, nothing is answered, and they are beside the store, which is as it was
+pub record HeadWaits (s : State) (bs : List ℕ) : Type 0 where
+  pub answer : collectOf s bs .step .answer ≡ More
+  pub taken : collectOf s bs .taken ≡ length bs
+  pub store : after s bs .store ≡ s .store
+  pub held : after s bs .collector .held ≡ s .collector .held
+  pub seen : after s bs .collector .seen ≡ s .collector .seen + length bs
+
 pub record RequestOne : Type 0 where
   -- one answer alone, and one content of the store, meet the promise of a call
   pub one-answer :
@@ -126,6 +157,36 @@ pub record RequestOne : Type 0 where
       → length (frameBytes first bs last) ≤ length store
       → collectOf (state fresh store) (frameBytes first bs last ++ more)
       ≡ took (length (frameBytes first bs last)) (step fresh (patch store 0 (frameBytes first bs last)) (Frame (length (frameBytes first bs last))))
+  -- "the head waits beside the store till then": fewer than six bytes wait, whatever they are
+  pub head-waits : (s : State) (bs : List ℕ) → BetweenBlocks s → s .collector .seen + length bs < 6 → HeadWaits s bs
+  -- "When a block head is complete it is judged, in this order: type not CCC0 to CCC7 is 3", whatever its blockLen and the store
+  pub wrong-type :
+      (s : State) (kind size : ℕ) (more : List ℕ)
+      → BetweenBlocks s
+      → s .collector .seen ≡ 0
+      → Head kind size
+      → (kind < 0xCCC0) ⊎ (0xCCC7 < kind)
+      → HeadRefused 3 s kind size more
+  -- "blockLen under 6 is 4", whatever the store
+  pub wrong-length :
+      (s : State) (kind size : ℕ) (more : List ℕ)
+      → BetweenBlocks s
+      → s .collector .seen ≡ 0
+      → 0xCCC0 ≤ kind
+      → kind ≤ 0xCCC7
+      → size < 6
+      → HeadRefused 4 s kind size more
+  -- "the frame's earlier blocks plus blockLen over the store is 13"
+  pub no-room :
+      (s : State) (kind size : ℕ) (more : List ℕ)
+      → BetweenBlocks s
+      → s .collector .seen ≡ 0
+      → Head kind size
+      → 0xCCC0 ≤ kind
+      → kind ≤ 0xCCC7
+      → 6 ≤ size
+      → length (s .store) < s .collector .held + size
+      → HeadRefused 13 s kind size more
   -- nothing is lost and nothing is taken twice: what a call hands on, and what it then holds, is what it held before and the bytes that it says it took
   pub nothing-lost :
       (s : State) (bs : List ℕ) → Bytes bs → flat (partsOf (collectOf s bs .step)) ++ unhanded (after s bs) ≡ unhanded s ++ take (collectOf s bs .taken) bs

@@ -3,6 +3,7 @@ pub mod Byte
 pub mod Cases
 pub mod Code
 pub mod Cut
+pub mod Head
 pub mod Kept
 pub mod Made
 pub mod Reach

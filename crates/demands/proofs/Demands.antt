@@ -38,14 +38,18 @@ use Rattle.frame_write.specs.laws.Numbers as SendNumbers
 use Rattle.bounds.specs.laws.Refuses.{writer-refuses, writer-done}
 use Rattle.frame_write.specs.laws.OneSet.{as-over}
 use Rattle.frame_readback.specs.laws.OurFrames.{our-own-frames}
+use Rattle.frame_readback.specs.laws.Request.{twoSets}
+use Rattle.short_readback.specs.laws.Request.{requestElevenFrames}
 use Rattle.calls.specs.Calls.{ReadHeader, ReadFrame, ReadComponent, WriteComponent, WriteHeaders, WriteFrame, sentBy}
 use Rattle.calls.specs.laws.Calls.{header-number, header-taken, header-refused, taken-by}
 use Rattle.day.specs.laws.Days.{days}
 use Rattle.demands.specs.Demands.{firstFault, Untouched, Demand1, OurCalls, OurFrame, Sent, Demand2, Demand3, SmallNumbers, PaperCases, Demands}
 use Rattle.demands.specs.laws.Unique.{one-answer}
 use Rattle.demands.specs.laws.Edge.{one-answer-c}
+use Rattle.demands.specs.laws.EveryCall.{every-call}
 use Rattle.demands.specs.laws.ForC.{edge-demands}
 use Rattle.demands.specs.laws.Right.{record-right, record-glass}
+use Rattle.demands.specs.laws.ShortForC.{eleven-for-c}
 
 -- ---- the frame call
 
@@ -217,8 +221,12 @@ demands = record {
   three = demand-3;
   once = one-answer;
   once-for-c = one-answer-c;
-  for-c = edge-demands demand-1 demand-2;
+  for-c = edge-demands demand-1 demand-2 demand-3;
+  every-call = every-call;
+  five = twoSets;
   six = record-right;
+  eleven = requestElevenFrames;
+  eleven-for-c = eleven-for-c;
   thirteen = record-glass;
   fourteen = days;
   small = small-numbers;

@@ -4,7 +4,7 @@
 -- (01 is this project's scope document, 02 its change requests, 001 is MS-RDPRFX: README, "What 01 is".)
 use Prim.Native.Nat.{ℕ, _+_, _*_, _%_, _≤_, _<_}
 use mathlib.Core.Path.{_≡_}
-use mathlib.Core.Bool.{Bool}
+use mathlib.Core.Bool.{Bool, true}
 use mathlib.Core.List.{List, [], _∷_, _++_}
 use mathlib.Core.Logic.{_≢_}
 use lib.IntN.{ℤ, pos}
@@ -23,7 +23,7 @@ use Rattle.frame_draw.specs.Shown.{lastTile, wordIn}
 use Rattle.frame_draw.specs.Show.{tileWord}
 use Rattle.frame_blocks.specs.Judged.{judged}
 use Rattle.session.specs.declared.Session.{Session}
-use Rattle.session.specs.Header.{recordOf, keptGlass, Right, headerFault, recordAfter, headerNumber}
+use Rattle.session.specs.Header.{recordOf, keptGlass, Right, ready, headerFault, recordAfter, headerNumber}
 use Rattle.session.specs.Cases as HeaderOnes
 use Rattle.frame.specs.Frame.{early, framed, Cleared, frameReadingNumber, frameReadingTiles}
 use Rattle.headers.specs.Headers.{headersOf, headersFault}
@@ -39,10 +39,14 @@ use Rattle.frame_pieces.specs.Cases as SendOnes
 use Rattle.frame_write.specs.Encode.{pictureFrame}
 use Rattle.frame_write.specs.FrameWrite.{argFault, sendFault}
 use Rattle.frame_readback.specs.Own.{wordBack, tileNo}
+use Rattle.frame_readback.specs.Request.{TwoSets}
+use Rattle.short_readback.specs.Request.{RequestElevenFrames}
 use Rattle.panel.specs.Edge.{ReadHeaderCall, ReadFrameCall, ReadComponentCall, WriteComponentCall, WriteHeadersCall, WriteFrameCall}
 use Rattle.calls.specs.Calls.{ReadHeader, sessionAfter, ReadFrame, ReadComponent, WriteComponent, WriteHeaders, WriteFrame, sentBy}
-use Rattle.calls.specs.Calls.{CReadHeader, CReadFrame, as-frame, CReadComponent, CWriteHeaders, CWriteFrame, OnOneRecord}
+use Rattle.calls.specs.Calls.{CReadHeader, CReadFrame, as-frame, CReadComponent, CWriteComponent, CWriteHeaders, CWriteFrame, OnOneRecord}
 use Rattle.day.specs.Days.{Days}
+use Rattle.demands.specs.EveryCall.{EveryCall}
+use Rattle.demands.specs.ShortForC.{ElevenForC}
 
 -- ---- 1. "A frame is drawn whole, or refused by the first fault in document 01's order, with its number. After a refusal the picture and
 -- the session record are exactly what they were, and work memory holds what 01 says."
@@ -230,7 +234,7 @@ pub record OneAnswerC : Type 0 where
       WriteFrameCall w h mode q index p list l₁ scratch t₁ out o₁ k₁ n₁ → WriteFrameCall w h mode q index p list l₂ scratch t₂ out o₂ k₂ n₂ →
       (n₁ ≡ n₂) × (k₁ ≡ k₂) × (l₁ ≡ l₂) × (t₁ ≡ t₂) × (o₁ ≡ o₂)
 
--- ---- for C: demands 1 and 2 over the calls of panel/src/edge.rt. Each of them is one of the six on the same input, and gives its number and its value; what
+-- ---- for C: demands 1 to 3 over the calls of panel/src/edge.rt. Each of them is one of the six on the same input, and gives its number and its value; what
 -- is new is that one record, behind a reference, is handed on from call to call.
 
 pub record EdgeDemand1 : Type 0 where
@@ -305,12 +309,33 @@ pub record EdgeDemand2 : Type 0 where
   pub frame-sent :
       (c : CWriteFrame) → SentC (pictureFrame (c .index) (c .width) (c .height) (c .mode) (c .quant) (c .pixels)) (c .out) (c .out′) (c .size) (c .number)
   pub headers-sent : (c : CWriteHeaders) → SentC (headersOf (c .width) (c .height) (c .mode)) (c .out) (c .out′) (c .size) (c .number)
+  pub writer-refuses : (c : CWriteFrame) → ((i : ℕ) → getD (c .pixels) i 0 < 256) → Among (0 ∷ 5 ∷ 7 ∷ 2 ∷ 13 ∷ []) (c .number)
+  pub writer-done :
+      (c : CWriteFrame) → ((i : ℕ) → getD (c .pixels) i 0 < 256) →
+      argFault (c .width) (c .height) (c .mode) (c .quant) (length (c .pixels)) (length (c .list)) (length (c .scratch)) ≡ 0 → length (c .quant) ≡ 10 →
+      72 + 194911 * tilesNo (c .width) (c .height) ≤ length (c .out) → c .number ≡ 0
   pub work-untouched : (c : CWriteFrame) → Among (5 ∷ 7 ∷ 2 ∷ []) (c .number) → (c .list′ ≡ c .list) × (c .scratch′ ≡ c .scratch)
   pub work-zeros : (c : CWriteFrame) → Other (5 ∷ 7 ∷ 2 ∷ []) (c .number) → (c .list′ ≡ replicate 4096 (pos 0)) × (c .scratch′ ≡ replicate 4096 (pos 0))
+
+pub record EdgeDemand3 : Type 0 where
+  pub component-number : (c : CReadComponent) → c .number ≡ readFault (c .mode) (length (c .list)) (c .bytes)
+  pub accepted-if :
+      (c : CReadComponent) (zs : List ℤ) → Exactly (c .mode) (c .bytes) (c .list) zs →
+      (c .number ≡ 0) × (c .bits ≡ length (code (c .mode) zs)) × (c .list′ ≡ zs)
+  pub accepted-only-if : (c : CReadComponent) → c .number ≡ 0 → Exactly (c .mode) (c .bytes) (c .list) (c .list′)
+  pub length-told :
+      (c : CReadComponent) (zs : List ℤ) (rest : List Bool) → Call (c .mode) (c .bytes) (c .list) → Listed zs →
+      bitsOf (c .bytes) ≡ code (c .mode) zs ++ rest → c .bits ≡ length (code (c .mode) zs)
+  pub writer-number : (c : CWriteComponent) → c .number ≡ writeFault (c .mode) (c .list) (length (c .out))
+  pub writer-sent : (c : CWriteComponent) → SentC (bytesOf (c .mode) (c .list)) (c .out) (c .out′) (c .size) (c .number)
+  pub read-back :
+      (w : CWriteComponent) (c : CReadComponent) → w .number ≡ 0 → c .mode ≡ w .mode → c .bytes ≡ take (w .size) (w .out′) → length (c .list) ≡ 4096 →
+      (c .number ≡ 0) × (c .bits ≡ length (code (w .mode) (w .list))) × (c .list′ ≡ w .list)
 
 pub record EdgeDemands : Type 0 where
   pub one : EdgeDemand1
   pub two : EdgeDemand2
+  pub three : EdgeDemand3
 
 -- ---- document 02, request Six: tile columns, tile rows and the picture's words in the record "must be right after every call, refused ones included"
 pub record RecordRight : Type 0 where
@@ -330,6 +355,9 @@ pub record RecordGlass : Type 0 where
   pub glass-kept : (c : ReadHeader) → c .session .glass ≤ 1 → sessionAfter c .glass ≡ c .session .glass
   -- over any list of calls on one record: it is the one that the session was opened for
   pub glass-always : (s t : Session) → OnOneRecord s t → s .glass ≤ 1 → t .glass ≡ s .glass
+  -- "a picture of the other word size is refused with 2", whatever is lent, once all four headers are there
+  pub other-size : (c : ReadFrame) → ready (c .session) ≡ true → c .word ≢ c .session .glass → frameReadingNumber (c .answer) ≡ 2
+  pub other-size-c : (c : CReadFrame) → ready (c .session) ≡ true → c .word ≢ c .session .glass → c .number ≡ 2
   -- a glass that is neither: a record that no calls could have made, which takes a good sync and has the base's glass then
   pub other-header :
       (c : ReadHeader) → 1 < c .session .glass → 6 ≤ length (c .message) → 0xCCC1 ≤ le16 (c .message) 0 → le16 (c .message) 0 ≤ 0xCCC3 →
@@ -368,7 +396,14 @@ pub record Demands : Type 0 where
   pub once : OneAnswer
   pub once-for-c : OneAnswerC
   pub for-c : EdgeDemands
+  -- one answer of every call that a request brought
+  pub every-call : EveryCall
+  -- document 02, request Five: the frame writer over two quantiser sets
+  pub five : TwoSets
   pub six : RecordRight
+  -- document 02, request Eleven: the short frame, over the panel's calls and over those for C
+  pub eleven : RequestElevenFrames
+  pub eleven-for-c : ElevenForC
   pub thirteen : RecordGlass
   -- document 02, request Fourteen: the whole day at once
   pub fourteen : Days

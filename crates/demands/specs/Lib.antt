@@ -1,2 +1,4 @@
 pub mod Demands
+pub mod EveryCall
+pub mod ShortForC
 pub mod laws

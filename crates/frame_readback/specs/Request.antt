@@ -1,13 +1,13 @@
--- 02's request Five, the frame writer over two quantiser sets: what may be relied on, over the promises of the calls. `requestFive`
--- (laws/Request) proves all of it.
+-- 02's request Five, the frame writer over two quantiser sets: what may be relied on, over the promises of the calls. `twoSets`
+-- (laws/Request) proves all of it; calls with sets that differ stand in laws/TwoSets.
 -- "Where chroma differs, the frame writer emits two quantiser sets; its promise is then read over both."
 -- (01 is this project's scope document, 02 its change requests, 001 is MS-RDPRFX: README, "What 01 is".)
-use Prim.Native.Nat.{ℕ, _*_, _≤_}
+use Prim.Native.Nat.{ℕ, _*_, _/_, _%_, _≤_}
 use mathlib.Core.Path.{_≡_}
 use mathlib.Core.Bool.{true, false}
 use mathlib.Core.List.{List, [], _∷_, _++_}
 use lib.IntN.{ℤ, pos}
-use lib.ListN.{length, take, replicate}
+use lib.ListN.{length, getD, take, drop, replicate}
 use Rattle.whole.specs.Among.{Among, Other}
 use Rattle.wire.specs.Wrote.{writingNumber, writingLength}
 use Rattle.wire.specs.declared.Writing.{Writing}
@@ -15,12 +15,13 @@ use Rattle.session.specs.declared.Session.{Session}
 use Rattle.session.specs.Header.{recordOf}
 use Rattle.headers.specs.Headers.{HeadersWritten}
 use Rattle.headers.specs.laws.ReadBack.{AllTaken}
-use Rattle.quants.specs.Quants.{same, setsOf}
+use Rattle.quants.specs.Quants.{quantBytes, same}
 use Rattle.quants.specs.declared.Quants.{Quants}
 use Rattle.frame.specs.declared.call.FrameReading.{FrameReading}
 use Rattle.frame.specs.Frame.{FrameRead}
-use Rattle.frame_layout.specs.Bytes.{setCount}
-use Rattle.frame_write.specs.Encode.{pictureFrame}
+use Rattle.frame_layout.specs.Bytes.{Tile, frameOf}
+use Rattle.frame_pieces.specs.Parts.{colsOf, tilesNo}
+use Rattle.frame_write.specs.Encode.{tilePart, pictureFrame}
 use Rattle.frame_write.specs.Sets.{frameOver, FrameWrittenOver}
 use Rattle.frame_readback.specs.Own.{ShownOver}
 
@@ -43,13 +44,38 @@ pub record WriteFrameSets : Type 0 where
   pub answer : Writing
   pub promise : FrameWrittenOver width height mode quants index pixels list list′ scratch scratch′ out out′ answer
 
-pub record RequestFive : Type 0 where
+-- a tile of two sets: Y by the first, "indices" 0, Cb and Cr by the second, 1
+abbrev pub tileOfTwo : List ℕ → ℕ → ℕ → ℕ → List ℕ → List ℕ → ℕ → Tile
+tileOfTwo p w h mode luma chroma k = record {
+  qy = 0;
+  qcb = 1;
+  qcr = 1;
+  x = k % colsOf w;
+  y = k / colsOf w;
+  ys = tilePart p w h mode luma k 0;
+  cbs = tilePart p w h mode chroma k 1;
+  crs = tilePart p w h mode chroma k 2;
+}
+
+pub record TwoSets : Type 0 where
   -- equal sets: every byte is the one-set writer's
   pub one-set :
       (index w h mode : ℕ) (q : Quants) (p : List ℕ) → same q ≡ true → frameOver index w h mode q p ≡ pictureFrame index w h mode (q .luma .v) p
-  -- "emits two quantiser sets": luma's, then chroma's
-  pub two-sets : (c : WriteFrameSets) → same (c .quants) ≡ false → setsOf (c .quants) ≡ c .quants .luma .v ++ c .quants .chroma .v
-  pub two-said : (c : WriteFrameSets) → same (c .quants) ≡ false → setCount (setsOf (c .quants)) ≡ 2
+  -- "Where chroma differs, the frame writer emits two quantiser sets": the frame is 01's, with luma's ten values and then chroma's, and tiles of two sets
+  pub two-written :
+      (index w h mode : ℕ) (q : Quants) (p : List ℕ) → same q ≡ false →
+      frameOver index w h mode q p ≡ frameOf index w h mode (q .luma .v ++ q .chroma .v) (tilesNo w h) (tileOfTwo p w h mode (q .luma .v) (q .chroma .v))
+  -- in its bytes: the 52nd says 2, and from the 60th on stand luma's five, then chroma's
+  pub two-said :
+      (index w h mode : ℕ) (q : Quants) (p : List ℕ) → length (q .luma .v) ≡ 10 → length (q .chroma .v) ≡ 10 → same q ≡ false →
+      getD (frameOver index w h mode q p) 51 0 ≡ 2
+  pub two-sets :
+      (index w h mode : ℕ) (q : Quants) (p : List ℕ) → length (q .luma .v) ≡ 10 → length (q .chroma .v) ≡ 10 → same q ≡ false →
+      take 10 (drop 59 (frameOver index w h mode q p)) ≡ quantBytes (q .luma .v) ++ quantBytes (q .chroma .v)
+  -- and a call that is done has written just that
+  pub done-bytes :
+      (c : WriteFrameSets) → writingNumber (c .answer) ≡ 0 →
+      take (writingLength (c .answer)) (c .out′) ≡ frameOver (c .index) (c .width) (c .height) (c .mode) (c .quants) (c .pixels)
   -- demand 2, the other way, over both: our headers are taken, and our frame is accepted and shows the decoding of the picture's rounded coefficients, each
   -- component by its own quantisers
   pub our-frames :

@@ -3,3 +3,4 @@ pub mod OurFrames
 pub mod OurTiles
 pub mod Own
 pub mod Request
+pub mod TwoSets

@@ -9,7 +9,7 @@ use lib.IntN.{ℤ}
 use lib.ListN.{getD}
 use Rattle.code.specs.Read.{readingNumber, readingBits, ComponentRead}
 use Rattle.code.specs.declared.read.Reading.{Reading}
-use Rattle.tile_back.specs.Component.{samplesOf, Checked}
+use Rattle.tile_back.specs.Component.{coefficientsOf, samplesOf, Checked}
 use Rattle.tile_back.specs.Word.{WordsRow}
 use Rattle.plain.specs.Plain.{Component, Sampled, Words}
 
@@ -34,6 +34,9 @@ pub record PlainSame : Type 0 where
   -- a component's number, "code, then LL3 sums and scaling": `plain::component` and `tile_back::component_fault`, whatever their lists held
   pub number :
       (mode : ℕ) (q s : List ℕ) (before a other b : List ℤ) (r t : ℕ) → Component mode q s before a r → Checked mode q s other b t → r ≡ t
+  -- and where it is 0, "the same 4,096 coefficients", summed and scaled: what `plain::component` leaves and what the product's `tile_back::coefficients` does
+  pub coefficients :
+      (mode : ℕ) (q s : List ℕ) (before a ours : List ℤ) (r : ℕ) → Component mode q s before a r → r ≡ 0 → ours ≡ coefficientsOf mode q s → a ≡ ours
   -- `plain::samples` says the same number
   pub samples-number :
       (mode : ℕ) (q s : List ℕ) (before a other b : List ℤ) (r t : ℕ) → Sampled mode q s before a r → Checked mode q s other b t → r ≡ t

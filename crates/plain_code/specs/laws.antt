@@ -1,3 +1,4 @@
 pub mod Bit
+pub mod Size
 pub mod Turn
 pub mod Zeros

@@ -153,11 +153,17 @@ fn one(s: &[u8], c: State) -> Element
     judged(s, next, 65534 < g, false, Element::One(0, g, t))
 }
 
-// "as many bits as g has (0 has none)"
+// "as many bits as g has (0 has none)": how often it can be halved until nothing is left
 fn bit_size(g: usize) -> usize
     ensures { λ r. ⌜ r ≡ size g ⌝ }
 {
-    (64 - u64::leading_zeros(g as u64)) as usize
+    let mut n: usize = 0;
+    let mut left = g;
+    while left != 0 {
+        left = left / 2;
+        n += 1;
+    }
+    n
 }
 
 // "a first half above g is range", and either half too large

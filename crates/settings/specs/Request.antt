@@ -3,12 +3,15 @@
 use Prim.Native.Nat.{ℕ, suc, _≤_, _<_}
 use mathlib.Core.Path.{_≡_}
 use mathlib.Core.Bool.{true, false}
+use mathlib.Core.Logic.{_⊎_}
 use mathlib.Core.List.{List, [], _∷_, _++_}
 use lib.ListN.{length, take}
 use Rattle.whole.specs.Row.{_⇒_∣_}
 use Rattle.whole.specs.Among.{Among}
+use Rattle.wire.specs.Mode.{isMode}
 use Rattle.wire.specs.Wrote.{Wrote, writingNumber, writingLength}
 use Rattle.wire.specs.declared.Writing.{Writing}
+use Rattle.bands.specs.Bands.{quantOf, isGood}
 use Rattle.quants.specs.Quants.{same}
 use Rattle.settings.specs.Settings.{settings, Kept, Refused, bodyOf, known, takes, recordFault, readSettings, versionRecord, oneRecord, twoRecord}
 use Rattle.settings.specs.Settings.{settingsOf, writeFault, GoodSettings}
@@ -79,6 +82,8 @@ pub record RequestFive : Type 0 where
   -- "A version 1 reader meeting version 2 refuses with 14, never guessing", "a version that is neither 1 nor 2 is 14", whatever follows
   pub never-guessing : (rest : List ℕ) → readSettings 1 (versionRecord 2 ++ rest) ≡ Refused 14
   pub other-version : (newest v : ℕ) (rest : List ℕ) → v < 65536 → (v ≡ 1 → ⊥) → (v ≡ 2 → ⊥) → readSettings newest (versionRecord v ++ rest) ≡ Refused 14
+  -- "a short record 1": a version record that is cut
+  pub cut-version : (newest : ℕ) (rest : List ℕ) → length rest < 2 → readSettings newest (0 ∷ rest) ≡ Refused 1
   -- "a .. missing version record 12"; "until a version is read, all three count as known", any other is 3
   pub missing-version : (newest kind : ℕ) (rest : List ℕ) → 1 ≤ kind → kind ≤ 2 → readSettings newest (kind ∷ rest) ≡ Refused 12
   pub unknown-first : (newest kind : ℕ) (rest : List ℕ) → 2 < kind → readSettings newest (kind ∷ rest) ≡ Refused 3
@@ -100,7 +105,7 @@ pub record RequestFive : Type 0 where
       (newest v kind : ℕ) (rs : List Setting) (rest : List ℕ)
       → takes newest v ≡ true
       → AllGood v rs
-      → known v kind ≡ false
+      → (2 < kind) ⊎ ((v ≡ 1) × (1 < kind))
       → readSettings newest (storeOf v rs ++ (kind ∷ rest)) ≡ Refused 3
   -- "a second .. version record 12"
   pub second-version :
@@ -114,6 +119,41 @@ pub record RequestFive : Type 0 where
       → 1 ≤ kind
       → length rest < bodyOf kind
       → readSettings newest (storeOf v rs ++ (kind ∷ rest)) ≡ Refused 1
+  -- "a bad quantiser 7, a bad mode 5", "its bytes as they stand": of kind 1 five quantiser bytes before the mode, of kind 2 luma's, then chroma's, then the
+  -- mode; whatever follows
+  pub bad-quantiser :
+      (newest v mode : ℕ) (rs : List Setting) (five more : List ℕ)
+      → takes newest v ≡ true
+      → AllGood v rs
+      → length five ≡ 5
+      → isGood (quantOf five) ≡ false
+      → readSettings newest (storeOf v rs ++ (1 ∷ (five ++ (mode ∷ more)))) ≡ Refused 7
+  pub bad-mode :
+      (newest v mode : ℕ) (rs : List Setting) (five more : List ℕ)
+      → takes newest v ≡ true
+      → AllGood v rs
+      → length five ≡ 5
+      → isGood (quantOf five) ≡ true
+      → isMode mode ≡ false
+      → readSettings newest (storeOf v rs ++ (1 ∷ (five ++ (mode ∷ more)))) ≡ Refused 5
+  pub bad-either :
+      (newest mode : ℕ) (rs : List Setting) (luma chroma more : List ℕ)
+      → takes newest 2 ≡ true
+      → AllGood 2 rs
+      → length luma ≡ 5
+      → length chroma ≡ 5
+      → (isGood (quantOf luma) ≡ false) ⊎ (isGood (quantOf chroma) ≡ false)
+      → readSettings newest (storeOf 2 rs ++ (2 ∷ (luma ++ (chroma ++ (mode ∷ more))))) ≡ Refused 7
+  pub bad-mode-behind :
+      (newest mode : ℕ) (rs : List Setting) (luma chroma more : List ℕ)
+      → takes newest 2 ≡ true
+      → AllGood 2 rs
+      → length luma ≡ 5
+      → length chroma ≡ 5
+      → isGood (quantOf luma) ≡ true
+      → isGood (quantOf chroma) ≡ true
+      → isMode mode ≡ false
+      → readSettings newest (storeOf 2 rs ++ (2 ∷ (luma ++ (chroma ++ (mode ∷ more))))) ≡ Refused 5
   -- "Equal luma and chroma are written as version 1 and kind 1, else version 2 and kind 2"
   pub equal-written : (s : Settings) → same (s .quants) ≡ true → settingsOf s ≡ storeOf 1 (one (s .quants .luma .v) (s .mode) ∷ [])
   pub else-written :

@@ -1,5 +1,5 @@
 -- 02's request Eleven, the short frame: what may be relied on, over the promises of the calls, sentence by sentence. `requestElevenFrames` (laws/Request)
--- proves all of it. Checker and planner have a page of their own, `RequestEleven` (plan/specs/Request).
+-- proves all of it, and laws/Instance has calls that it speaks of. Checker and planner have a page of their own, `RequestEleven` (plan/specs/Request).
 -- (01 is this project's scope document, 02 its change requests, 001 is MS-RDPRFX: README, "What 01 is".)
 use Prim.Native.Nat.{ℕ, _+_, _*_, _%_, _≤_, _<_}
 use mathlib.Core.Path.{_≡_}
@@ -18,7 +18,9 @@ use Rattle.frame.specs.Frame.{frameReadingNumber, frameReadingTiles, FrameRead}
 use Rattle.frame_write.specs.Encode.{pictureFrame}
 use Rattle.frame_write.specs.Sets.{frameOver, FrameWrittenOver}
 use Rattle.frame_write.specs.Picked.{framePicked, allTiles}
+use Rattle.frame_pieces.specs.Parts.{tilesNo}
 use Rattle.frame_readback.specs.Own.{wordBack, wordOver, tileNo}
+use Rattle.frame_readback.specs.Request.{WriteFrameSets}
 use Rattle.plan.specs.Plan.{planFault}
 use Rattle.short_write.specs.Short.{ownFault, ShortWritten}
 
@@ -63,6 +65,38 @@ pub record ShortShown (glass : ℕ) (p : List ℕ) (w h : ℕ) (q : Quants) (cou
   pub past : (i : ℕ) → h * w ≤ i → getD pic′ i 0 ≡ getD pic i 0
   pub long : length pic′ ≡ length pic
 
+-- a frame call on a message, on a glass, in a session of our headers' size and mode: work lists of 4,096, and a picture long enough
+pub record ReadOn (glass w h mode : ℕ) (m pic pic′ : List ℕ) (r : FrameReading) : Type 0 where
+  pub y : List ℤ
+  pub cb : List ℤ
+  pub cr : List ℤ
+  pub scratch : List ℤ
+  pub y′ : List ℤ
+  pub cb′ : List ℤ
+  pub cr′ : List ℤ
+  pub scratch′ : List ℤ
+  pub y-long : length y ≡ 4096
+  pub cb-long : length cb ≡ 4096
+  pub cr-long : length cr ≡ 4096
+  pub scratch-long : length scratch ≡ 4096
+  pub room : h * w ≤ length pic
+  pub promise : FrameRead glass (recordOf glass 4 w h mode) m pic y cb cr scratch pic′ y′ cb′ cr′ scratch′ r
+
+-- "a full frame": a call of the frame writer, done, for the same size, mode and quantisers, of a picture
+pub record FullFrame (c : WriteShort) (pixels : List ℕ) (f : WriteFrameSets) : Type 0 where
+  pub width : f .width ≡ c .width
+  pub height : f .height ≡ c .height
+  pub mode : f .mode ≡ c .mode
+  pub quants : f .quants ≡ c .quants
+  pub picture : f .pixels ≡ pixels
+  pub is-done : writingNumber (f .answer) ≡ 0
+
+abbrev pub sentFull : WriteFrameSets → List ℕ
+sentFull f = take (writingLength (f .answer)) (f .out′)
+
+abbrev pub sentShort : WriteShort → List ℕ
+sentShort c = take (writingLength (c .answer)) (c .out′)
+
 pub record RequestElevenFrames : Type 0 where
   -- "The short frame's writer makes this check itself, after its own 5, 7 and 2"
   pub own-first : (c : WriteShort) → (ownOf c ≡ 0 → ⊥) → writingNumber (c .answer) ≡ ownOf c
@@ -101,6 +135,22 @@ pub record RequestElevenFrames : Type 0 where
       tmp′ answer
       → Shows glass (c .old) (c .width) (c .height) (c .quants) pic
       → ShortShown glass (c .new) (c .width) (c .height) (c .quants) (length (c .picks)) pic pic′ answer
+  -- the same of the frames themselves: after a full frame of the old picture it shows what that gives; and where it does, the short frame leaves the very
+  -- picture that a full frame of the new one leaves, words past the channel included
+  pub full-shows :
+      (glass : ℕ) → glass ≤ 1 → (c : WriteShort) (f : WriteFrameSets) → FullFrame c (c .old) f →
+      (pic pic′ : List ℕ) (r : FrameReading) → ReadOn glass (c .width) (c .height) (c .mode) (sentFull f) pic pic′ r →
+      Shows glass (c .old) (c .width) (c .height) (c .quants) pic′
+  pub as-the-full :
+      (glass : ℕ) → glass ≤ 1 → (c : WriteShort) (f : WriteFrameSets) → writingNumber (c .answer) ≡ 0 → FullFrame c (c .new) f →
+      (pic after-short after-full : List ℕ) (r s : FrameReading) → Shows glass (c .old) (c .width) (c .height) (c .quants) pic →
+      ReadOn glass (c .width) (c .height) (c .mode) (sentShort c) pic after-short r →
+      ReadOn glass (c .width) (c .height) (c .mode) (sentFull f) pic after-full s →
+      after-short ≡ after-full
+  -- the room that is enough for a full frame is always enough: no 13
+  pub always-room :
+      (c : WriteShort) → Bytes (c .new) → 77 + 196624 * tilesNo (c .width) (c .height) ≤ length (c .out) →
+      Among (0 ∷ 5 ∷ 7 ∷ 2 ∷ 16 ∷ 8 ∷ 17 ∷ []) (writingNumber (c .answer))
   -- the words, with one set for both
   pub one-set-words : (glass : ℕ) (p : List ℕ) (w h : ℕ) (v : List ℕ) (k i : ℕ) → wordOver glass p w h (oneFor v) k i ≡ wordBack glass p w h v k i
   -- one answer and one content of lent memory

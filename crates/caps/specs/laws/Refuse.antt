@@ -1,4 +1,5 @@
--- Laws of what a walk refuses, for any layout: a message that is accepted is cut by every end before its own, and no numbers but 1, 4, 5 and 6 are said.
+-- Laws of what a walk refuses, for any layout: a message that is accepted is cut by every end before its own, and no numbers are said but 1, 4, 5
+-- and, of the container, 6.
 -- Assumes nothing.
 use Prim.Native.Nat.{ℕ, _+_, _-_, _*_, _%_, _<_, _≤_}
 use mathlib.Core.Path.{_≡_, refl, ap, ap₂, sym, subst, _∙_}
@@ -17,7 +18,7 @@ use Rattle.caps.specs.Walk.{Bytes, size, number, Layout, gives, refuse, 
 use Rattle.caps.specs.Caps.{entry, entries, noEntry, oneEntry, twoEntries, capset, block, capsWith, container}
 use Rattle.caps.specs.AckCap.{ackCap}
 use Rattle.caps.specs.Ack.{ack}
-use Rattle.caps.specs.Request.{readNumber}
+use Rattle.caps.specs.Request.{readNumber, ackSays}
 use Rattle.caps.specs.laws.Walk.{no-stop, ends, read-same}
 use Rattle.caps.specs.declared.walk.Width.{Width}
 use Rattle.caps.specs.declared.walk.Width.the-variants.{One, Two, Four}
@@ -72,34 +73,48 @@ walk-cut (field w next) m a k e h = field-cut w next m a k e h (λ n. walk-cut (
 
 -- ---- the numbers
 
--- a layout that refuses with such numbers alone
-pub data Refusing {A : Type 0} : Layout A → Type 0 where
-  none-said : (a : A) → Refusing (gives a)
-  said : (n : ℕ) → readNumber n ≡ true → Refusing (refuse n)
-  behind : (w : Width) (next : ℕ → Layout A) → ((v : ℕ) → Refusing (next v)) → Refusing (field w next)
+-- of missing bytes and of bytes behind, and of fixed fields; a layout that refuses with such numbers alone
+pub record Says (says : ℕ → Bool) : Type 0 where
+  pub missing : says 1 ≡ true
+  pub length : says 4 ≡ true
+  pub fixed : says 5 ≡ true
 
-says-1 : readNumber 1 ≡ true
-unfolding readNumber _⇒_∣_
-says-1 = refl
+pub data Refusing (says : ℕ → Bool) {A : Type 0} : Layout A → Type 0 where
+  none-said : (a : A) → Refusing says (gives a)
+  said : (n : ℕ) → says n ≡ true → Refusing says (refuse n)
+  behind : (w : Width) (next : ℕ → Layout A) → ((v : ℕ) → Refusing says (next v)) → Refusing says (field w next)
 
-says-4 : readNumber 4 ≡ true
+pub read-numbers : Says readNumber
 unfolding readNumber _⇒_∣_
-says-4 = refl
+read-numbers = record { missing = refl; length = refl; fixed = refl }
 
-says-5 : readNumber 5 ≡ true
-unfolding readNumber _⇒_∣_
-says-5 = refl
+pub ack-numbers : Says ackSays
+unfolding ackSays _⇒_∣_
+ack-numbers = record { missing = refl; length = refl; fixed = refl }
+
+-- an acknowledgement says no number that the container does not
+wider : (a b c d : Bool) → (a ⇒ true ∣ b ⇒ true ∣ c) ≡ true → (a ⇒ true ∣ b ⇒ true ∣ c ⇒ true ∣ d) ≡ true
+unfolding _⇒_∣_
+wider true b c d e = refl
+wider false true c d e = refl
+wider false false true d e = refl
+wider false false false d e = absurd (let z : _≡_ {A = ℕ} 0 1 = cc in omega arith)
+
+pub ack-among : (n : ℕ) → ackSays n ≡ true → readNumber n ≡ true
+unfolding ackSays readNumber
+ack-among n e = wider (eqb n 1) (eqb n 4) (eqb n 5) (eqb n 6) e
 
 says-6 : readNumber 6 ≡ true
 unfolding readNumber _⇒_∣_
 says-6 = refl
 
-row : {A : Type 0} (t : Bool) (n : ℕ) (l : Layout A) → readNumber n ≡ true → Refusing l → Refusing (t ! refuse n ⨾ l)
+row : {says : ℕ → Bool} {A : Type 0} (t : Bool) (n : ℕ) (l : Layout A) → says n ≡ true → Refusing says l → Refusing says (t ! refuse n ⨾ l)
 unfolding _!_⨾_
 row true n l h r = r
 row false n l h r = said n h
 
-then-on : {A B : Type 0} (l : Layout A) (next : A → Layout B) → Refusing l → ((a : A) → Refusing (next a)) → Refusing (l then next)
+then-on : {says : ℕ → Bool} {A B : Type 0} (l : Layout A) (next : A → Layout B) → Refusing says l → ((a : A) → Refusing says (next a)) →
+    Refusing says (l then next)
 unfolding _then_
 then-on {A = A} {B = B} _ next (none-said a) f = f a
 then-on {A = A} {B = B} _ next (said n h) f = said n h
@@ -108,85 +123,87 @@ then-on {A = A} {B = B} _ next (behind w more r) f = behind w _ (λ v. then-on (
 stopped-is : {A : Type 0} (n k : ℕ) → _≡_ {A = Walked A} (Stopped n) (Stopped k) → n ≡ k
 stopped-is n k e = cc
 
-field-says :
-    {A : Type 0} (w : Width) (next : ℕ → Layout A) (m : List ℕ) (n : ℕ) → walk (field w next) m ≡ Stopped n →
-    (walk (next (number w m)) (drop (size w) m) ≡ Stopped n → readNumber n ≡ true) → readNumber n ≡ true
-unfolding walk
-field-says w next m n e rest = go (leb (size w) (length m)) refl
-  where
-    go : (t : Bool) → leb (size w) (length m) ≡ t → readNumber n ≡ true
-    go true t = rest (passes _ _ _ _ t refl ∙ e)
-    go false t = subst (λ (x : ℕ). readNumber x ≡ true) (stopped-is 1 n (fails _ _ _ _ t refl ∙ e)) says-1
+module _ (says : ℕ → Bool) (k : Says says) where
+  field-says :
+      {A : Type 0} (w : Width) (next : ℕ → Layout A) (m : List ℕ) (n : ℕ) → walk (field w next) m ≡ Stopped n →
+      (walk (next (number w m)) (drop (size w) m) ≡ Stopped n → says n ≡ true) → says n ≡ true
+  unfolding walk
+  field-says w next m n e rest = go (leb (size w) (length m)) refl
+    where
+      go : (t : Bool) → leb (size w) (length m) ≡ t → says n ≡ true
+      go true t = rest (passes _ _ _ _ t refl ∙ e)
+      go false t = subst (λ (x : ℕ). says x ≡ true) (stopped-is 1 n (fails _ _ _ _ t refl ∙ e)) (k .missing)
 
-walk-says : {A : Type 0} (l : Layout A) → Refusing l → (m : List ℕ) (n : ℕ) → walk l m ≡ Stopped n → readNumber n ≡ true
-unfolding walk
-walk-says _ (none-said a) m n e = absurd (no-stop a m n e)
-walk-says _ (said k h) m n e = subst (λ (x : ℕ). readNumber x ≡ true) (stopped-is k n e) h
-walk-says _ (behind w next r) m n e = field-says w next m n e (walk-says (next (number w m)) (r (number w m)) (drop (size w) m) n)
+  walk-says : {A : Type 0} (l : Layout A) → Refusing says l → (m : List ℕ) (n : ℕ) → walk l m ≡ Stopped n → says n ≡ true
+  unfolding walk
+  walk-says _ (none-said a) m n e = absurd (no-stop a m n e)
+  walk-says _ (said j h) m n e = subst (λ (x : ℕ). says x ≡ true) (stopped-is j n e) h
+  walk-says _ (behind w next r) m n e = field-says w next m n e (walk-says (next (number w m)) (r (number w m)) (drop (size w) m) n)
 
 -- ---- the layouts
 
-entry-refusing : Refusing entry
+entry-refusing : Refusing readNumber entry
 unfolding entry
 entry-refusing =
-    behind Two _ λ version. row (eqb version 0x0100) 5 _ says-5 (
-    behind Two _ λ tileSize. row (eqb tileSize 0x0040) 5 _ says-5 (
+    behind Two _ λ version. row (eqb version 0x0100) 5 _ (read-numbers .fixed) (
+    behind Two _ λ tileSize. row (eqb tileSize 0x0040) 5 _ (read-numbers .fixed) (
     behind One _ λ flags.
-    behind One _ λ colConvBits. row (eqb colConvBits 1) 5 _ says-5 (
-    behind One _ λ transformBits. row (eqb transformBits 1) 5 _ says-5 (
-    behind One _ λ entropyBits. row (isMode entropyBits) 5 _ says-5 (
+    behind One _ λ colConvBits. row (eqb colConvBits 1) 5 _ (read-numbers .fixed) (
+    behind One _ λ transformBits. row (eqb transformBits 1) 5 _ (read-numbers .fixed) (
+    behind One _ λ entropyBits. row (isMode entropyBits) 5 _ (read-numbers .fixed) (
     none-said _)))))
 
-entries-refusing : (n : ℕ) → Refusing (entries n)
+entries-refusing : (n : ℕ) → Refusing readNumber (entries n)
 unfolding entries _⇒_∣_
 entries-refusing n = go (eqb n 0) (eqb n 1)
   where
     go : (z o : Bool) →
-        Refusing (z ⇒ gives noEntry ∣ o ⇒ (entry then λ e. gives (oneEntry e)) ∣ (entry then λ e. entry then λ f. gives (twoEntries e f)))
+        Refusing readNumber (z ⇒ gives noEntry ∣ o ⇒ (entry then λ e. gives (oneEntry e)) ∣ (entry then λ e. entry then λ f. gives (twoEntries e f)))
     go true o = none-said noEntry
     go false true = then-on entry _ entry-refusing (λ e. none-said (oneEntry e))
     go false false = then-on entry _ entry-refusing (λ e. then-on entry _ entry-refusing (λ f. none-said (twoEntries e f)))
 
-block-refusing : (capsLength : ℕ) → Refusing (block capsLength)
+block-refusing : (capsLength : ℕ) → Refusing readNumber (block capsLength)
 unfolding block capset
 block-refusing capsLength =
-    behind Two _ λ blockType. row (eqb blockType 0xCBC0) 5 _ says-5 (
-    behind Four _ λ blockLen. row (eqb blockLen 8) 4 _ says-4 (
-    behind Two _ λ numCapsets. row (eqb numCapsets 1) 5 _ says-5 (
-    behind Two _ λ setType. row (eqb setType 0xCBC1) 5 _ says-5 (
-    behind Four _ λ setLen. row (eqb capsLength (8 + setLen)) 4 _ says-4 (
-    behind One _ λ codecId. row (eqb codecId 1) 5 _ says-5 (
-    behind Two _ λ capsetType. row (eqb capsetType 0xCFC0) 5 _ says-5 (
+    behind Two _ λ blockType. row (eqb blockType 0xCBC0) 5 _ (read-numbers .fixed) (
+    behind Four _ λ blockLen. row (eqb blockLen 8) 4 _ (read-numbers .length) (
+    behind Two _ λ numCapsets. row (eqb numCapsets 1) 5 _ (read-numbers .fixed) (
+    behind Two _ λ setType. row (eqb setType 0xCBC1) 5 _ (read-numbers .fixed) (
+    behind Four _ λ setLen. row (eqb capsLength (8 + setLen)) 4 _ (read-numbers .length) (
+    behind One _ λ codecId. row (eqb codecId 1) 5 _ (read-numbers .fixed) (
+    behind Two _ λ capsetType. row (eqb capsetType 0xCFC0) 5 _ (read-numbers .fixed) (
     behind Two _ λ numIcaps. row (leb numIcaps 2) 6 _ says-6 (
-    behind Two _ λ icapLen. row (eqb icapLen 8) 4 _ says-4 (row (eqb setLen (13 + 8 * numIcaps)) 4 _ says-4 (entries-refusing numIcaps))))))))))
+    behind Two _ λ icapLen. row (eqb icapLen 8) 4 _ (read-numbers .length) (
+    row (eqb setLen (13 + 8 * numIcaps)) 4 _ (read-numbers .length) (entries-refusing numIcaps))))))))))
 
-pub container-refusing : Refusing container
+pub container-refusing : Refusing readNumber container
 unfolding container
 container-refusing =
     behind Four _ λ length.
     behind Four _ λ captureFlags.
-    behind Four _ λ capsLength. row (eqb length (12 + capsLength)) 4 _ says-4 (
+    behind Four _ λ capsLength. row (eqb length (12 + capsLength)) 4 _ (read-numbers .length) (
     then-on (block capsLength) _ (block-refusing capsLength) (λ s. none-said (capsWith captureFlags s)))
 
-pub ack-cap-refusing : Refusing ackCap
+pub ack-cap-refusing : Refusing ackSays ackCap
 unfolding ackCap
 ack-cap-refusing =
-    behind Two _ λ capabilitySetType. row (eqb capabilitySetType 0x001E) 5 _ says-5 (
-    behind Two _ λ lengthCapability. row (eqb lengthCapability 8) 4 _ says-4 (
+    behind Two _ λ capabilitySetType. row (eqb capabilitySetType 0x001E) 5 _ (ack-numbers .fixed) (
+    behind Two _ λ lengthCapability. row (eqb lengthCapability 8) 4 _ (ack-numbers .length) (
     behind Four _ λ maxUnacknowledgedFrameCount.
     none-said maxUnacknowledgedFrameCount))
 
-pub ack-refusing : Refusing ack
+pub ack-refusing : Refusing ackSays ack
 unfolding ack
 ack-refusing =
-    behind Two _ λ totalLength. row (eqb totalLength 22) 4 _ says-4 (
-    behind Two _ λ pduType. row (eqb (pduType % 16) 7) 5 _ says-5 (
+    behind Two _ λ totalLength. row (eqb totalLength 22) 4 _ (ack-numbers .length) (
+    behind Two _ λ pduType. row (eqb (pduType % 16) 7) 5 _ (ack-numbers .fixed) (
     behind Two _ λ pduSource.
     behind Four _ λ shareId.
     behind One _ λ pad1.
     behind One _ λ streamId.
     behind Two _ λ uncompressedLength.
-    behind One _ λ pduType2. row (eqb pduType2 0x38) 5 _ says-5 (
+    behind One _ λ pduType2. row (eqb pduType2 0x38) 5 _ (ack-numbers .fixed) (
     behind One _ λ compressedType.
     behind Two _ λ compressedLength.
     behind Four _ λ frameID.
@@ -219,14 +236,14 @@ module _
         let w : walk l (m ++ b ∷ more) ≡ Came a (b ∷ more) = ap (λ (x : List ℕ). walk l (x ++ b ∷ more)) (sym (s .1)) ∙ both .back a (b ∷ more) (s .0) in
         ap (ended taken refused) w ∙ sym (fails _ _ _ _ (ne-eqb (length (b ∷ more)) 0 (λ z. omega arith)) refl)
 
-    pub read-says : Refusing l → (m : List ℕ) (n : ℕ) → ended taken refused (walk l m) ≡ refused n → readNumber n ≡ true
+    pub read-says : (says : ℕ → Bool) → Says says → Refusing says l → (m : List ℕ) (n : ℕ) → ended taken refused (walk l m) ≡ refused n → says n ≡ true
     unfolding ended
-    read-says r m n e = go (walk l m) refl e
+    read-says says y r m n e = go (walk l m) refl e
       where
-        go : (x : Walked A) → walk l m ≡ x → ended taken refused x ≡ refused n → readNumber n ≡ true
+        go : (x : Walked A) → walk l m ≡ x → ended taken refused x ≡ refused n → says n ≡ true
         go (Came a rest) f o = more (eqb (length rest) 0) refl
           where
-            more : (t : Bool) → eqb (length rest) 0 ≡ t → readNumber n ≡ true
+            more : (t : Bool) → eqb (length rest) 0 ≡ t → says n ≡ true
             more true t = absurd (k .apart n a (sym o ∙ sym (passes _ _ _ _ t refl)))
-            more false t = subst (λ (x : ℕ). readNumber x ≡ true) (k .same-number 4 n (fails _ _ _ _ t refl ∙ o)) says-4
-        go (Stopped j) f o = subst (λ (x : ℕ). readNumber x ≡ true) (k .same-number j n o) (walk-says l r m j f)
+            more false t = subst (λ (x : ℕ). says x ≡ true) (k .same-number 4 n (fails _ _ _ _ t refl ∙ o)) (y .length)
+        go (Stopped j) f o = subst (λ (x : ℕ). says x ≡ true) (k .same-number j n o) (walk-says says y l r m j f)

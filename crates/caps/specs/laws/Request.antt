@@ -2,7 +2,7 @@
 -- Assumes nothing.
 use Prim.Native.Nat.{ℕ, _+_, _*_, _<_}
 use mathlib.Core.Path.{_≡_, refl, ap, sym, _∙_}
-use mathlib.Core.Bool.{Bool, true, false}
+use mathlib.Core.Bool.{true}
 use mathlib.Core.List.{List, _∷_, _++_}
 use native.Mathlib.Omega.{arith}
 use borrow.Author.Tests.{eq-eqb, lt-leb}
@@ -13,15 +13,17 @@ use Rattle.whole.specs.laws.Row.{fails}
 use Rattle.wire.specs.Le.{bytes16, bytes32}
 use Rattle.wire.specs.laws.Wrote.{answerOf, wrote-answer}
 use Rattle.wire.specs.declared.Writing.the-variants.{Refused as NotWritten}
-use Rattle.caps.specs.Walk.{spelled, Layout, refuse, Stopped, walk, ended}
+use Rattle.caps.specs.Walk.{spelled, Stopped, walk, ended}
 use Rattle.caps.specs.Caps.{capset, block, container, readCaps, capsOf, capsFault}
 use Rattle.caps.specs.AckCap.{ackCap, readAckCap}
 use Rattle.caps.specs.Ack.{ack, readAck}
 use Rattle.caps.specs.Calls.{ReadCaps, WriteCaps, ReadAckCap, ReadAck}
-use Rattle.caps.specs.Request.{readNumber, RequestTwelve}
+use Rattle.caps.specs.Request.{readNumber, ackSays, RequestTwelve}
 use Rattle.caps.specs.laws.Walk.{onward, walk-then, field-back, row-back}
 use Rattle.caps.specs.laws.Back.{entry-both, capset-both, block-both, container-both, ack-cap-both, ack-both}
-use Rattle.caps.specs.laws.Refuse.{Apart, container-refusing, ack-cap-refusing, ack-refusing, read-cut, read-longer, read-says}
+use Rattle.caps.specs.laws.Refuse.{Apart, read-numbers, ack-numbers, container-refusing, ack-cap-refusing, ack-refusing, read-cut, read-longer}
+use Rattle.caps.specs.laws.Refuse.{read-says}
+use Rattle.caps.specs.laws.Fields.{row-stops, entry-refuses, capset-refuses, block-refuses, container-refuses, ack-cap-refuses, ack-refuses}
 use Rattle.caps.specs.laws.ReadBack.{caps-some, caps-written, caps-again, caps-once, ack-cap-written, ack-cap-again, ack-cap-once, ack-written}
 use Rattle.caps.specs.laws.ReadBack.{ack-again, ack-once}
 use Rattle.caps.specs.declared.Caps.{Caps}
@@ -43,10 +45,6 @@ ack-apart : Apart TakenAck RefusedAck
 ack-apart = record { same-fields = λ x a e. cc; same-number = λ n k e. cc; apart = λ n a e. let z : _≡_ {A = ℕ} 0 1 = cc in omega arith }
 
 -- ---- too many entries
-
-row-stops : {A : Type 0} (t : Bool) (n : ℕ) (l : Layout A) (m : List ℕ) → t ≡ false → walk (t ! refuse n ⨾ l) m ≡ Stopped n
-unfolding walk
-row-stops {A = A} t n l m h = ap (λ (k : Layout A). walk k m) (sym (fails _ _ _ _ h refl))
 
 block-many :
     (size n : ℕ) (more : List ℕ) → 20 + size < 4294967296 → n < 65536 → 2 < n →
@@ -106,7 +104,8 @@ module _ (r s : ReadCaps) (a : Caps) (e : r .answer ≡ Taken a) where
 
 caps-numbers : (r : ReadCaps) (n : ℕ) → r .answer ≡ Refused n → readNumber n ≡ true
 unfolding readCaps
-caps-numbers r n e = read-says Taken Refused container container-both caps-apart container-refusing (r .message) n (sym (r .promise) ∙ e)
+caps-numbers r n e =
+    read-says Taken Refused container container-both caps-apart readNumber read-numbers container-refusing (r .message) n (sym (r .promise) ∙ e)
 
 module _ (r s : ReadAckCap) (a : ℕ) (e : r .answer ≡ TakenCap a) where
   took-cap : readAckCap (r .message) ≡ TakenCap a
@@ -121,9 +120,10 @@ module _ (r s : ReadAckCap) (a : ℕ) (e : r .answer ≡ TakenCap a) where
   ack-cap-longer b more is =
       s .promise ∙ (ap readAckCap is ∙ read-longer TakenCap RefusedCap ackCap ack-cap-both ack-cap-apart (r .message) a b more (r .bytes) took-cap)
 
-ack-cap-numbers : (r : ReadAckCap) (n : ℕ) → r .answer ≡ RefusedCap n → readNumber n ≡ true
+ack-cap-numbers : (r : ReadAckCap) (n : ℕ) → r .answer ≡ RefusedCap n → ackSays n ≡ true
 unfolding readAckCap
-ack-cap-numbers r n e = read-says TakenCap RefusedCap ackCap ack-cap-both ack-cap-apart ack-cap-refusing (r .message) n (sym (r .promise) ∙ e)
+ack-cap-numbers r n e =
+    read-says TakenCap RefusedCap ackCap ack-cap-both ack-cap-apart ackSays ack-numbers ack-cap-refusing (r .message) n (sym (r .promise) ∙ e)
 
 module _ (r s : ReadAck) (a : Ack) (e : r .answer ≡ TakenAck a) where
   took-ack : readAck (r .message) ≡ TakenAck a
@@ -137,9 +137,9 @@ module _ (r s : ReadAck) (a : Ack) (e : r .answer ≡ TakenAck a) where
   unfolding readAck
   ack-longer b more is = s .promise ∙ (ap readAck is ∙ read-longer TakenAck RefusedAck ack ack-both ack-apart (r .message) a b more (r .bytes) took-ack)
 
-ack-numbers : (r : ReadAck) (n : ℕ) → r .answer ≡ RefusedAck n → readNumber n ≡ true
+message-numbers : (r : ReadAck) (n : ℕ) → r .answer ≡ RefusedAck n → ackSays n ≡ true
 unfolding readAck
-ack-numbers r n e = read-says TakenAck RefusedAck ack ack-both ack-apart ack-refusing (r .message) n (sym (r .promise) ∙ e)
+message-numbers r n e = read-says TakenAck RefusedAck ack ack-both ack-apart ackSays ack-numbers ack-refusing (r .message) n (sym (r .promise) ∙ e)
 
 -- ---- all of it
 
@@ -170,7 +170,7 @@ requestTwelve = record {
     same = ack-again;
     cut = λ r s a k e. ack-cut r s a e k;
     longer = λ r s a b more e. ack-longer r s a e b more;
-    numbers = ack-numbers;
+    numbers = message-numbers;
   };
   entry-both = entry-both;
   capset-both = capset-both;
@@ -178,6 +178,12 @@ requestTwelve = record {
   container-both = container-both;
   ack-cap-both = ack-cap-both;
   ack-both = ack-both;
+  entry-refuses = entry-refuses;
+  capset-refuses = capset-refuses;
+  block-refuses = block-refuses;
+  container-refuses = container-refuses;
+  ack-cap-refuses = ack-cap-refuses;
+  ack-refuses = ack-refuses;
   too-many = caps-many;
   too-many-written = many-written;
 }

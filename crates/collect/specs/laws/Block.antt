@@ -101,18 +101,23 @@ pub record Fits (held kind size room : ℕ) : Type 0 where
 abbrev pub headOf : ℕ → ℕ → ℕ
 headOf kind size = kind + 65536 * size
 
-head-type : (kind size : ℕ) → kind ≤ 0xCCC7 → typeOf (headOf kind size) ≡ kind
+pub head-type : (kind size : ℕ) → kind < 65536 → typeOf (headOf kind size) ≡ kind
 head-type kind size l = omega arith
 
-head-len : (kind size : ℕ) → kind ≤ 0xCCC7 → lenOf (headOf kind size) ≡ size
+pub head-len : (kind size : ℕ) → kind < 65536 → lenOf (headOf kind size) ≡ size
 head-len kind size l = omega arith
+
+-- its six bytes
+pub head-bytes : (kind size : ℕ) → kind < 65536 → bytes16 kind ++ bytes32 size ≡ headBytes 6 (headOf kind size)
+head-bytes kind size l =
+    ap₂ (λ (x y : ℕ). bytes16 x ++ bytes32 y) (sym (head-type kind size l)) (sym (head-len kind size l)) ∙ six-bytes (headOf kind size)
 
 block-good : (held kind size room : ℕ) → Fits held kind size room → 0 ≡ headFault held (headOf kind size) room
 block-good h kind size room b =
-    let e = head-type kind size (b .high) in
-    let f = head-len kind size (b .high) in
     let l = b .low in
     let m = b .high in
+    let e = head-type kind size (omega arith) in
+    let f = head-len kind size (omega arith) in
     let n = b .least in
     let o = b .fits in
     good-head h (headOf kind size) room (record { low = omega arith; high = omega arith; least = omega arith; fits = omega arith })
@@ -124,9 +129,10 @@ done-block :
     ≡ settled (partAfter part kind) (held + 6) (held + size) (patch store held (headBytes 6 (headOf kind size)))
 unfolding headDone
 done-block p h kind size store b =
+    let k : kind < 65536 = omega (arith, b .high) in
     sym (case-yes _ _ _ _ (eq-eqb (headFault h (headOf kind size) (length store)) 0 (sym (block-good h kind size (length store) b))) refl)
     ∙ ap₂ (λ (x y : ℕ). settled (partAfter p x) (h + 6) (h + y) (patch store h (headBytes 6 (headOf kind size))))
-    (head-type kind size (b .high)) (head-len kind size (b .high))
+    (head-type kind size k) (head-len kind size k)
 
 -- more bytes of it, fewer than are left or as many
 settled-on :
@@ -163,10 +169,7 @@ block-begun p h kind size n store xs b l =
 
 block-is : (b : Block) → Known b → blockBytes b ≡ headBytes 6 (headOf (b .kind) (6 + length (b .body))) ++ b .body
 unfolding blockBytes
-block-is b k =
-    let n = 6 + length (b .body) in
-    ap₂ (λ (x y : ℕ). (bytes16 x ++ bytes32 y) ++ b .body) (sym (head-type (b .kind) n (k .high))) (sym (head-len (b .kind) n (k .high)))
-    ∙ ap (λ (x : List ℕ). x ++ b .body) (six-bytes (headOf (b .kind) n))
+block-is b k = ap (λ (x : List ℕ). x ++ b .body) (head-bytes (b .kind) (6 + length (b .body)) (omega (arith, k .high)))
 
 block-size : (b : Block) → length (blockBytes b) ≡ 6 + length (b .body)
 unfolding blockBytes bytes16 bytes32

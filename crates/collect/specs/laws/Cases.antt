@@ -17,6 +17,7 @@ cases = record {
   frame = refl;
   waits = refl;
   kind = refl;
+  below = refl;
   size = refl;
   full = refl;
   earlier = refl;

@@ -18,6 +18,7 @@ use Rattle.collect.specs.laws.Byte.{Says}
 use Rattle.collect.specs.laws.Code.{call-shut}
 use Rattle.collect.specs.laws.Cut.{call-front, open-call, cut-anyhow, give-all}
 use Rattle.collect.specs.laws.Block.{alone-handed, frame-handed}
+use Rattle.collect.specs.laws.Head.{few-wait, type-refused, length-refused, room-refused}
 use Rattle.collect.specs.laws.Reach.{made-by-call}
 use Rattle.collect.specs.Request.{Bytes, after, flat, unhanded, RequestOne}
 
@@ -75,6 +76,10 @@ requestOne =
       one-answer = answer-once;
       block = alone-handed;
       frame = frame-handed;
+      head-waits = few-wait;
+      wrong-type = λ s kind size more b z h t. type-refused s kind size more b z h t;
+      wrong-length = λ s kind size more b z l h t. length-refused s kind size more b z l h t;
+      no-room = λ s kind size more b z h l m t f. room-refused s kind size more b z l m h t f;
       nothing-lost = lost-none;
       however-cut = cut-anyhow;
       can-be-given = give-all;

@@ -18,9 +18,9 @@ use Rattle.frame.specs.Frame.{frameReadingNumber, frameReadingTiles}
 use Rattle.frame.specs.laws.Glass.{one-frame}
 use Rattle.frame_write.specs.Encode.{pictureFrame}
 use Rattle.frame_write.specs.FrameWrite.{argFault, sendFault}
-use Rattle.panel.specs.Edge.{ReadFrameCall, WriterCall, WriteComponentCall, WriteFrameCall}
+use Rattle.panel.specs.Edge.{ReadFrameCall, WriterCall, WriteFrameCall}
 use Rattle.calls.specs.Calls.{sessionAfter, ReadComponent, WriteComponent, WriteHeaders, WriteFrame}
-use Rattle.calls.specs.Calls.{CReadHeader, as-header, CReadFrame, as-frame, CReadComponent, CWriteHeaders, CWriteFrame}
+use Rattle.calls.specs.Calls.{CReadHeader, as-header, CReadFrame, as-frame, CReadComponent, CWriteComponent, CWriteHeaders, CWriteFrame}
 use Rattle.demands.specs.Demands.{OneAnswerC}
 
 -- ---- each is a call of calls/specs/Calls, so the demands hold of it; the number and the value that it hands out are that call's (`as-header` and `as-frame`
@@ -53,15 +53,18 @@ module _ (f : ℕ) (bytes out out′ : List ℕ) (size n : ℕ) (x : WriterCall 
   pub wrote-is : (n ≡ writingNumber (answerOf f bytes)) × (size ≡ writingLength (answerOf f bytes))
   wrote-is = (x .number ∙ sym (answer-number f bytes), x .long ∙ sym (answer-length f bytes))
 
-abbrev pub as-write : (mode : ℕ) (zs : List ℤ) (out out′ : List ℕ) (size n : ℕ) → WriteComponentCall mode zs out out′ size n → WriteComponent
-as-write mode zs out out′ size n x = record {
-  mode = mode;
-  list = zs;
-  out = out;
-  out′ = out′;
-  answer = answerOf (writeFault mode zs (length out)) (bytesOf mode zs);
-  promise = as-wrote _ _ out out′ size n x;
+abbrev pub as-write : CWriteComponent → WriteComponent
+as-write c = record {
+  mode = c .mode;
+  list = c .list;
+  out = c .out;
+  out′ = c .out′;
+  answer = answerOf (writeFault (c .mode) (c .list) (length (c .out))) (bytesOf (c .mode) (c .list));
+  promise = as-wrote _ _ (c .out) (c .out′) (c .size) (c .number) (c .promise);
 }
+
+pub write-is : (c : CWriteComponent) → (c .number ≡ writingNumber (as-write c .answer)) × (c .size ≡ writingLength (as-write c .answer))
+write-is c = wrote-is _ _ (c .out) (c .out′) (c .size) (c .number) (c .promise)
 
 abbrev pub as-headers : CWriteHeaders → WriteHeaders
 as-headers c = record {
@@ -115,7 +118,7 @@ frame-call-once word s s₁ s₂ m pic y cb cr tmp p₁ p₂ y₁ y₂ b₁ b₂
     (x .number ∙ sym (z .number), x .count ∙ sym (z .count), x .session ∙ sym (z .session), o .picture, o .y-list, o .cb-list, o .cr-list, o .tmp-list)
 
 -- every writer's
-write-call-once :
+pub write-call-once :
     (f : ℕ) (bytes out o₁ o₂ : List ℕ) (k₁ k₂ n₁ n₂ : ℕ) → WriterCall f bytes out o₁ k₁ n₁ → WriterCall f bytes out o₂ k₂ n₂ → (n₁ ≡ n₂) × (k₁ ≡ k₂) × (o₁ ≡ o₂)
 write-call-once f bytes out o₁ o₂ k₁ k₂ n₁ n₂ x y = (x .number ∙ sym (y .number), x .long ∙ sym (y .long), x .left ∙ sym (y .left))
 

@@ -1,12 +1,13 @@
 -- The demands over the panel's calls give the demands over the calls for C (`EdgeDemands`): each of these is one of the panel's (specs/laws/Edge).
 use Prim.Native.Nat.{ℕ}
-use mathlib.Core.Path.{sym, ap, subst, _∙_}
+use mathlib.Core.Path.{sym, ap, subst, subst⁻¹, _∙_}
 use mathlib.Core.List.{[], _∷_}
 use lib.ListN.{take, drop}
 use Rattle.whole.specs.Among.{Among, Other}
 use Rattle.calls.specs.Calls.{CReadHeader, as-header, CReadFrame, as-frame, CWriteHeaders, CWriteFrame}
-use Rattle.demands.specs.Demands.{Demand1, OurCalls, Demand2, EdgeDemand1, OurCallsC, OurFrameC, EdgeDemand2, EdgeDemands}
-use Rattle.demands.specs.laws.Edge.{as-read, as-headers, headers-is, as-send, send-is}
+use Rattle.code.specs.Read.{readingNumber, readingBits}
+use Rattle.demands.specs.Demands.{Demand1, OurCalls, Demand2, Demand3, EdgeDemand1, OurCallsC, OurFrameC, EdgeDemand2, EdgeDemand3, EdgeDemands}
+use Rattle.demands.specs.laws.Edge.{as-read, as-write, write-is, as-headers, headers-is, as-send, send-is}
 
 edge-1 : Demand1 → EdgeDemand1
 edge-1 d = record {
@@ -79,9 +80,27 @@ edge-2 d = record {
   header-writer = λ c. c .promise .number;
   frame-sent = λ c. rw (send-is c .0, send-is c .1) (d .frame-sent (as-send c));
   headers-sent = λ c. rw (headers-is c .0, headers-is c .1) (d .headers-sent (as-headers c));
+  writer-refuses = λ c b. subst⁻¹ (Among (0 ∷ 5 ∷ 7 ∷ 2 ∷ 13 ∷ [])) (send-is c .0) (d .writer-refuses (as-send c) b);
+  writer-done = λ c b e ten l. send-is c .0 ∙ d .writer-done (as-send c) b e ten l;
   work-untouched = λ c e. d .work-untouched (as-send c) (subst (Among (5 ∷ 7 ∷ 2 ∷ [])) (send-is c .0) e);
   work-zeros = λ c e. d .work-zeros (as-send c) (subst (Other (5 ∷ 7 ∷ 2 ∷ [])) (send-is c .0) e);
 }
 
-pub edge-demands : Demand1 → Demand2 → EdgeDemands
-edge-demands one two = record { one = edge-1 one; two = edge-2 two }
+edge-3 : Demand3 → EdgeDemand3
+unfolding readingNumber readingBits
+edge-3 d = record {
+  component-number = λ c. c .promise .number ∙ d .component-number (as-read c);
+  accepted-if = λ c zs e.
+      let r = d .accepted-if (as-read c) zs e in
+      (c .promise .number ∙ ap readingNumber (r .0), c .promise .long ∙ ap readingBits (r .0), r .1);
+  accepted-only-if = λ c k. d .accepted-only-if (as-read c) (sym (c .promise .number) ∙ k);
+  length-told = λ c zs rest a l e. c .promise .long ∙ d .length-told (as-read c) zs rest a l e;
+  writer-number = λ c. c .promise .number;
+  writer-sent = λ c. rw (write-is c .0, write-is c .1) (d .writer-sent (as-write c));
+  read-back = λ w c k m b l.
+      let r = d .read-back (as-write w) (as-read c) (sym (write-is w .0) ∙ k) m (b ∙ ap (λ (n : ℕ). take n (w .out′)) (write-is w .1)) l in
+      (c .promise .number ∙ ap readingNumber (r .0), c .promise .long ∙ ap readingBits (r .0), r .1);
+}
+
+pub edge-demands : Demand1 → Demand2 → Demand3 → EdgeDemands
+edge-demands one two three = record { one = edge-1 one; two = edge-2 two; three = edge-3 three }

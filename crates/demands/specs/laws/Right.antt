@@ -14,8 +14,8 @@ use Rattle.session.specs.Header.{recordOf, Right, made, keptGlass, recordAfter,
 use Rattle.session.specs.laws.Header.{right-at, other-glass}
 use Rattle.session.specs.laws.Right.{right-reading, glass-reading, wrong-made, glass-made, wrong-ready, wrong-header, sync-any}
 use Rattle.frame.specs.Frame.{frameReadingNumber}
-use Rattle.calls.specs.Calls.{ReadHeader, sessionAfter, ReadFrame, OnOneRecord, no-call, header, frame}
-use Rattle.calls.specs.laws.Calls.{header-number, header-taken, unready-frame}
+use Rattle.calls.specs.Calls.{ReadHeader, sessionAfter, ReadFrame, as-frame, OnOneRecord, no-call, header, frame}
+use Rattle.calls.specs.laws.Calls.{header-number, header-taken, unready-frame, other-size}
 use Rattle.demands.specs.Demands.{RecordRight, RecordGlass}
 
 right-after : (c : ReadHeader) → Right (c .session) → Right (sessionAfter c)
@@ -71,6 +71,8 @@ pub record-glass : RecordGlass
 record-glass = record {
   glass-kept = glass-kept;
   glass-always = glass-always;
+  other-size = other-size;
+  other-size-c = λ c r n. c .promise .number ∙ other-size (as-frame c) r n;
   other-header = λ c l some least most. unmade-header c (glass-made (c .session) l) some least most;
   other-frame = λ c l. unready-frame c (wrong-ready (c .session) (glass-made (c .session) l));
   other-sync = λ c l e z. header-taken c z ∙ sync-record (c .session) (c .message) l e;

@@ -1,10 +1,12 @@
--- One grey pixel, ten quantisers of 6: its samples, its lists and their differences are all 0, so nothing is refused, in both modes.
+-- One grey pixel, ten equal quantisers a set: its samples, its lists and their differences are all 0, so nothing is refused, in both modes; with luma's 6 and
+-- chroma's 6, and with 6 and 7.
 -- Assumes nothing.
-use Prim.Native.Nat.{ℕ, zero, suc, _+_, _*_, _-_, _/_, _%_, min, _<_}
+use Prim.Native.Nat.{ℕ, zero, suc, _+_, _*_, _-_, _/_, _%_, _^_, min, _≤_, _<_}
 use mathlib.Core.Path.{_≡_, refl, ap, sym, _∙_, subst}
+use mathlib.Core.Bool.{true, false}
 use mathlib.Core.List.{List, [], _∷_}
 use native.Mathlib.Omega.{arith}
-use lib.IntN.{ℤ, pos, negsuc}
+use lib.IntN.{ℤ, pos, negsuc, _*ℤ_}
 use lib.ListN.{length, getD, replicate, length-replicate}
 use lib.Seq.{ext-getD}
 use borrow.Author.Tests.{le-leb}
@@ -17,9 +19,10 @@ use Rattle.bands.specs.Bands.{QuantGood, bandOf, ll3, sumsOf, sumsFault, summed
 use Rattle.bands.specs.laws.Band.{band-below}
 use Rattle.bands.specs.laws.Range.{each-all, sum-near}
 use Rattle.bands.specs.laws.Part.{seam-near}
-use Rattle.bands.specs.Rounding.{roundAt, diffAt, differences, roundedBy}
+use Rattle.bands.specs.Rounding.{roundZ, roundAt, diffAt, differences, roundedBy}
 use Rattle.colour.specs.Colour.{lumaZ, cbZ, crZ}
 use Rattle.wave_forth.specs.laws.Forth.{forth-near}
+use Rattle.wire.specs.Mode.{isMode}
 use Rattle.wire.specs.laws.Mode.{is-1, is-4}
 use Rattle.code_write.specs.Write.{bytesOf}
 use Rattle.code.specs.Cases.{first}
@@ -27,29 +30,60 @@ use Rattle.code_write.specs.Cases.{CodeSent}
 use Rattle.code_write.specs.laws.Cases.{write-cases}
 use Rattle.tile_forth.specs.TileForth.{componentOf, bytesAt, sampleAt, roundedOf}
 use Rattle.frame_pieces.specs.Parts.{colsOf, tilesNo}
-use Rattle.quants.specs.Quants.{oneFor}
-use Rattle.frame_write.specs.Encode.{listOf, partRefusal, tileRefusal, refusals}
-use Rattle.frame_write.specs.Sets.{PictureOver}
-use Rattle.frame_write.specs.laws.OneSet.{one-refusals}
+use Rattle.quants.specs.Quants.{alike, same, quantFor, oneFor}
+use Rattle.quants.specs.declared.Quants.{Quants}
+use Rattle.frame_write.specs.Encode.{listOf, partRefusal}
+use Rattle.frame_write.specs.Sets.{tileRefusalOver, refusalsOver, PictureOver}
 use Rattle.frame_write.specs.laws.Encode.{list-long}
 use Rattle.frame_readback.specs.laws.OurTiles.{Sendable}
 
 abbrev pub grey : List ℕ
 grey = 128 ∷ 128 ∷ 128 ∷ []
 
+-- ten of one value
+abbrev pub tens : ℕ → List ℕ
+tens v = replicate 10 v
+
 abbrev pub sixes : List ℕ
 sixes = replicate 10 6
+
+abbrev pub setsBy : ℕ → ℕ → Quants
+setsBy a b = record { luma = record { v = tens a }; chroma = record { v = tens b } }
 
 same-at : (v n i : ℕ) → i < n → getD (replicate n v) i 0 ≡ v
 same-at v zero i h = absurd (omega arith)
 same-at v (suc n) zero h = refl
 same-at v (suc n) (suc i) h = same-at v n i (omega arith)
 
-pub quants : QuantGood sixes
-quants = record { low = λ i h. omega (arith, same-at 6 10 i h); high = λ i h. omega (arith, same-at 6 10 i h) }
+-- a quantiser that leaves 0 what it is, rounded and scaled
+record Fine (v : ℕ) : Type 0 where
+  low : 6 ≤ v
+  high : v ≤ 15
+  round : roundZ v (pos 0) ≡ pos 0
+  scale : pos 0 *ℤ pos (2 ^ (v - 1)) ≡ pos 0
 
-pub picture : PictureOver grey 1 1 (oneFor sixes)
-picture = record { wide = omega arith; wider = omega arith; high = omega arith; higher = omega arith; pixels = refl; luma = quants; chroma = quants }
+fine-6 : Fine 6
+fine-6 = record { low = omega arith; high = omega arith; round = refl; scale = refl }
+
+fine-7 : Fine 7
+fine-7 = record { low = omega arith; high = omega arith; round = refl; scale = refl }
+
+quants : (v : ℕ) → Fine v → QuantGood (tens v)
+quants v f =
+    let a = f .low in
+    let b = f .high in
+    record { low = λ i h. omega (arith, same-at v 10 i h); high = λ i h. omega (arith, same-at v 10 i h) }
+
+picture : (a b : ℕ) → Fine a → Fine b → PictureOver grey 1 1 (setsBy a b)
+picture a b f g = record {
+  wide = omega arith;
+  wider = omega arith;
+  high = omega arith;
+  higher = omega arith;
+  pixels = refl;
+  luma = quants a f;
+  chroma = quants b g;
+}
 
 -- ---- all zeros, said by bounds of 0
 
@@ -75,26 +109,26 @@ sample-0 : (c tx ty i : ℕ) → c < 3 → sampleAt grey 1 1 tx ty c i ≡ pos 0
 unfolding sampleAt bytesAt
 sample-0 c tx ty i h = rw (edge-0 (64 * tx + i % 64), edge-0 (64 * ty + i / 64)) (grey-0 c h)
 
-round-0 : (xs : List ℤ) (k : ℕ) → AllNear 0 xs → roundAt sixes (at xs) k ≡ pos 0
-round-0 xs k n = rw (same-at 6 10 (bandOf k) (band-below k), nothing (at xs k) (n .all k))
+round-0 : (v : ℕ) → Fine v → (xs : List ℤ) (k : ℕ) → AllNear 0 xs → roundAt (tens v) (at xs) k ≡ pos 0
+round-0 v f xs k n = rw (same-at v 10 (bandOf k) (band-below k), nothing (at xs k) (n .all k)) (f .round)
 
 diff-0 : (f : ℕ → ℤ) → ((k : ℕ) → Near 0 (f k)) → (i : ℕ) → Near 0 (diffAt f i)
 unfolding diffAt
 diff-0 f n zero = n 0
 diff-0 f n (suc i) = sub-near (n (suc i)) (n i)
 
-rounded-0 : (xs : List ℤ) → AllNear 0 xs → AllNear 0 (roundedBy sixes xs)
+rounded-0 : (v : ℕ) → Fine v → (xs : List ℤ) → AllNear 0 xs → AllNear 0 (roundedBy (tens v) xs)
 unfolding roundedBy differences
-rounded-0 xs n =
-    let T = table 4096 (roundAt sixes (at xs)) in
-    let t = tab-near 4096 (roundAt sixes (at xs)) (λ k. none _ (round-0 xs k n)) in
+rounded-0 v f xs n =
+    let T = table 4096 (roundAt (tens v) (at xs)) in
+    let t = tab-near 4096 (roundAt (tens v) (at xs)) (λ k. none _ (round-0 v f xs k n)) in
     seam-near T (table 64 (diffAt (ll3 T))) (length-tab 4096 _) (length-tab 64 _) t
     (λ i h. subst (Near 0) (sym (at-tab 64 (diffAt (ll3 T)) i h)) (diff-0 (ll3 T) (λ k. t .all (4032 + k)) i))
 
-list-0 : (c k : ℕ) → c < 3 → AllNear 0 (listOf grey 1 1 sixes k c)
+list-0 : (v : ℕ) → Fine v → (c k : ℕ) → c < 3 → AllNear 0 (listOf grey 1 1 (tens v) k c)
 unfolding listOf roundedOf
-list-0 c k h =
-    rounded-0 _
+list-0 v f c k h =
+    rounded-0 v f _
     (forth-near (table 4096 (sampleAt grey 1 1 (k % colsOf 1) (k / colsOf 1) c))
     (tab-near 4096 _ (λ i. none _ (sample-0 c (k % colsOf 1) (k / colsOf 1) i h))))
 
@@ -119,51 +153,54 @@ sums-0 : (xs : List ℤ) → AllNear 0 xs → (i : ℕ) → Near 0 (sumsOf xs i)
 unfolding sumsOf
 sums-0 xs n i = wide-near (omega arith) (sum-near (ll3 xs) (i + 1) (λ k h. n .all (4032 + k)))
 
-scale-0 : (xs : List ℤ) → AllNear 0 xs → (k : ℕ) → scaleAt sixes (at xs) k ≡ pos 0
-scale-0 xs n k = rw (same-at 6 10 (bandOf k) (band-below k), nothing (at xs k) (n .all k))
+scale-0 : (v : ℕ) → Fine v → (xs : List ℤ) → AllNear 0 xs → (k : ℕ) → scaleAt (tens v) (at xs) k ≡ pos 0
+scale-0 v f xs n k = rw (same-at v 10 (bandOf k) (band-below k), nothing (at xs k) (n .all k)) (f .scale)
 
-judged-0 : (zs : List ℤ) → length zs ≡ 4096 → AllNear 0 zs → 0 ≡ coefficientsFault sixes zs
+judged-0 : (v : ℕ) → Fine v → (zs : List ℤ) → length zs ≡ 4096 → AllNear 0 zs → 0 ≡ coefficientsFault (tens v) zs
 unfolding coefficientsFault rangeFault sumsFault scaleFault summed
-judged-0 zs l n =
+judged-0 v f zs l n =
     let s = seam-near zs (table 64 (sumsOf zs)) l (length-tab 64 _) n (λ i h. subst (Near 0) (sym (at-tab 64 (sumsOf zs) i h)) (sums-0 zs n i)) in
     goes-on _ _ _ (sym (passes _ _ _ _ (each-all (at zs) (length zs) (λ i h. wide (n .all i))) refl))
     (goes-on _ _ _ (sym (passes _ _ _ _ (each-all (sumsOf zs) 64 (λ i h. wide (sums-0 zs n i))) refl))
-    (passes _ _ _ _ (each-all (scaleAt sixes (at (summed zs))) 4096 (λ i h. wide (none _ (scale-0 (summed zs) s i)))) refl))
+    (passes _ _ _ _ (each-all (scaleAt (tens v) (at (summed zs))) 4096 (λ i h. wide (none _ (scale-0 v f (summed zs) s i)))) refl))
 
 bytes-3 : (mode : ℕ) → CodeSent mode (0x00 ∷ 0x00 ∷ 0x00 ∷ []) (first (pos 0)) → (zs : List ℤ) → length zs ≡ 4096 → AllNear 0 zs → length (bytesOf mode zs) ≡ 3
 bytes-3 mode s zs l n = ap (λ (xs : List ℤ). length (bytesOf mode xs)) (zeros zs l n) ∙ ap length (s .bytes)
 
 module _ (mode : ℕ) (s : CodeSent mode (0x00 ∷ 0x00 ∷ 0x00 ∷ []) (first (pos 0))) where
-  part-0 : (c k : ℕ) → c < 3 → 0 ≡ partRefusal mode sixes (listOf grey 1 1 sixes k c)
+  part-0 : (v : ℕ) → Fine v → (c k : ℕ) → c < 3 → 0 ≡ partRefusal mode (tens v) (listOf grey 1 1 (tens v) k c)
   unfolding partRefusal
-  part-0 c k h =
-      let zs = listOf grey 1 1 sixes k c in
-      let l = list-long grey 1 1 sixes k c in
-      let n = list-0 c k h in
-      goes-on _ _ _ (sym (judged-0 zs l n)) (passes _ _ _ _ (le-leb (length (bytesOf mode zs)) 65535 (omega (arith, bytes-3 mode s zs l n))) refl)
+  part-0 v f c k h =
+      let zs = listOf grey 1 1 (tens v) k c in
+      let l = list-long grey 1 1 (tens v) k c in
+      let n = list-0 v f c k h in
+      goes-on _ _ _ (sym (judged-0 v f zs l n)) (passes _ _ _ _ (le-leb (length (bytesOf mode zs)) 65535 (omega (arith, bytes-3 mode s zs l n))) refl)
 
-  none-0 : (n i : ℕ) → 0 ≡ refusals grey 1 1 mode sixes n i
-  unfolding refusals tileRefusal
-  none-0 zero i = refl
-  none-0 (suc n) i =
-      goes-on _ _ _ (sym (goes-on _ _ _ (sym (part-0 0 i (omega arith))) (goes-on _ _ _ (sym (part-0 1 i (omega arith))) (part-0 2 i (omega arith)))))
-      (none-0 n (i + 1))
+  module _ (a b : ℕ) (f : Fine a) (g : Fine b) where
+    none-0 : (n i : ℕ) → 0 ≡ refusalsOver grey 1 1 mode (setsBy a b) n i
+    unfolding refusalsOver tileRefusalOver quantFor _⇒_∣_
+    none-0 zero i = refl
+    none-0 (suc n) i =
+        goes-on _ _ _
+        (sym (goes-on _ _ _ (sym (part-0 a f 0 i (omega arith))) (goes-on _ _ _ (sym (part-0 b g 1 i (omega arith))) (part-0 b g 2 i (omega arith)))))
+        (none-0 n (i + 1))
 
--- what the read-back asks, met in both modes
+    sendable : isMode mode ≡ true → Sendable grey 1 1 mode (setsBy a b)
+    sendable m = record { picture = picture a b f g; luma = refl; chroma = refl; allowed = m; none = none-0 (tilesNo 1 1) 0 }
+
+-- what the read-back asks, met in both modes: with one set for both, and with two that differ
 pub sendable-1 : Sendable grey 1 1 1 (oneFor sixes)
-sendable-1 = record {
-  picture = picture;
-  luma = refl;
-  chroma = refl;
-  allowed = is-1;
-  none = none-0 1 (write-cases .zeros .0) (tilesNo 1 1) 0 ∙ sym (one-refusals grey 1 1 1 sixes (tilesNo 1 1) 0);
-}
+sendable-1 = sendable 1 (write-cases .zeros .0) 6 6 fine-6 fine-6 is-1
 
 pub sendable-4 : Sendable grey 1 1 4 (oneFor sixes)
-sendable-4 = record {
-  picture = picture;
-  luma = refl;
-  chroma = refl;
-  allowed = is-4;
-  none = none-0 4 (write-cases .zeros .1) (tilesNo 1 1) 0 ∙ sym (one-refusals grey 1 1 4 sixes (tilesNo 1 1) 0);
-}
+sendable-4 = sendable 4 (write-cases .zeros .1) 6 6 fine-6 fine-6 is-4
+
+pub two-sendable-1 : Sendable grey 1 1 1 (setsBy 6 7)
+two-sendable-1 = sendable 1 (write-cases .zeros .0) 6 7 fine-6 fine-7 is-1
+
+pub two-sendable-4 : Sendable grey 1 1 4 (setsBy 6 7)
+two-sendable-4 = sendable 4 (write-cases .zeros .1) 6 7 fine-6 fine-7 is-4
+
+pub two-differ : same (setsBy 6 7) ≡ false
+unfolding same alike
+two-differ = refl

@@ -250,6 +250,25 @@ all-shown glass p w h mode q pic pic′ r s = record {
   long = s .long;
 }
 
+-- our frame alone: with the record that our headers give
+pub own-frame-over :
+    (glass w h mode : ℕ) → glass ≤ 1 → (q : Quants) (index : ℕ) (p : List ℕ) (list list′ scratch scratch′ : List ℤ) (out out′ : List ℕ) (r : Writing) →
+    length (q .luma .v) ≡ 10 → length (q .chroma .v) ≡ 10 →
+    FrameWrittenOver w h mode q index p list list′ scratch scratch′ out out′ r → writingNumber r ≡ 0 →
+    (pic : List ℕ) (y cb cr tmp : List ℤ) (pic′ : List ℕ) (y′ cb′ cr′ tmp′ : List ℤ) (answer : FrameReading) →
+    length y ≡ 4096 → length cb ≡ 4096 → length cr ≡ 4096 → length tmp ≡ 4096 → h * w ≤ length pic →
+    FrameRead glass (recordOf glass 4 w h mode) (take (writingLength r) out′) pic y cb cr tmp pic′ y′ cb′ cr′ tmp′ answer →
+    ShownOver glass p w h q pic pic′ answer
+unfolding frameOver
+own-frame-over glass w h mode either q index p list list′ scratch scratch′ out out′ r luma chroma fw f pic y cb cr tmp pic′ y′ cb′ cr′ tmp′ answer ly lb lr lt
+    room done =
+    let u = written-is w h mode q index p list list′ scratch scratch′ out out′ r luma chroma fw f in
+    let d = subst (λ (x : List ℕ). FrameRead glass (recordOf glass 4 w h mode) x pic y cb cr tmp pic′ y′ cb′ cr′ tmp′ answer) (u .bytes) done in
+    let x = shown p w h mode q index (tilesNo w h) (λ k. k) (all-sendable p w h mode q (u .sendable)) glass either (u .size) pic y cb cr tmp pic′ y′ cb′ cr′
+    tmp′ answer
+    ly lb lr lt room d in
+    all-shown glass p w h mode q pic pic′ answer x
+
 -- THE STATEMENT OVER THE CALLS. Whenever our two writers are done, for the same size and mode: four header calls on our headers, from any
 -- record at all, answer 0 and end in (4, w, h, mode); and the frame call on our frame, with that record on either glass, a picture of its words, work lists
 -- of 4,096 and a picture long
@@ -265,15 +284,12 @@ pub our-own-frames-over :
     length y ≡ 4096 → length cb ≡ 4096 → length cr ≡ 4096 → length tmp ≡ 4096 → h * w ≤ length pic →
     FrameRead glass (recordOf glass 4 w h mode) (take (writingLength r) out′) pic y cb cr tmp pic′ y′ cb′ cr′ tmp′ answer →
     AllTaken s₀ w h mode (take (writingLength hr) ho′) × ShownOver glass p w h q pic pic′ answer
-unfolding frameOver
 our-own-frames-over glass s₀ w h mode ho ho′ hr either hw e q index p list list′ scratch scratch′ out out′ r luma chroma fw f
-    pic y cb cr tmp pic′ y′ cb′ cr′ tmp′ answer ly lb lr lt room done =
-    let u = written-is w h mode q index p list list′ scratch scratch′ out out′ r luma chroma fw f in
-    let d = subst (λ (x : List ℕ). FrameRead glass (recordOf glass 4 w h mode) x pic y cb cr tmp pic′ y′ cb′ cr′ tmp′ answer) (u .bytes) done in
-    let x = shown p w h mode q index (tilesNo w h) (λ k. k) (all-sendable p w h mode q (u .sendable)) glass either (u .size) pic y cb cr tmp pic′ y′ cb′ cr′
-    tmp′ answer
-    ly lb lr lt room d in
-    (our-headers s₀ w h mode ho ho′ hr hw e, all-shown glass p w h mode q pic pic′ answer x)
+    pic y cb cr tmp pic′ y′ cb′ cr′ tmp′ answer ly lb lr lt room done = (
+      our-headers s₀ w h mode ho ho′ hr hw e,
+      own-frame-over glass w h mode either q index p list list′ scratch scratch′ out out′ r luma chroma fw f pic y cb cr tmp pic′ y′ cb′ cr′ tmp′ answer ly lb
+          lr lt room done,
+    )
 
 -- with one set for both it is what 01 says
 one-shown :

@@ -15,6 +15,7 @@ use Rattle.caps.specs.AckCap.{readAckCap, ackCapNumber, ackCapCount}
 use Rattle.caps.specs.Ack.{readAck, ackNumber, ackFields}
 use Rattle.caps.specs.Calls.{ReadCaps, ReadAckCap, ReadAck}
 use Rattle.caps.specs.Request.{readNumber}
+use Rattle.caps.specs.laws.Refuse.{ack-among}
 use Rattle.caps.specs.laws.Request.{requestTwelve}
 use Rattle.caps.specs.declared.Caps.{Caps}
 use Rattle.caps.specs.declared.Ack.{Ack}
@@ -85,7 +86,7 @@ ack-cap-is (RefusedCap (suc n)) h = refl
 pub ack-cap-told : (m : List ℕ) (count number : ℕ) → Bytes m → ReadAckCapCall m count number → readingOf TakenCap RefusedCap number count ≡ readAckCap m
 ack-cap-told m count number b p =
     let call : ReadAckCap = record { message = m; bytes = b; answer = readAckCap m; promise = refl } in
-    ap₂ (readingOf TakenCap RefusedCap) (p .said) (p .count-is) ∙ ack-cap-is (readAckCap m) (requestTwelve .of-ack-cap .numbers call)
+    ap₂ (readingOf TakenCap RefusedCap) (p .said) (p .count-is) ∙ ack-cap-is (readAckCap m) (λ n e. ack-among n (requestTwelve .of-ack-cap .numbers call n e))
 
 pub ack-cap-once :
     (m : List ℕ) (count count′ number number′ : ℕ) → ReadAckCapCall m count number → ReadAckCapCall m count′ number′ → (count ≡ count′) × (number ≡ number′)
@@ -106,7 +107,8 @@ pub ack-told :
 ack-told m fields number b p =
     let call : ReadAck = record { message = m; bytes = b; answer = readAck m; promise = refl } in (
       p .fields-are,
-      ap (λ (n : ℕ). readingOf TakenAck RefusedAck n (ackFields (readAck m))) (p .said) ∙ ack-is (readAck m) (requestTwelve .of-ack .numbers call),
+      ap (λ (n : ℕ). readingOf TakenAck RefusedAck n (ackFields (readAck m))) (p .said)
+          ∙ ack-is (readAck m) (λ n e. ack-among n (requestTwelve .of-ack .numbers call n e)),
     )
 
 pub ack-once :

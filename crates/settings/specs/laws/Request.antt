@@ -3,6 +3,7 @@
 use Prim.Native.Nat.{ℕ, _<_}
 use mathlib.Core.Path.{_≡_, refl, ap, sym, _∙_}
 use mathlib.Core.Bool.{Bool, true, false}
+use mathlib.Core.Logic.{inl}
 use mathlib.Core.List.{List, [], _∷_, _++_, append-nil}
 use native.Mathlib.Omega.{arith}
 use lib.Dec.{eqb, leb}
@@ -19,7 +20,8 @@ use Rattle.settings.specs.Settings.{writeFault, GoodSettings}
 use Rattle.settings.specs.Request.{one, two, recordsOf, storeOf, WriteSettings, writtenBy, RequestFive}
 use Rattle.settings.specs.laws.Good.{given-good, read-among}
 use Rattle.settings.specs.laws.Store.{kind-fault, place-fault, presence-fault, placed-behind, version-again, taken-small, version-refused, not-taken}
-use Rattle.settings.specs.laws.Store.{missing, unknown, last-kept, alone, fault-said}
+use Rattle.settings.specs.laws.Store.{version-cut, missing, unknown, last-kept, alone, fault-said, set-refused, mode-refused}
+use Rattle.settings.specs.laws.Store.{one-refused, two-refused, foreign}
 use Rattle.settings.specs.laws.Write.{of-one, of-two}
 use Rattle.settings.specs.declared.Settings.{Settings}
 
@@ -115,15 +117,20 @@ requestFive = record {
   version-alone = alone;
   never-guessing = guessing;
   other-version = λ newest v rest h a b. version-refused newest v rest h (not-taken newest v a b);
+  cut-version = version-cut;
   missing-version = missing;
   unknown-first = unknown;
   last-counts = last-kept;
   first-fault = fault-said;
-  unknown-kind = λ newest v kind rs rest t g k. fault-said newest v kind 2 rs rest t g (sym (kind-fault newest v kind rest k));
+  unknown-kind = λ newest v kind rs rest t g k. fault-said newest v kind 2 rs rest t g (sym (kind-fault newest v kind rest (foreign v kind k)));
   second-version = λ newest v rs rest t g.
       fault-said newest v 0 11 rs rest t g (sym (place-fault newest v 0 rest (always v) (version-again v (taken-small newest v t .0))));
   short-record = λ newest v kind rs rest t g k h l.
       fault-said newest v kind 0 rs rest t g (sym (presence-fault newest v kind rest k (placed-behind v kind (taken-small newest v t .0) h) l));
+  bad-quantiser = λ newest v mode rs five more t g l b. one-refused newest v mode 6 rs five more t g l (set-refused _ _ mode (inl b));
+  bad-mode = λ newest v mode rs five more t g l b m. one-refused newest v mode 4 rs five more t g l (mode-refused _ _ mode b b m);
+  bad-either = λ newest mode rs luma chroma more t g l c b. two-refused newest mode 6 rs luma chroma more t g l c (set-refused _ _ mode b);
+  bad-mode-behind = λ newest mode rs luma chroma more t g l c a b m. two-refused newest mode 4 rs luma chroma more t g l c (mode-refused _ _ mode a b m);
   equal-written = equal-store;
   else-written = else-store;
   kept-back = back;

@@ -6,17 +6,18 @@ use mathlib.Core.Bool.{Bool, true, false}
 use mathlib.Core.Logic.{_⊎_, inl, inr, ⊎-elim}
 use mathlib.Core.List.{List, [], _∷_, _++_, append-assoc, append-nil}
 use native.Mathlib.Omega.{arith}
-use borrow.Author.Tests.{ne-eqb, le-leb, lt-leb, eqb-true}
+use borrow.Author.Tests.{eq-eqb, ne-eqb, le-leb, lt-leb, eqb-true}
 use lib.Dec.{eqb, leb}
 use lib.ListN.{length, getD, take, drop, length-append}
-use lib.Seq.{drop-at, getD-at}
+use lib.Seq.{take-at, drop-at, getD-at}
 use Rattle.whole.specs.Row.{_!_⨾_, _⇒_∣_, _⨟_}
 use Rattle.whole.specs.laws.Row.{passes, fails, case-yes, case-no, goes-on, stops}
 use Rattle.wire.specs.Le.{le16, bytes16}
-use Rattle.bands.specs.Bands.{quantOf}
+use Rattle.wire.specs.Mode.{isMode}
+use Rattle.bands.specs.Bands.{quantOf, isGood}
 use Rattle.bands.specs.laws.Band.{good-set}
 use Rattle.quants.specs.Quants.{quantBytes}
-use Rattle.quants.specs.laws.Quants.{set-five, set-read}
+use Rattle.quants.specs.laws.Quants.{set-five, quant-back}
 use Rattle.settings.specs.Settings.{settings, noSettings, Kept, Refused, state, start, bodyOf, known, placed, takes, settingsFault, settingsIn}
 use Rattle.settings.specs.Settings.{frontFault, bytesFault, recordFault, after, ended, unless, walk, readSettings, versionRecord, oneRecord}
 use Rattle.settings.specs.Settings.{twoRecord, GoodSettings}
@@ -114,6 +115,11 @@ first-refused : (newest kind n : ℕ) (rest : List ℕ) → recordFault newest 0
 unfolding readSettings walk unless
 first-refused newest kind n rest e = rw e
 
+pub version-cut : (newest : ℕ) (rest : List ℕ) → length rest < 2 → readSettings newest (0 ∷ rest) ≡ Refused 1
+unfolding placed _⇒_∣_
+version-cut newest rest l =
+    first-refused newest 0 0 rest (sym (presence-fault newest 0 0 rest (first-known 0) refl (let b = R.body-0 0 refl in omega arith)))
+
 pub version-refused : (newest v : ℕ) (rest : List ℕ) → v < 65536 → takes newest v ≡ false → readSettings newest (versionRecord v ++ rest) ≡ Refused 14
 unfolding versionRecord
 version-refused newest v rest h t = first-refused newest 0 13 (bytes16 v ++ rest) (version-fault newest v rest ∙ sym (other-bytes newest v rest h t))
@@ -160,33 +166,39 @@ good-step newest v kind any last t body rest hv k hk l e f =
     ∙ ap₂ (λ (s : State) (bs : List ℕ). walk newest s 0 bs) (counts (state v any last) kind (body ++ rest) hk ∙ ap (state v true) e)
     (drop-at body rest (bodyOf kind) l))
 
--- its fields, as they were written
-one-read : (q rest : List ℕ) (mode : ℕ) → GoodSettings (settings q q mode) → settingsIn 1 ((quantBytes q ++ (mode ∷ [])) ++ rest) ≡ settings q q mode
+-- its fields, as they stand
+pub one-raw : (five rest : List ℕ) (mode : ℕ) → length five ≡ 5 → settingsIn 1 (five ++ (mode ∷ rest)) ≡ settings (quantOf five) (quantOf five) mode
 unfolding settingsIn
+one-raw five rest mode l =
+    sym (case-yes (eqb 1 1) _ _ _ refl (sym (rw (take-at five (mode ∷ rest) 5 l, getD-at five mode rest 0 5 l))))
+
+pub two-raw : (luma chroma rest : List ℕ) (mode : ℕ) → length luma ≡ 5 → length chroma ≡ 5 →
+    settingsIn 2 (luma ++ (chroma ++ (mode ∷ rest))) ≡ settings (quantOf luma) (quantOf chroma) mode
+unfolding settingsIn
+two-raw luma chroma rest mode l c =
+    let more = chroma ++ (mode ∷ rest) in
+    let m : getD (luma ++ more) 10 0 ≡ mode =
+    ap (λ (bs : List ℕ). getD bs 10 0) (sym (append-assoc luma chroma (mode ∷ rest)))
+    ∙ getD-at (luma ++ chroma) mode rest 0 10 (omega (arith, length-append luma chroma)) in
+    sym (case-no (eqb 2 1) _ _ _ refl (sym (rw (take-at luma more 5 l, drop-at luma more 5 l, take-at chroma (mode ∷ rest) 5 c, m))))
+
+-- and as they were written
+one-read : (q rest : List ℕ) (mode : ℕ) → GoodSettings (settings q q mode) → settingsIn 1 ((quantBytes q ++ (mode ∷ [])) ++ rest) ≡ settings q q mode
 one-read q rest mode g =
-    let a = append-assoc (quantBytes q) (mode ∷ []) rest in
-    let x : quantOf (take 5 (quantBytes q ++ (mode ∷ rest))) ≡ q = set-read q (mode ∷ rest) (g .luma) (good-set q (fine _ (g .fine) .luma)) in
-    let m : getD (quantBytes q ++ (mode ∷ rest)) 5 0 ≡ mode = getD-at (quantBytes q) mode rest 0 5 (set-five q (g .luma)) in
-    sym (case-yes (eqb 1 1) _ _ _ refl (sym (rw (a, x, m))))
+    ap (settingsIn 1) (append-assoc (quantBytes q) (mode ∷ []) rest)
+    ∙ (one-raw (quantBytes q) rest mode (set-five q (g .luma))
+    ∙ ap (λ (v : List ℕ). settings v v mode) (quant-back q (g .luma) (good-set q (fine _ (g .fine) .luma))))
 
 two-read : (luma chroma rest : List ℕ) (mode : ℕ) → GoodSettings (settings luma chroma mode) →
     settingsIn 2 ((quantBytes luma ++ (quantBytes chroma ++ (mode ∷ []))) ++ rest) ≡ settings luma chroma mode
-unfolding settingsIn
 two-read luma chroma rest mode g =
     let f = fine _ (g .fine) in
-    let l = set-five luma (g .luma) in
-    let c = set-five chroma (g .chroma) in
-    let more = quantBytes chroma ++ (mode ∷ rest) in
-    let a : (quantBytes luma ++ (quantBytes chroma ++ (mode ∷ []))) ++ rest ≡ quantBytes luma ++ more =
-    append-assoc (quantBytes luma) (quantBytes chroma ++ (mode ∷ [])) rest
-    ∙ ap (λ (x : List ℕ). quantBytes luma ++ x) (append-assoc (quantBytes chroma) (mode ∷ []) rest) in
-    let x : quantOf (take 5 (quantBytes luma ++ more)) ≡ luma = set-read luma more (g .luma) (good-set luma (f .luma)) in
-    let d : drop 5 (quantBytes luma ++ more) ≡ more = drop-at (quantBytes luma) more 5 l in
-    let y : quantOf (take 5 more) ≡ chroma = set-read chroma (mode ∷ rest) (g .chroma) (good-set chroma (f .chroma)) in
-    let m : getD (quantBytes luma ++ more) 10 0 ≡ mode =
-    ap (λ (bs : List ℕ). getD bs 10 0) (sym (append-assoc (quantBytes luma) (quantBytes chroma) (mode ∷ rest)))
-    ∙ getD-at (quantBytes luma ++ quantBytes chroma) mode rest 0 10 (omega (arith, length-append (quantBytes luma) (quantBytes chroma))) in
-    sym (case-no (eqb 2 1) _ _ _ refl (sym (rw (a, x, d, y, m))))
+    ap (settingsIn 2)
+    (append-assoc (quantBytes luma) (quantBytes chroma ++ (mode ∷ [])) rest
+    ∙ ap (λ (x : List ℕ). quantBytes luma ++ x) (append-assoc (quantBytes chroma) (mode ∷ []) rest))
+    ∙ (two-raw (quantBytes luma) (quantBytes chroma) rest mode (set-five luma (g .luma)) (set-five chroma (g .chroma))
+    ∙ ap₂ (λ (v u : List ℕ). settings v u mode) (quant-back luma (g .luma) (good-set luma (f .luma)))
+    (quant-back chroma (g .chroma) (good-set chroma (f .chroma))))
 
 record-walked : (newest v : ℕ) (any : Bool) (last : Settings) (r : Setting) (rest : List ℕ) → 1 ≤ v → known v (kindOf r) ≡ true → GoodSettings (saidBy r) →
     walk newest (state v any last) 0 (recordOf r ++ rest) ≡ walk newest (state v true (saidBy r)) 0 rest
@@ -250,3 +262,66 @@ pub fault-said : (newest v kind n : ℕ) (rs : List Setting) (rest : List ℕ) �
 unfolding walk unless
 fault-said newest v kind n rs rest t g e =
     store-walked newest v rs (kind ∷ rest) t g ∙ rw (version-stays v false noSettings rs, e)
+
+-- ---- bytes that are refused as they stand, behind a version
+
+-- kind, place and presence are in order: the settings' fault decides
+body-fault : (newest v kind n : ℕ) (body : List ℕ) (s : Settings) → 1 ≤ v → known v kind ≡ true → 1 ≤ kind → bodyOf kind ≤ length body →
+    settingsIn kind body ≡ s → n ≡ settingsFault s → n ≡ recordFault newest v kind body
+unfolding recordFault frontFault bytesFault
+body-fault newest v kind n body s hv k hk l e f =
+    goes-on _ _ _
+    (sym (passes _ _ _ _ k (passes _ _ _ _ (placed-behind v kind hv hk) (passes _ _ _ _ (le-leb (bodyOf kind) (length body) l) refl))))
+    (case-no (eqb kind 0) _ _ _ (ne-eqb kind 0 (λ z. omega arith)) (f ∙ ap settingsFault (sym e)))
+
+module _ (luma chroma : List ℕ) (mode : ℕ) where
+  pub set-refused : (isGood luma ≡ false) ⊎ (isGood chroma ≡ false) → 7 ≡ settingsFault (settings luma chroma mode)
+  unfolding settingsFault _!_⨾_
+  set-refused (inl l) = fails _ _ _ _ l refl
+  set-refused (inr c) = first (isGood luma) (fails _ _ _ _ c refl)
+    where
+      first : (t : Bool) {rest : ℕ} → 7 ≡ rest → 7 ≡ (t ! 7 ⨾ rest)
+      first true e = e
+      first false e = refl
+
+  pub mode-refused : isGood luma ≡ true → isGood chroma ≡ true → isMode mode ≡ false → 5 ≡ settingsFault (settings luma chroma mode)
+  unfolding settingsFault
+  mode-refused l c m = passes _ _ _ _ l (passes _ _ _ _ c (fails _ _ _ _ m refl))
+
+known-one : (newest v : ℕ) → takes newest v ≡ true → known v 1 ≡ true
+unfolding known
+known-one newest v t = ⊎-elim (λ e. rw e (sym (case-yes (eqb 1 1) _ _ _ refl refl))) (λ e. rw e (sym (case-no (eqb 2 1) _ _ _ refl refl))) (taken-is newest v t)
+
+known-two : known 2 2 ≡ true
+unfolding known _⇒_∣_
+known-two = refl
+
+-- kind 1
+pub one-refused : (newest v mode n : ℕ) (rs : List Setting) (five more : List ℕ) → takes newest v ≡ true → AllGood v rs → length five ≡ 5 →
+    suc n ≡ settingsFault (settings (quantOf five) (quantOf five) mode) → readSettings newest (storeOf v rs ++ (1 ∷ (five ++ (mode ∷ more)))) ≡ Refused (suc n)
+one-refused newest v mode n rs five more t g l f =
+    fault-said newest v 1 n rs (five ++ (mode ∷ more)) t g
+    (sym (body-fault newest v 1 (suc n) _ _ (taken-small newest v t .0) (known-one newest v t) (omega arith)
+    (let b = R.body-1 1 refl in let a = length-append five (mode ∷ more) in omega arith) (one-raw five more mode l) f))
+
+-- kind 2
+pub two-refused : (newest mode n : ℕ) (rs : List Setting) (luma chroma more : List ℕ) → takes newest 2 ≡ true → AllGood 2 rs → length luma ≡ 5 →
+    length chroma ≡ 5 → suc n ≡ settingsFault (settings (quantOf luma) (quantOf chroma) mode) →
+    readSettings newest (storeOf 2 rs ++ (2 ∷ (luma ++ (chroma ++ (mode ∷ more))))) ≡ Refused (suc n)
+two-refused newest mode n rs luma chroma more t g l c f =
+    fault-said newest 2 2 n rs (luma ++ (chroma ++ (mode ∷ more))) t g
+    (sym (body-fault newest 2 2 (suc n) _ _ (omega arith) known-two (omega arith)
+    (let b = R.body-2 2 (λ z. omega arith) (λ z. omega arith) in
+    let x = length-append luma (chroma ++ (mode ∷ more)) in
+    let y = length-append chroma (mode ∷ more) in
+    omega arith) (two-raw luma chroma more mode l c) f))
+
+-- which kinds are foreign
+pub foreign : (v kind : ℕ) → (2 < kind) ⊎ ((v ≡ 1) × (1 < kind)) → known v kind ≡ false
+unfolding known _⇒_∣_
+foreign v kind (inl l) = either-way (eqb v 1)
+  where
+    either-way : (t : Bool) → (t ⇒ leb kind 1 ∣ leb kind 2) ≡ false
+    either-way true = lt-leb kind 1 (omega arith)
+    either-way false = lt-leb kind 2 l
+foreign v kind (inr l) = sym (case-yes (eqb v 1) _ _ _ (eq-eqb v 1 (l .0)) (sym (lt-leb kind 1 (l .1))))

@@ -1,29 +1,35 @@
 -- All that specs/Request states is so.
 -- Assumes nothing.
-use Prim.Native.Nat.{ℕ, zero, suc}
+use Prim.Native.Nat.{ℕ, zero, suc, _+_, _*_, _≤_}
 use mathlib.Core.Path.{_≡_, refl, sym, _∙_, subst}
 use mathlib.Core.List.{List, [], _∷_}
+use native.Mathlib.Omega.{arith}
+use borrow.Author.Tests.{le-leb}
 use lib.Dec.{leb}
 use lib.ListN.{length, getD}
 use Rattle.whole.specs.Row.{_!_⨾_, _⇒_∣_, _⨟_}
-use Rattle.whole.specs.laws.Row.{stops, goes-on}
+use Rattle.whole.specs.laws.Row.{passes, stops, goes-on}
 use Rattle.whole.specs.Among.{among, Among}
-use Rattle.whole.specs.laws.Among.{numbers, each, among-then, among-all}
+use Rattle.whole.specs.laws.Among.{numbers, said, each, among-then, among-all}
 use Rattle.wire.specs.Wrote.{writingNumber, outLeft}
 use Rattle.bits.specs.laws.Bytes.{Bytes}
 use Rattle.quants.specs.Quants.{quantFor, oneFor}
+use Rattle.frame_pieces.specs.Parts.{tilesNo}
 use Rattle.frame_write.specs.Picked.{framePicked, refusalsPicked, sendFaultPicked}
 use Rattle.frame_write.specs.laws.Picked.{all-frame, all-picture}
 use Rattle.frame_write.specs.laws.Stops.{none-stops}
 use Rattle.frame_readback.specs.Own.{wordBack, wordOver}
 use Rattle.bounds.specs.laws.Refuses.{tile-taken}
 use Rattle.plan.specs.Plan.{picksFault}
+use Rattle.plan.specs.laws.Lists.{rising-few}
 use Rattle.plan.specs.laws.Request.{fault-of-list}
 use Rattle.short_write.specs.Short.{shortFault, ShortWritten}
-use Rattle.short_write.specs.laws.Short.{OwnGood, own-good, short-once}
+use Rattle.short_write.specs.laws.Short.{OwnGood, own-good, list-good, short-once}
 use Rattle.short_write.specs.laws.Numbers as ShortNumbers
 use Rattle.short_readback.specs.Request.{WriteShort, ownOf, checkOf, RequestElevenFrames}
 use Rattle.short_readback.specs.laws.AllTiles.{as-full, no-tiles}
+use Rattle.short_readback.specs.laws.Full.{full-shows, as-the-full}
+use Rattle.short_readback.specs.laws.Room.{short-fits}
 use Rattle.short_readback.specs.laws.Shows.{checked, bytes-are, leaves-showing}
 
 module _ (c : WriteShort) where
@@ -85,6 +91,43 @@ module _ (c : WriteShort) where
             (ShortNumbers.own-among (c .width) (c .height) (c .mode) (c .quants) (length (c .old)) (length (c .new)) (length (c .list))
             (length (c .scratch))) refl)
 
+    -- ---- with room for a full frame there is no 13
+
+    abbrev fewer : List ℕ
+    fewer = 0 ∷ 5 ∷ 7 ∷ 2 ∷ 16 ∷ 8 ∷ 17 ∷ []
+
+    module _ (fits : 77 + 196624 * tilesNo (c .width) (c .height) ≤ length (c .out)) where
+      room-there : 0 ≡ ownOf c → 0 ≡ list-fault → send-fault ≡ 0
+      room-there e f =
+          let o = good e in
+          let g = o .args .picture in
+          let a = list-good (c .width) (c .height) (c .old) (c .new) (c .picks) (o .pictures) f in
+          let few = rising-few (tilesNo (c .width) (c .height)) (c .picks) (a .order) (a .exist) in
+          let n =
+          short-fits (c .index) (c .width) (c .height) (c .mode) (c .quants) (c .new) (c .picks) bytes (g .luma) (g .chroma) (c .luma) (c .chroma) few in
+          only-room e
+          ∙ sym (passes _ _ _ _ (le-leb (length (framePicked (c .index) (c .width) (c .height) (c .mode) (c .quants) (c .new) (c .picks))) (length (c .out))
+          (omega arith)) refl)
+
+      later-there : 0 ≡ ownOf c → Among fewer (list-fault ⨟ send-fault)
+      unfolding _⨟_ each among
+      later-there e = by list-fault refl
+        where
+          by : (f : ℕ) → list-fault ≡ f → Among fewer (f ⨟ send-fault)
+          by zero g = subst (Among fewer) (sym (room-there e (sym g))) (said refl)
+          by (suc f) g = subst (Among fewer) g (among-all fewer (ShortNumbers.list-among (c .old) (c .new) (c .width) (c .height) (c .picks)) refl)
+
+      always-room : Among fewer (writingNumber (c .answer))
+      unfolding _⨟_ each among
+      always-room = subst (Among fewer) (sym number-is) (by (ownOf c) refl)
+        where
+          by : (f : ℕ) → ownOf c ≡ f → Among fewer (f ⨟ (list-fault ⨟ send-fault))
+          by zero e = later-there (sym e)
+          by (suc f) e =
+              subst (Among fewer) e (among-all fewer
+              (ShortNumbers.own-among (c .width) (c .height) (c .mode) (c .quants) (length (c .old)) (length (c .new)) (length (c .list))
+              (length (c .scratch))) refl)
+
 -- a refused writer leaves its output
 refused-left : (f : ℕ) (bytes out : List ℕ) → (f ≡ 0 → ⊥) → outLeft f bytes out ≡ out
 unfolding outLeft
@@ -110,6 +153,9 @@ requestElevenFrames = record {
       (c .scratch) (c .scratch′) (c .out) (c .out′) (c .answer)) e (c .promise));
   no-tiles = no-tiles;
   leaves-showing = λ glass either c e. leaves-showing c e glass either;
+  full-shows = λ glass either c f o pic pic′ r d. full-shows glass either c f o pic pic′ r d;
+  as-the-full = λ glass either c f e o pic a b r s shows d g. as-the-full glass either c f e o pic a b r s shows d g;
+  always-room = always-room;
   one-set-words = one-set-words;
   one-answer = λ c list′ scratch′ out′ r x. short-once _ _ _ _ _ _ _ _ _ _ _ _ _ _ _ _ _ _ _ (c .promise) x;
   work-untouched = λ c e. ShortNumbers.work-untouched _ _ _ _ _ _ _ _ _ _ _ _ _ _ _ (c .promise) e;
