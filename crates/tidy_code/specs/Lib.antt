@@ -1,3 +1,3 @@
-pub mod Loose
+pub mod Longer
 pub mod Request
-pub mod laws
+pub mod Sent
