@@ -6,6 +6,7 @@ use lib.IntN.{ℤ, pos}
 use lib.ListN.{length, replicate}
 use Rattle.whole.specs.Among.{Among}
 use Rattle.bits.specs.laws.Bytes.{Bytes}
+use Rattle.code.specs.Cases.{Both}
 use Rattle.code.specs.OneCode.{Listed}
 use Rattle.code.specs.Read.{readFault, decoded}
 use Rattle.code_write.specs.Write.{bytesOf}
@@ -34,11 +35,12 @@ pub record TidyCodes : Type 1 where
   -- it is 01's bytes of that list, and never longer than what came
   pub is-code : (s mode : ℕ) (b : List ℕ) (zs : List ℤ) → meantBy s mode b ≡ means zs → tidyCode s mode b ≡ bytesOf mode zs
   pub never-longer : (s mode : ℕ) (b : List ℕ) → length (tidyCode s mode b) ≤ length b
-  -- what is unclear stays as it is; only codes that the panel takes or refuses with 11 or 10 mean anything
+  -- what is unclear stays as it is; of what strict and FreeRDP's filter take the panel says 0 or 11
   pub others-kept : (s mode : ℕ) (b : List ℕ) → meantBy s mode b ≡ unclear → tidyCode s mode b ≡ b
-  pub of-these-kinds : (s mode : ℕ) (b : List ℕ) (zs : List ℤ) → meantBy s mode b ≡ means zs → Among (0 ∷ 10 ∷ 11 ∷ []) (readFault mode 4096 b)
+  pub of-these-kinds :
+      (s mode : ℕ) (b : List ℕ) (zs : List ℤ) → meantBy s mode b ≡ means zs → (s ≡ 2 → ⊥) → Among (0 ∷ 11 ∷ []) (readFault mode 4096 b)
   -- tidying twice is tidying once
   pub once : (s mode : ℕ) (b : List ℕ) → Bytes b → tidyCode s mode (tidyCode s mode b) ≡ tidyCode s mode b
   -- not empty: in both modes FreeRDP's and the sample's own form of 4,096 zeros mean them, and are not 01's, which are 00 00 00
-  pub zeros-one : (mode : ℕ) → Among (1 ∷ 4 ∷ []) mode → meantBy 1 mode (0x00 ∷ 0x00 ∷ 0x00 ∷ 0x00 ∷ []) ≡ means (replicate 4096 (pos 0))
-  pub zeros-two : (mode : ℕ) → Among (1 ∷ 4 ∷ []) mode → meantBy 2 mode (0x00 ∷ 0x00 ∷ 0x08 ∷ 0x09 ∷ 0x00 ∷ 0x00 ∷ []) ≡ means (replicate 4096 (pos 0))
+  pub zeros-one : Both (λ mode. meantBy 1 mode (0x00 ∷ 0x00 ∷ 0x00 ∷ 0x00 ∷ []) ≡ means (replicate 4096 (pos 0)))
+  pub zeros-two : Both (λ mode. meantBy 2 mode (0x00 ∷ 0x00 ∷ 0x08 ∷ 0x09 ∷ 0x00 ∷ 0x00 ∷ []) ≡ means (replicate 4096 (pos 0)))

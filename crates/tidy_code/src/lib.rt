@@ -5,7 +5,7 @@ ghost use mathlib.Core.Path.{_≡_};
 ghost use Prim.Native.Nat.{_+_, _≤_};
 ghost use lib.ListN.{length};
 ghost use Rattle.wire.specs.Le.{patch};
-ghost use Rattle.tidy_code.specs.Sent.{isSender, paddedMeant, surplusMeant, othersMeant, meantBy, listMeant, tidyCode, Answers, MeantRead};
+ghost use Rattle.tidy_code.specs.Sent.{isSender, unclear, paddedMeant, surplusMeant, othersMeant, meantBy, listMeant, tidyCode, Answers, MeantRead};
 
 mod element;
 mod longer;
@@ -15,6 +15,15 @@ pub fn is_sender(sender: u8) -> bool
     ensures { λ r. ⌜ r ≡ isSender sender ⌝ }
 {
     sender <= 2
+}
+
+// Nothing is meant: the list is left with zeros.
+fn refuse(list: &mut [i32]) -> bool
+    requires { ⌜ length (now list) ≡ 4096 ⌝ }
+    ensures { λ r. ⌜ Answers unclear (now (list .exit)) r ⌝ }
+{
+    whole::clear(list);
+    false
 }
 
 // 01's bytes of a list whose last byte has at most three bits free: FreeRDP puts one byte 00 behind such codes.
@@ -27,9 +36,9 @@ fn read_padded(mode: u8, w: &[u8], list: &mut [i32]) -> bool
         if 5 <= code::read::reading_bits(a) % 8 {
             return true;
         }
+        return refuse(list);
     }
-    whole::clear(list);
-    false
+    refuse(list)
 }
 
 // A sender's own form without its last byte.
@@ -43,8 +52,7 @@ fn read_surplus(sender: u8, mode: u8, w: &[u8], list: &mut [i32]) -> bool
     if sender == 2 {
         return longer::read_longer(w, mode == 4, list);
     }
-    whole::clear(list);
-    false
+    refuse(list)
 }
 
 // Bytes that are not 01's: those of the sender, which end with 00.
@@ -58,9 +66,9 @@ fn read_others(sender: u8, mode: u8, s: &[u8], list: &mut [i32]) -> bool
         if s[m] == 0 {
             return read_surplus(sender, mode, &s[..m], list);
         }
+        return refuse(list);
     }
-    whole::clear(list);
-    false
+    refuse(list)
 }
 
 // Reads the list that a component's bytes mean for a sender: whether they mean one. The list holds zeros where they do not.

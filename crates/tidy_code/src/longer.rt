@@ -122,18 +122,15 @@ pub fn read_longer(s: &[u8], rlgr3: bool, list: &mut [i32]) -> bool
 {
     whole::clear(list);
     match fill(s, rlgr3, list) {
-        Filled::Bad => {
-            whole::clear(list);
-            false
-        }
+        Filled::Bad => crate::refuse(list),
         Filled::Whole(at, last) => {
             if clean_tail(s, at) {
                 if last == 1 {
                     return true;
                 }
+                return crate::refuse(list);
             }
-            whole::clear(list);
-            false
+            crate::refuse(list)
         }
     }
 }

@@ -1,34 +1,23 @@
+-- A place of the list takes the value as it is (`same-bits`, `store-in`); the last is the number beside it (`store-last`).
+use mathlib.Core.Path.{ap}
+use native.Mathlib.Omega.{arith}
 use borrow.Author.Needs.{needs}
+use lib.IntN.{ℤ}
+use lib.ListN.{set}
+use Rattle.code.specs.laws.Place.{same-bits}
+use Rattle.tidy_code.specs.laws.Longer.{store-in, store-last}
 use Rattle.tidy_code.proofs.longer.store.Statement.{statement}
 use Rattle.tidy_code.proofs.longer.store.Tie as tie
-use Rattle.tidy_code.proofs.longer.store.Reads as reads
-use Rattle.tidy_code.proofs.longer.store.Lts as lts
-use Rattle.code.proofs.element.unfolded.Reads as unfolded-reads
 
--- src/longer.rt:45:19
-unfolded-requires : tie.Need-unfolded-requires
-unfolded-requires c κs = search needs
-
--- src/longer.rt:45:9
-mul-t8 : tie.Need-mul-t8
-mul-t8 c = search needs
-
--- src/longer.rt:45:9
-slice-set-from-list : tie.Need-slice-set-from-list
-slice-set-from-list c = search needs
-
--- src/longer.rt:46:9
-same-length : tie.Need-same-length
-same-length c = search needs
-
--- src/longer.rt:46:9
 returns : tie.Need-returns
-returns c = ?
+returns c =
+    let a = c .before .before .args in
+    let u = c .unfolded in
+    store-in (a .list .now) _ (a .last) (a .i) (a .v) (c .before .if1 .taken)
+    (ap (λ (x : ℤ). set (a .list .now) (a .i) x) (same-bits (u .result) (a .v) (record { sfits = u .ok }) (u .ensures)))
 
--- src/longer.rt:40:1
 returns-2 : tie.Need-returns-2
-returns-2 c = ?
+returns-2 c = let a = c .before .args in store-last (a .list .now) (a .last) (a .i) (a .v) (omega (arith, c .before .pre, c .if1 .left))
 
 pub store-spec : {M : Type 1} → statement M
-store-spec =
-    tie.close (tie.spec unfolded-requires mul-t8 slice-set-from-list same-length returns returns-2)
+store-spec = tie.close (tie.spec (λ c κs. search needs) (λ c. search needs) (λ c. search needs) (λ c. search needs) returns returns-2)
