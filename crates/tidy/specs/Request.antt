@@ -52,7 +52,7 @@ pub record TidyFrames : Type 1 where
   -- one answer: two that meet the promise for the same input are equal, the lent lists too
   pub one-answer :
       (sd : ℕ) (s : Session) (m : List ℕ) (list a b : List ℤ) (out x y : List ℕ) (r q : Tidied) → FrameTidied sd s m list a out x r →
-      FrameTidied sd s m list b out y q → (r ≡ q) × ((a ≡ b) × (x ≡ y))
+      FrameTidied sd s m list b out y q → (r .number ≡ q .number) × (r .size ≡ q .size) × (r .cut ≡ q .cut) × (a ≡ b) × (x ≡ y)
 
 -- ---- headers
 
@@ -85,8 +85,8 @@ pub record TidyHeaders : Type 1 where
   -- one answer of giving a block, and of letting go what waits: two that meet the promise for the same input are equal, the store and the output too
   pub one-answer :
       (fault : ℕ) (bytes : List ℕ) (next w : Waiting) (after store a b out x y : List ℕ) (r q : Gave) → GaveOn fault bytes next w after store a out x r →
-      GaveOn fault bytes next w after store b out y q → (r ≡ q) × ((a ≡ b) × (x ≡ y))
+      GaveOn fault bytes next w after store b out y q → (r .number ≡ q .number) × (r .size ≡ q .size) × (r .waiting ≡ q .waiting) × (a ≡ b) × (x ≡ y)
   -- and with what waits in 38 bytes
   pub one-held :
       (fault : ℕ) (bytes after held a b out x y : List ℕ) (r q : Passed) → HeldGave fault bytes after held a out x r → HeldGave fault bytes after held b out y q →
-      (r ≡ q) × ((a ≡ b) × (x ≡ y))
+      (r .number ≡ q .number) × (r .size ≡ q .size) × (a ≡ b) × (x ≡ y)
