@@ -34,13 +34,13 @@ uint8_t ours_read(const Stream *in, const Picture *p, uint16_t *words)
 
 int ours_tidy(const Stream *in, const Picture *p, uint8_t mode, Stream *out)
 {
-    size_t head = XURBALENZ_HEADERS_SIZE, size = 0, cut = 0;
+    size_t head = XURBALENZ_HEADERS_SIZE, told[2] = {0, 0};
     uint8_t number;
     if (in->size < head || out->room < head) return 0;
     memcpy(out->bytes, in->bytes, head);
-    number = xurbalenz_tidy_frame((uint16_t)p->width, (uint16_t)p->height, mode, in->bytes + head, in->size - head, work.y, XURBALENZ_LIST,
-                                  out->bytes + head, out->room - head, &size, &cut);
-    out->size = head + size;
+    number = xurbalenz_tidy_frame(XURBALENZ_FREERDP, p->width, p->height, mode, in->bytes + head, in->size - head, work.y, XURBALENZ_LIST,
+                                  out->bytes + head, out->room - head, told);
+    out->size = head + told[0];
     return number == XURBALENZ_DONE;
 }
 

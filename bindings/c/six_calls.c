@@ -261,13 +261,14 @@ static void put_number(uint8_t *at, size_t n, int bytes)
     for (; bytes--; n >>= 8) *at++ = (uint8_t)n;
 }
 
-/* A frame of our own with a zero byte behind each code, as FreeRDP leaves them: the panel refuses it, and tidied it is what our writer wrote. */
+/* A frame of our own with a zero byte where FreeRDP puts one, behind each code whose bits mod 8 are 5, 6 or 7: the panel refuses it, and tidied it is what our
+   writer wrote. */
 static void surplus(uint8_t mode)
 {
     static const uint8_t quant[10] = XURBALENZ_DEFAULT_QUANT;
     static uint8_t bent[sizeof out], tidied[sizeof out];
-    xurbalenz_size size = 9, cut = 9, tiles = 9;
-    size_t from = 64, to = 64;
+    xurbalenz_size size = 9, tiles = 9;
+    size_t count = 0, from = 64, to = 64;
     frames(mode);
     memset(pixels + 3 * 65, 100, 9);
     CHECK(xurbalenz_write_frame(70, 40, mode, quant, 5, pixels, sizeof pixels, y, XURBALENZ_LIST, scratch, XURBALENZ_LIST, out, sizeof out, &size) ==
@@ -278,11 +279,14 @@ static void surplus(uint8_t mode)
         memcpy(bent + to, out + from, 19);
         to += 19;
         for (int k = 0; k < 3; k++) {
-            size_t length = number_at(out + from + 13 + 2 * k, 2);
+            size_t length = number_at(out + from + 13 + 2 * k, 2), bits = 0, more;
+            CHECK(xurbalenz_read_component(mode, out + code, length, y, XURBALENZ_LIST, &bits) == XURBALENZ_DONE);
+            more = bits % 8 >= 5;
+            count += more;
             memcpy(bent + to, out + code, length);
             bent[to + length] = 0;
-            put_number(bent + head + 13 + 2 * k, length + 1, 2);
-            to += length + 1;
+            put_number(bent + head + 13 + 2 * k, length + more, 2);
+            to += length + more;
             code += length;
         }
         put_number(bent + head + 2, to - head, 4);
@@ -291,20 +295,45 @@ static void surplus(uint8_t mode)
     put_number(bent + 39, to - 37, 4);
     put_number(bent + 55, to - 64, 4);
     memcpy(bent + to, out + from, 8);
-    CHECK(from + 8 == size && to + 8 == size + 6);
+    CHECK(from + 8 == size && to + 8 == size + count && count > 0);
     CHECK(xurbalenz_read_frame(&session, bent, to + 8, picture, 70 * 40, y, XURBALENZ_LIST, cb, XURBALENZ_LIST, cr, XURBALENZ_LIST, scratch, XURBALENZ_LIST,
                                &tiles) == XURBALENZ_TAIL);
-    xurbalenz_size done = 9;
-    CHECK(xurbalenz_tidy_frame(70, 40, mode, bent, to + 8, y, XURBALENZ_LIST - 1, tidied, sizeof tidied, &done, &cut) == XURBALENZ_BUFFER && done == 0 &&
-          cut == 0);
-    CHECK(xurbalenz_tidy_frame(70, 40, mode, bent, to + 8, y, XURBALENZ_LIST, tidied, to + 7, &done, &cut) == XURBALENZ_ROOM && done == 0 && cut == 0);
-    CHECK(xurbalenz_tidy_frame(70, 40, mode, bent, to + 8, y, XURBALENZ_LIST, tidied, sizeof tidied, &done, &cut) == XURBALENZ_DONE && done == size && cut == 6);
+    xurbalenz_size told[2] = {9, 9};
+    CHECK(xurbalenz_tidy_frame(XURBALENZ_FREERDP, 70, 40, mode, bent, to + 8, y, XURBALENZ_LIST - 1, tidied, sizeof tidied, told) == XURBALENZ_BUFFER && told[0] == 0 &&
+          told[1] == 0);
+    CHECK(xurbalenz_tidy_frame(XURBALENZ_FREERDP, 70, 40, mode, bent, to + 8, y, XURBALENZ_LIST, tidied, to + 7, told) == XURBALENZ_ROOM && told[0] == 0 && told[1] == 0);
+    CHECK(xurbalenz_tidy_frame(XURBALENZ_FREERDP, 70, 40, mode, bent, to + 8, y, XURBALENZ_LIST, tidied, sizeof tidied, told) == XURBALENZ_DONE && told[0] == size && told[1] == count);
     CHECK(memcmp(tidied, out, size) == 0 && all(y, 0));
-    CHECK(xurbalenz_tidy_frame(70, 40, mode, out, size, y, XURBALENZ_LIST, tidied, sizeof tidied, &done, &cut) == XURBALENZ_DONE && done == size && cut == 0);
+    CHECK(xurbalenz_tidy_frame(XURBALENZ_STRICT, 70, 40, mode, bent, to + 8, y, XURBALENZ_LIST, tidied, sizeof tidied, told) == XURBALENZ_DONE &&
+          told[0] == to + 8 && told[1] == 0 && memcmp(tidied, bent, told[0]) == 0);
+    CHECK(xurbalenz_tidy_frame(XURBALENZ_FREERDP, 70, 40, mode, out, size, y, XURBALENZ_LIST, tidied, sizeof tidied, told) == XURBALENZ_DONE && told[0] == size && told[1] == 0);
     CHECK(memcmp(tidied, out, size) == 0);
     bent[12] = 2; /* two regions: as it came */
-    CHECK(xurbalenz_tidy_frame(70, 40, mode, bent, to + 8, y, XURBALENZ_LIST, tidied, sizeof tidied, &done, &cut) == XURBALENZ_DONE && done == to + 8 &&
-          cut == 0 && memcmp(tidied, bent, done) == 0);
+    CHECK(xurbalenz_tidy_frame(XURBALENZ_FREERDP, 70, 40, mode, bent, to + 8, y, XURBALENZ_LIST, tidied, sizeof tidied, told) == XURBALENZ_DONE && told[0] == to + 8 &&
+          told[1] == 0 && memcmp(tidied, bent, told[0]) == 0);
+    CHECK(xurbalenz_tidy_frame(3, 70, 40, mode, bent, to + 8, y, XURBALENZ_LIST - 1, tidied, 0, told) == XURBALENZ_FIELD && told[0] == 0 && told[1] == 0);
+    bent[12] = 1; /* 65,936 is no width, and not 400: as it came */
+    CHECK(xurbalenz_tidy_frame(XURBALENZ_FREERDP, 65536 + 70, 40, mode, bent, to + 8, y, XURBALENZ_LIST, tidied, sizeof tidied, told) == XURBALENZ_DONE &&
+          told[0] == to + 8 && told[1] == 0);
+}
+
+/* FreeRDP's order, sync, context, versions, channels: what goes on is the panel's; another length of what is held is 2, too little room 13, and nothing changes. */
+static void ordered(void)
+{
+    uint8_t held[XURBALENZ_HELD_SIZE] = {0}, blocks[XURBALENZ_HEADERS_SIZE], sent[128];
+    xurbalenz_size size = 9;
+    size_t done = 0;
+    CHECK(xurbalenz_write_headers(70, 40, XURBALENZ_RLGR3, blocks, sizeof blocks, &size) == XURBALENZ_DONE && size == 47);
+    CHECK(xurbalenz_tidy_header(held, sizeof held - 1, blocks, 12, sent, sizeof sent, &size) == XURBALENZ_BUFFER && size == 0);
+    CHECK(xurbalenz_tidy_header(held, sizeof held, blocks, 12, sent, 46, &size) == XURBALENZ_ROOM && size == 0);
+    CHECK(xurbalenz_tidy_header(held, sizeof held, blocks, 12, sent, 47, &size) == XURBALENZ_DONE && size == 12);
+    done += size;
+    CHECK(xurbalenz_tidy_header(held, sizeof held, blocks + 34, 13, sent + done, sizeof sent - done, &size) == XURBALENZ_DONE && size == 0);
+    CHECK(xurbalenz_tidy_header(held, sizeof held, blocks + 12, 10, sent + done, sizeof sent - done, &size) == XURBALENZ_DONE && size == 0);
+    CHECK(xurbalenz_tidy_flush(held, sizeof held, sent + done, 34, &size) == XURBALENZ_ROOM && size == 0);
+    CHECK(xurbalenz_tidy_header(held, sizeof held, blocks + 22, 12, sent + done, sizeof sent - done, &size) == XURBALENZ_DONE && size == 35);
+    CHECK(memcmp(sent, blocks, sizeof blocks) == 0);
+    CHECK(xurbalenz_tidy_flush(held, sizeof held, sent, sizeof sent, &size) == XURBALENZ_DONE && size == 0);
 }
 
 int main(void)
@@ -322,6 +351,7 @@ int main(void)
     works(XURBALENZ_RLGR3);
     changes(XURBALENZ_RLGR3);
     surplus(XURBALENZ_RLGR3);
+    ordered();
     printf("six_calls: %d checks, %d faults\n", checks, faults);
     return faults != 0;
 }

@@ -95,10 +95,13 @@ static void short_frame(void)
 static void tidied(void)
 {
     static uint8_t bent[sizeof frame], sent[sizeof frame];
-    xurbalenz_size cut;
+    static uint8_t held[XURBALENZ_HELD_SIZE];
+    xurbalenz_size told[2];
     memcpy(bent, frame, frame_size);
     bent[frame_size - 9] |= 1;
-    judge(xurbalenz_tidy_frame(70, 40, XURBALENZ_RLGR3, bent, frame_size, work.y, XURBALENZ_LIST, sent, sizeof sent, &size, &cut));
+    judge(xurbalenz_tidy_frame(XURBALENZ_SAMPLE, 70, 40, XURBALENZ_RLGR3, bent, frame_size, work.y, XURBALENZ_LIST, sent, sizeof sent, told));
+    judge(xurbalenz_tidy_header(held, sizeof held, bent, 12, sent, sizeof sent, &size));
+    judge(xurbalenz_tidy_flush(held, sizeof held, sent, sizeof sent, &size));
 }
 
 static void settings(void)

@@ -428,20 +428,43 @@ uint8_t xurbalenz_write_frame_short(xurbalenz_size width, xurbalenz_size height,
 
 /* ---- what other senders write, made acceptable ---- */
 
+/* Who sends: chosen by whoever installs the filter, never guessed from the bytes. */
+#define XURBALENZ_STRICT 0  /* nothing but what the panel takes */
+#define XURBALENZ_FREERDP 1 /* FreeRDP's encoder: one byte 00 behind a code exactly where the code's bits mod 8 are 5, 6 or 7 */
+#define XURBALENZ_SAMPLE 2  /* the encoder of MS-RDPRFX's own sample: one value -1 more, filled up, and one byte 00 */
+
 /*
- * Passes one frame on to a panel behind it, for senders whose codes this library's reader refuses (11, 10) although their meaning is plain: surplus bits, fewer
- * than 32, behind a code that is complete (FreeRDP leaves a zero byte), and a last value that has no place (a habit of MS-RDPRFX's own encoder). message is the
- * frame; width, height and mode are those of the session's headers. list: a work list of 4,096 numbers.
+ * Passes one frame on to a panel behind it, for senders whose codes this library's reader refuses (11, 10): each of them writes one byte string for a list of
+ * 4,096 numbers, and a code that is the sender's own byte string of a list is written again as the panel reads it. Nothing else is changed. message is the frame;
+ * width, height and mode are those of the session's headers (of another size than 1 to 4,096 by 1 to 2,048 there is no session, and the frame goes on as it came).
+ * list: a work list of 4,096 numbers.
  *
- * A frame that the panel accepts goes on byte for byte. One whose only faults are these goes on with such codes written again as the panel reads them, and
- * shows the decoding of the same numbers. Every other frame goes on as it came, to be refused by its number. Never does a frame become longer.
+ * A frame that the panel accepts goes on byte for byte. One whose only faults are such codes goes on with these written again, and shows the decoding of the same
+ * numbers. Every other frame goes on as it came, to be refused by its number. Never does a frame become longer. Whether the bytes are those that were sent is
+ * the link's to hold: RemoteFX has no checksum.
  *
- * Judged in this order: list_len (2), out_len below message_len (13).
- * Afterwards: done - *size bytes of out are the frame to hand on, bytes past them are untouched, *cut is how many of its codes were changed (0: it is as it came), and
- * list holds only zeros; refused - out and list are untouched, *size and *cut are 0.
+ * Judged in this order: sender above 2 (5), list_len (2), out_len below message_len (13).
+ * Afterwards: done - told[0] bytes of out are the frame to hand on, bytes past them are untouched, told[1] is how many of its codes were changed (0: it is as it
+ * came), and list holds only zeros; refused - out and list are untouched, told is 0, 0.
  */
-uint8_t xurbalenz_tidy_frame(uint16_t width, uint16_t height, uint8_t mode, const uint8_t *message, xurbalenz_size message_len, int32_t *list,
-                             xurbalenz_size list_len, uint8_t *out, xurbalenz_size out_len, xurbalenz_size *size, xurbalenz_size *cut);
+uint8_t xurbalenz_tidy_frame(uint8_t sender, xurbalenz_size width, xurbalenz_size height, uint8_t mode, const uint8_t *message, xurbalenz_size message_len, int32_t *list,
+                             xurbalenz_size list_len, uint8_t *out, xurbalenz_size out_len, xurbalenz_size told[2]);
+
+/* The bytes that hold what waits between two header blocks. */
+#define XURBALENZ_HELD_SIZE 38
+
+/*
+ * Puts header blocks into the panel's order, for every sender: behind a good sync the next three blocks wait until versions, channels and context are all there,
+ * and go on in this order; if another block comes before that, what waits goes on as it came, and the block behind it. Nothing is lost. Give every header block of
+ * the stream, whole, one after the other; hand the first *size bytes of out on to the panel, block by block by their lengths. Before a frame, and at the end, let go
+ * what waits. held: XURBALENZ_HELD_SIZE bytes, all zeros at first, handed from call to call.
+ *
+ * Judged in this order: held_len, or what stands in held was not left there by these calls (2); out_len below 35 and the block's length, for letting go below 35,
+ * whatever goes on (13).
+ * Afterwards: done - *size bytes of out go on, bytes past them are untouched; refused - nothing changes, *size is 0.
+ */
+uint8_t xurbalenz_tidy_header(uint8_t *held, xurbalenz_size held_len, const uint8_t *block, xurbalenz_size block_len, uint8_t *out, xurbalenz_size out_len, xurbalenz_size *size);
+uint8_t xurbalenz_tidy_flush(uint8_t *held, xurbalenz_size held_len, uint8_t *out, xurbalenz_size out_len, xurbalenz_size *size);
 
 /* ---- capabilities and acknowledgements ---- */
 

@@ -134,8 +134,9 @@ mod archive {
             size: *mut Size,
         ) -> u8;
         pub fn xurbalenz_tidy_frame(
-            width: u16,
-            height: u16,
+            sender: u8,
+            width: Size,
+            height: Size,
             mode: u8,
             message: *const u8,
             message_len: Size,
@@ -143,9 +144,18 @@ mod archive {
             list_len: Size,
             out: *mut u8,
             out_len: Size,
-            size: *mut Size,
-            cut: *mut Size,
+            told: *mut [Size; 2],
         ) -> u8;
+        pub fn xurbalenz_tidy_header(
+            held: *mut u8,
+            held_len: Size,
+            block: *const u8,
+            block_len: Size,
+            out: *mut u8,
+            out_len: Size,
+            size: *mut Size,
+        ) -> u8;
+        pub fn xurbalenz_tidy_flush(held: *mut u8, held_len: Size, out: *mut u8, out_len: Size, size: *mut Size) -> u8;
         pub fn xurbalenz_read_caps(message: *const u8, message_len: Size, flags: *mut u32, n: *mut u8, entries: *mut [u8; 4]) -> u8;
         pub fn xurbalenz_write_caps(flags: u32, n: u8, entries: *const [u8; 4], out: *mut u8, out_len: Size, size: *mut Size) -> u8;
         pub fn xurbalenz_read_ack_cap(message: *const u8, message_len: Size, count: *mut u32) -> u8;
@@ -485,24 +495,25 @@ pub fn write_frame_short(
     (number, size as usize)
 }
 
-/// Passes one frame of another sender on: the number, the bytes to hand on and how many of its codes were changed (both 0 when refused). A frame that the panel
-/// accepts goes on byte for byte; one whose only faults are surplus bits behind its codes (11) or a last value without a place (10) goes on mended; any other as it
-/// came.
+/// Passes one frame of another sender on (0 strict, 1 FreeRDP, 2 the encoder of MS-RDPRFX's own sample): the number; `told` is how many bytes to hand on and how
+/// many of its codes were changed (both 0 when refused). A frame that the panel accepts goes on byte for byte; one whose only faults are codes that are this
+/// sender's own form of a list goes on mended; any other as it came.
 ///
 /// ```
 /// use xurbalenz::edge::tidy_frame;
-/// let (mut list, mut out) = ([7; 4096], [0; 3]);
-/// assert_eq!((tidy_frame(64, 64, 4, &[1, 2, 3], &mut list, &mut out), out), ((0, 3, 0), [1, 2, 3])); // no frame: as it came
-/// assert_eq!(tidy_frame(64, 64, 4, &[1, 2, 3], &mut list, &mut out[..2]), (13, 0, 0));
+/// let (mut list, mut out, mut told) = ([7; 4096], [0; 3], [9; 2]);
+/// assert_eq!((tidy_frame(1, 64, 64, 4, &[1, 2, 3], &mut list, &mut out, &mut told), out, told), (0, [1, 2, 3], [3, 0])); // no frame: as it came
+/// assert_eq!((tidy_frame(1, 64, 64, 4, &[1, 2, 3], &mut list, &mut out[..2], &mut told), told), (13, [0, 0]));
+/// assert_eq!(tidy_frame(3, 64, 64, 4, &[1, 2, 3], &mut list, &mut out, &mut told), 5); // no sender
 /// ```
 #[inline]
-pub fn tidy_frame(width: u16, height: u16, mode: u8, message: &[u8], list: &mut [i32], out: &mut [u8]) -> (u8, usize, usize) {
-    let mut size = 0;
-    let mut cut = 0;
-    let number = unsafe {
+#[allow(clippy::too_many_arguments)]
+pub fn tidy_frame(sender: u8, width: usize, height: usize, mode: u8, message: &[u8], list: &mut [i32], out: &mut [u8], told: &mut [Size; 2]) -> u8 {
+    unsafe {
         archive::xurbalenz_tidy_frame(
-            width,
-            height,
+            sender,
+            width as Size,
+            height as Size,
             mode,
             message.as_ptr(),
             message.len() as Size,
@@ -510,11 +521,35 @@ pub fn tidy_frame(width: u16, height: u16, mode: u8, message: &[u8], list: &mut 
             list.len() as Size,
             out.as_mut_ptr(),
             out.len() as Size,
-            &mut size,
-            &mut cut,
+            told,
         )
+    }
+}
+
+/// Gives a header block to the order of the headers: the number, and how many bytes of `out` go on (0 when refused). `held` is 38 bytes, all zeros at first. See
+/// [`crate::Tidier`].
+///
+/// ```
+/// use xurbalenz::edge::tidy_header;
+/// let (mut held, mut out) = ([0; 38], [0; 38]);
+/// assert_eq!((tidy_header(&mut held, &[1, 2, 3], &mut out), &out[..3]), ((0, 3), &[1, 2, 3][..])); // no header: it goes on
+/// assert_eq!(tidy_header(&mut held, &[1, 2, 3, 4], &mut out), (13, 0));
+/// ```
+#[inline]
+pub fn tidy_header(held: &mut [u8], block: &[u8], out: &mut [u8]) -> (u8, usize) {
+    let mut size = 0;
+    let number = unsafe {
+        archive::xurbalenz_tidy_header(held.as_mut_ptr(), held.len() as Size, block.as_ptr(), block.len() as Size, out.as_mut_ptr(), out.len() as Size, &mut size)
     };
-    (number, size as usize, cut as usize)
+    (number, size as usize)
+}
+
+/// Lets go what waits: the number, and how many bytes of `out` go on (0 when refused).
+#[inline]
+pub fn tidy_flush(held: &mut [u8], out: &mut [u8]) -> (u8, usize) {
+    let mut size = 0;
+    let number = unsafe { archive::xurbalenz_tidy_flush(held.as_mut_ptr(), held.len() as Size, out.as_mut_ptr(), out.len() as Size, &mut size) };
+    (number, size as usize)
 }
 
 /// Takes bytes of the stream, up to the end of the first message that is whole: the number; to which call the message goes (1 to the header call,

@@ -495,26 +495,96 @@ pub fn write_frame(width: usize, height: usize, mode: Mode, quant: Quant, index:
     in_room(width, height, |out| write_frame_into(width, height, mode, quant, index, pixels, &mut list, &mut scratch, out))
 }
 
+/// Who sends: chosen by whoever installs the filter, never guessed from the bytes.
+#[derive(Clone, Copy, Debug, PartialEq, Eq)]
+pub enum Sender {
+    /// Nothing but what the panel takes.
+    Strict,
+    /// FreeRDP's encoder: one byte 00 behind a code exactly where the code's bits mod 8 are 5, 6 or 7.
+    FreeRdp,
+    /// The encoder of MS-RDPRFX's own sample: one value -1 more, filled up, and one byte 00.
+    Sample,
+}
+
+impl Sender {
+    /// Its number: 0, 1 or 2.
+    pub const fn number(self) -> u8 {
+        match self {
+            Sender::Strict => 0,
+            Sender::FreeRdp => 1,
+            Sender::Sample => 2,
+        }
+    }
+}
+
 /// Passes one frame of another sender on: the frame to hand to the panel, and how many of its codes were changed.
 ///
-/// A frame that the panel accepts is passed on byte for byte. One whose only faults are fewer than 32 surplus bits behind a code (11; FreeRDP leaves a zero byte) or a
-/// last value without a place (10) has these codes written again, and shows the decoding of the same numbers. Any other is passed on as it came, to be refused by its
-/// number. It is never longer than what came. All of this is proved.
+/// A frame that the panel accepts is passed on byte for byte. One whose only faults are codes that are the sender's own form of a list of numbers has these written
+/// again, and shows the decoding of the same numbers. Any other is passed on as it came, to be refused by its number. It is never longer than what came. All of this
+/// is proved. That the bytes are those that were sent is the link's to hold.
 ///
 /// ```
-/// use xurbalenz::{tidy_frame, write_frame, Mode, Quant};
+/// use xurbalenz::{tidy_frame, write_frame, Mode, Quant, Sender};
 /// let mut frame = write_frame(64, 64, Mode::Rlgr3, Quant::DEFAULT, 1, &[128; 3 * 64 * 64])?;
-/// assert_eq!(tidy_frame(64, 64, Mode::Rlgr3, &frame), (frame.clone(), 0));
+/// assert_eq!(tidy_frame(Sender::FreeRdp, 64, 64, Mode::Rlgr3, &frame), (frame.clone(), 0));
 /// frame[12] = 2; // two regions: the panel refuses it
-/// assert_eq!(tidy_frame(64, 64, Mode::Rlgr3, &frame), (frame.clone(), 0));
+/// assert_eq!(tidy_frame(Sender::FreeRdp, 64, 64, Mode::Rlgr3, &frame), (frame.clone(), 0));
 /// # Ok::<(), xurbalenz::Refusal>(())
 /// ```
 #[cfg(feature = "alloc")]
-pub fn tidy_frame(width: u16, height: u16, mode: Mode, frame: &[u8]) -> (Vec<u8>, usize) {
-    let (mut list, mut out) = (vec![0; LIST], vec![0; frame.len()]);
-    let (_, size, cut) = edge::tidy_frame(width, height, mode.number(), frame, &mut list, &mut out); // list and room are as asked
-    out.truncate(size);
-    (out, cut)
+pub fn tidy_frame(sender: Sender, width: usize, height: usize, mode: Mode, frame: &[u8]) -> (Vec<u8>, usize) {
+    let (mut list, mut out, mut told) = (vec![0; LIST], vec![0; frame.len()], [0; 2]);
+    edge::tidy_frame(sender.number(), width, height, mode.number(), frame, &mut list, &mut out, &mut told); // sender, list and room are as asked
+    out.truncate(told[0] as usize);
+    (out, told[1] as usize)
+}
+
+/// Header blocks put into the panel's order: behind a good sync versions, channels and context wait until all three are there. Nothing is lost.
+///
+/// ```
+/// use xurbalenz::{write_headers, Mode, Tidier};
+/// let blocks = write_headers(64, 64, Mode::Rlgr3)?; // sync, versions, channels, context: 12, 10, 12 and 13 bytes
+/// let mut tidier = Tidier::new();
+/// let mut on = tidier.header(&blocks[..12]);
+/// on.extend(tidier.header(&blocks[34..])); // the context too early: it waits
+/// on.extend(tidier.header(&blocks[12..22]));
+/// on.extend(tidier.header(&blocks[22..34]));
+/// assert_eq!((on, tidier.flush()), (blocks.to_vec(), vec![]));
+/// # Ok::<(), xurbalenz::Refusal>(())
+/// ```
+pub struct Tidier {
+    held: [u8; 38],
+}
+
+impl Default for Tidier {
+    fn default() -> Self {
+        Self::new()
+    }
+}
+
+impl Tidier {
+    /// Nothing waits.
+    pub const fn new() -> Tidier {
+        Tidier { held: [0; 38] }
+    }
+
+    /// One header block given: the bytes that go on now, which are none or up to four whole blocks.
+    #[cfg(feature = "alloc")]
+    pub fn header(&mut self, block: &[u8]) -> Vec<u8> {
+        let mut out = vec![0; 35 + block.len()];
+        let (_, size) = edge::tidy_header(&mut self.held, block, &mut out); // the room is as asked
+        out.truncate(size);
+        out
+    }
+
+    /// What waits, let go: before a frame, and at the end.
+    #[cfg(feature = "alloc")]
+    pub fn flush(&mut self) -> Vec<u8> {
+        let mut out = vec![0; 35];
+        let (_, size) = edge::tidy_flush(&mut self.held, &mut out);
+        out.truncate(size);
+        out
+    }
 }
 
 // What a frame writer writes, in as much room as it takes.

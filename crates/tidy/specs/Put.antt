@@ -30,8 +30,8 @@ headWith t ly lcb lcr =
     ++ (bytes16 ly ++ (bytes16 lcb ++ bytes16 lcr))))))
 
 -- how many of a tile's codes are not as they came
-unfoldable pub tileCut : ℕ → Tile → ℕ
-tileCut et t = cutCode et (t .ys) + (cutCode et (t .cbs) + cutCode et (t .crs))
+unfoldable pub tileCut : ℕ → ℕ → Tile → ℕ
+tileCut sd et t = cutCode sd et (t .ys) + (cutCode sd et (t .cbs) + cutCode sd et (t .crs))
 
 -- n tiles from a place on, each whole in the tileset's data
 unfoldable pub AllWhole : ℕ → List ℕ → ℕ → Type 0

@@ -3,6 +3,7 @@ pub mod Layout
 pub mod Put
 pub mod Pass
 pub mod Headers
+pub mod Held
 pub mod Sync
 pub mod Blocks
 pub mod Order

@@ -1,4 +1,4 @@
-// A frame passed on: as it came where the panel accepts it, with its codes tidied where that makes it acceptable, and as it came otherwise. The tidied frame
+// A frame passed on: as it came where the panel accepts it, with its codes tidied, by the sender that was named, where that makes it acceptable, and as it came otherwise. The tidied frame
 // is written straight into the output and then judged as the panel would judge it; lengths are those of what was written.
 use session::Session;
 ghost use mathlib.Core.Path.{_≡_};
@@ -11,7 +11,7 @@ ghost use Rattle.frame_layout.specs.Bytes.{tileOf};
 ghost use Rattle.frame_layout.specs.Reader.{sizeAt, tileAt, tilesFault, dataOf, tileCount, setPlace, quantCount};
 ghost use Rattle.frame_blocks.specs.Tiles.{TileWhole};
 ghost use Rattle.frame_blocks.specs.Judged.{SetSound};
-ghost use Rattle.tidy_code.specs.Loose.{tidyCode};
+ghost use Rattle.tidy_code.specs.Sent.{tidyCode};
 ghost use Rattle.tidy.specs.Tidy.{tidyTile, tidyTiles, frameTidied, layoutFor, tidyFrame, sameBytes, cutCode, cutTiles, codesCut, FrameTidied};
 ghost use Rattle.tidy.specs.Put.{Puts, headWith, tileCut, AllWhole, Laid, closedAs, isDue};
 
@@ -45,11 +45,11 @@ fn is_same(a: &[u8], b: &[u8]) -> bool
 }
 
 // One code, tidied, at a place.
-fn put_code(mode: u8, code: &[u8], list: &mut [i32], out: &mut [u8], to: usize) -> Put
+fn put_code(sender: u8, mode: u8, code: &[u8], list: &mut [i32], out: &mut [u8], to: usize) -> Put
     requires { ⌜ (length (now list) ≡ 4096) × (to + length (now code) ≤ length (now out)) ⌝ }
-    ensures { λ r. ⌜ Puts (tidyCode mode (now (code .entry))) (cutCode mode (now (code .entry))) to (now (out .entry)) (now (out .exit)) r ⌝ }
+    ensures { λ r. ⌜ Puts (tidyCode sender mode (now (code .entry))) (cutCode sender mode (now (code .entry))) to (now (out .entry)) (now (out .exit)) r ⌝ }
 {
-    let e = tidy_code::put_tidied(mode, code, list, out, to);
+    let e = tidy_code::put_tidied(sender, mode, code, list, out, to);
     if is_same(&out[to..e], code) {
         return Put { to: e, cut: 0 };
     }
@@ -73,16 +73,24 @@ fn put_head(d: &[u8], at: usize, out: &mut [u8], to: usize, ly: usize, lcb: usiz
 }
 
 // The tile at a place of the tileset's data, with its codes tidied: the codes first, then the head with their lengths.
-fn put_tile(mode: u8, d: &[u8], at: usize, list: &mut [i32], out: &mut [u8], to: usize) -> Put
+fn put_tile(
+    sender: u8,
+    mode: u8,
+    d: &[u8],
+    at: usize,
+    list: &mut [i32],
+    out: &mut [u8],
+    to: usize,
+) -> Put
     requires { ⌜ (length (now list) ≡ 4096) × TileWhole (now d) at × (to + sizeAt (now d) at ≤ length (now out)) ⌝ }
-    ensures { λ r. ⌜ Puts (tileOf (tidyTile mode (tileAt (now (d .entry)) at))) (tileCut mode (tileAt (now (d .entry)) at)) to (now (out .entry)) (now (out .exit)) r ⌝ }
+    ensures { λ r. ⌜ Puts (tileOf (tidyTile sender mode (tileAt (now (d .entry)) at))) (tileCut sender mode (tileAt (now (d .entry)) at)) to (now (out .entry)) (now (out .exit)) r ⌝ }
 {
     let ys = frame_blocks::tile::code_part(d, at, 0);
-    let y = put_code(mode, ys, list, out, to + 19);
+    let y = put_code(sender, mode, ys, list, out, to + 19);
     let cbs = frame_blocks::tile::code_part(d, at, 1);
-    let cb = put_code(mode, cbs, list, out, y.to);
+    let cb = put_code(sender, mode, cbs, list, out, y.to);
     let crs = frame_blocks::tile::code_part(d, at, 2);
-    let cr = put_code(mode, crs, list, out, cb.to);
+    let cr = put_code(sender, mode, crs, list, out, cb.to);
     put_head(
         d,
         at,
@@ -99,16 +107,24 @@ fn put_tile(mode: u8, d: &[u8], at: usize, list: &mut [i32], out: &mut [u8], to:
 }
 
 // n tiles of a tileset's data, one after the other, from a place of the output on.
-fn put_tiles(mode: u8, n: usize, d: &[u8], list: &mut [i32], out: &mut [u8], from: usize) -> Put
+fn put_tiles(
+    sender: u8,
+    mode: u8,
+    n: usize,
+    d: &[u8],
+    list: &mut [i32],
+    out: &mut [u8],
+    from: usize,
+) -> Put
     requires { ⌜ (length (now list) ≡ 4096) × (n ≤ 2048) × AllWhole n (now d) 0 × (from + length (now d) ≤ length (now out)) ⌝ }
-    ensures { λ r. ⌜ Puts (tidyTiles mode (now (d .entry)) n 0) (cutTiles mode (now (d .entry)) n 0) from (now (out .entry)) (now (out .exit)) r ⌝ }
+    ensures { λ r. ⌜ Puts (tidyTiles sender mode (now (d .entry)) n 0) (cutTiles sender mode (now (d .entry)) n 0) from (now (out .entry)) (now (out .exit)) r ⌝ }
 {
     let mut at = 0;
     let mut to = from;
     let mut cut = 0;
     let mut i = 0;
     while i < n {
-        let p = put_tile(mode, d, at, list, out, to);
+        let p = put_tile(sender, mode, d, at, list, out, to);
         to = p.to;
         cut = cut + p.cut;
         at = at + wire::le32_at(d, at + 2);
@@ -128,9 +144,9 @@ fn close_frame(m: &[u8], sp: usize, end: usize, out: &mut [u8], from: usize, to:
 }
 
 // The whole frame with its codes tidied.
-fn put_frame(mode: u8, m: &[u8], list: &mut [i32], out: &mut [u8]) -> Put
+fn put_frame(sender: u8, mode: u8, m: &[u8], list: &mut [i32], out: &mut [u8]) -> Put
     requires { ⌜ (length (now list) ≡ 4096) × Laid (now m) × (length (now m) ≤ length (now out)) ⌝ }
-    ensures { λ r. ⌜ Puts (frameTidied mode (now (m .entry))) (cutTiles mode (dataOf (now (m .entry)) (setPlace (now (m .entry)))) (tileCount (now (m .entry)) (setPlace (now (m .entry)))) 0) 0 (now (out .entry)) (now (out .exit)) r ⌝ }
+    ensures { λ r. ⌜ Puts (frameTidied sender mode (now (m .entry))) (cutTiles sender mode (dataOf (now (m .entry)) (setPlace (now (m .entry)))) (tileCount (now (m .entry)) (setPlace (now (m .entry)))) 0) 0 (now (out .entry)) (now (out .exit)) r ⌝ }
 {
     let sp = 14 + wire::le32_at(m, 16);
     let from = sp + (22 + 5 * wire::byte_at(m, sp + 14));
@@ -138,7 +154,7 @@ fn put_frame(mode: u8, m: &[u8], list: &mut [i32], out: &mut [u8]) -> Put
     let d = frame_blocks::block::tile_data(m, sp);
     let end = from + d.len();
     collect::copy(out, 0, m, 0, from);
-    let p = put_tiles(mode, n, d, list, out, from);
+    let p = put_tiles(sender, mode, n, d, list, out, from);
     close_frame(m, sp, end, out, from, p.to);
     Put {
         to: p.to + (m.len() - end),
@@ -222,12 +238,12 @@ fn keep(m: &[u8], out: &mut [u8]) -> Put
 }
 
 // The frame passed on: tidied where the panel's own check of what was written finds no fault, else as it came.
-fn pass_frame(s: Session, m: &[u8], list: &mut [i32], out: &mut [u8]) -> Put
+fn pass_frame(sender: u8, s: Session, m: &[u8], list: &mut [i32], out: &mut [u8]) -> Put
     requires { ⌜ (length (now list) ≡ 4096) × (length (now m) ≤ length (now out)) ⌝ }
-    ensures { λ r. ⌜ Puts (tidyFrame s (now (m .entry))) (codesCut s (now (m .entry))) 0 (now (out .entry)) (now (out .exit)) r ⌝ }
+    ensures { λ r. ⌜ Puts (tidyFrame sender s (now (m .entry))) (codesCut sender s (now (m .entry))) 0 (now (out .entry)) (now (out .exit)) r ⌝ }
 {
     if is_due(s, m, list) {
-        let p = put_frame(s.mode, m, list, out);
+        let p = put_frame(sender, s.mode, m, list, out);
         let n = p.to;
         if frame::call::message_fault(s, &out[..n], list) == 0 {
             return p;
@@ -237,10 +253,23 @@ fn pass_frame(s: Session, m: &[u8], list: &mut [i32], out: &mut [u8]) -> Put
     keep(m, out)
 }
 
-// The call, for any record, message, list and output: 2 and 13, else the frame is passed on and the work list left with zeros.
-pub fn tidy_frame(s: Session, message: &[u8], list: &mut [i32], out: &mut [u8]) -> Tidied
-    ensures { λ r. ⌜ FrameTidied s (now (message .entry)) (now (list .entry)) (now (list .exit)) (now (out .entry)) (now (out .exit)) r ⌝ }
+// The call, for any sender, record, message, list and output: 5, 2 and 13, else the frame is passed on and the work list left with zeros.
+pub fn tidy_frame(
+    sender: u8,
+    s: Session,
+    message: &[u8],
+    list: &mut [i32],
+    out: &mut [u8],
+) -> Tidied
+    ensures { λ r. ⌜ FrameTidied sender s (now (message .entry)) (now (list .entry)) (now (list .exit)) (now (out .entry)) (now (out .exit)) r ⌝ }
 {
+    if !tidy_code::is_sender(sender) {
+        return Tidied {
+            number: 5,
+            size: 0,
+            cut: 0,
+        };
+    }
     if list.len() != 4096 {
         return Tidied {
             number: 2,
@@ -255,7 +284,7 @@ pub fn tidy_frame(s: Session, message: &[u8], list: &mut [i32], out: &mut [u8]) 
             cut: 0,
         };
     }
-    let p = pass_frame(s, message, list, out);
+    let p = pass_frame(sender, s, message, list, out);
     whole::clear(list);
     Tidied {
         number: 0,

@@ -2,3 +2,4 @@
 // through as it came.
 pub mod frames;
 pub mod headers;
+pub mod held;

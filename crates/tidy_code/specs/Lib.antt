@@ -1,3 +1,4 @@
-pub mod Loose
+pub mod Longer
 pub mod Request
+pub mod Sent
 pub mod laws

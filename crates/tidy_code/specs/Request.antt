@@ -1,41 +1,46 @@
--- What is promised of a tidied code, for every mode and all bytes, on one page. Proved by `tidyCodes` (laws/Request).
-use Prim.Native.Nat.{ℕ, _≤_, _<_}
+-- What is promised of a tidied code, for every sender and mode and all bytes, on one page. Proved by `tidyCodes` (laws/Request).
+use Prim.Native.Nat.{ℕ, _≤_}
 use mathlib.Core.Path.{_≡_}
-use mathlib.Core.Bool.{Bool, true}
-use mathlib.Core.List.{List, [], _∷_, _++_}
-use lib.IntN.{ℤ, natAbs}
-use lib.ListN.{length}
+use mathlib.Core.List.{List, [], _∷_}
+use lib.IntN.{ℤ, pos}
+use lib.ListN.{length, replicate}
 use Rattle.whole.specs.Among.{Among}
-use Rattle.bits.specs.Bits.{bitsOf}
 use Rattle.bits.specs.laws.Bytes.{Bytes}
-use Rattle.code.specs.OneCode.{code, Listed, Call}
-use Rattle.code.specs.Read.{readFault, readBits, decoded}
+use Rattle.code.specs.Cases.{Both}
+use Rattle.code.specs.OneCode.{Listed}
+use Rattle.code.specs.Read.{readFault, decoded}
 use Rattle.code_write.specs.Write.{bytesOf}
-use Rattle.tidy_code.specs.Loose.{means, unclear, meantBy, tidyCode, pairLast}
+use Rattle.tidy_code.specs.Sent.{Form, means, unclear, meantBy, tidyCode}
 
 pub record TidyCodes : Type 1 where
-  -- a code that the panel takes is kept byte for byte
-  pub good-kept : (mode : ℕ) (s : List ℕ) → Bytes s → readFault mode 4096 s ≡ 0 → tidyCode mode s ≡ s
-  -- and means the list that the panel reads
-  pub good-means : (mode : ℕ) (s : List ℕ) → readFault mode 4096 s ≡ 0 → meantBy mode s ≡ means (decoded mode s)
-  -- fewer than 32 bits behind the code of a list: the bytes mean this list, and the component reader reports that code's length
-  pub tail-means :
-      (mode : ℕ) (s : List ℕ) (before zs : List ℤ) (rest : List Bool) → Call mode s before → Listed zs → bitsOf s ≡ code mode zs ++ rest → length rest < 32 →
-      (meantBy mode s ≡ means zs) × (readBits mode 4096 s ≡ length (code mode zs))
-  -- one number more than the 4,096, the second of the code's last pair, and fewer than 32 bits behind it: the bytes mean the 4,096
-  pub pair-means :
-      (s : List ℕ) (before zs : List ℤ) (b : ℤ) (rest : List Bool) → Call 4 s before → Listed zs → natAbs b ≤ 32767 → pairLast (zs ++ (b ∷ [])) ≡ true →
-      bitsOf s ≡ code 4 (zs ++ (b ∷ [])) ++ rest → length rest < 32 → meantBy 4 s ≡ means zs
+  -- what means a list is 01's bytes of it or the sender's, and nothing else: both ways
+  pub means-form : (s mode : ℕ) (b : List ℕ) (zs : List ℤ) → Bytes b → meantBy s mode b ≡ means zs → Form s mode b zs
+  pub form-means : (s mode : ℕ) (b : List ℕ) (zs : List ℤ) → Form s mode b zs → meantBy s mode b ≡ means zs
+  -- "Two different lists never share a form"
+  pub one-list : (s mode : ℕ) (b : List ℕ) (zs zs′ : List ℤ) → Form s mode b zs → Form s mode b zs′ → zs ≡ zs′
+  -- "each list has at most one form beside 01's own"
+  pub one-form :
+      (s mode : ℕ) (b b′ : List ℕ) (zs : List ℤ) → Form s mode b zs → Form s mode b′ zs → (b ≡ bytesOf mode zs → ⊥) → (b′ ≡ bytesOf mode zs → ⊥) → b ≡ b′
+  -- strict changes nothing
+  pub strict : (mode : ℕ) (b : List ℕ) → Bytes b → tidyCode 0 mode b ≡ b
+  -- a code that the panel takes is kept byte for byte, and means the list that the panel reads
+  pub good-kept : (s mode : ℕ) (b : List ℕ) → Bytes b → readFault mode 4096 b ≡ 0 → tidyCode s mode b ≡ b
+  pub good-means : (s mode : ℕ) (b : List ℕ) → readFault mode 4096 b ≡ 0 → meantBy s mode b ≡ means (decoded mode b)
   -- whatever is meant is 4,096 numbers in range
-  pub meant-listed : (mode : ℕ) (s : List ℕ) (zs : List ℤ) → meantBy mode s ≡ means zs → Listed zs
+  pub meant-listed : (s mode : ℕ) (b : List ℕ) (zs : List ℤ) → meantBy s mode b ≡ means zs → Listed zs
   -- what is meant is what the panel reads of the tidied code: it is accepted, and its list is the one meant
   pub same-list :
-      (mode : ℕ) (s : List ℕ) (zs : List ℤ) → meantBy mode s ≡ means zs → (readFault mode 4096 (tidyCode mode s) ≡ 0) × (decoded mode (tidyCode mode s) ≡ zs)
-  -- it is 01's code of that list, and never longer than what came
-  pub is-code : (mode : ℕ) (s : List ℕ) (zs : List ℤ) → meantBy mode s ≡ means zs → tidyCode mode s ≡ bytesOf mode zs
-  pub never-longer : (mode : ℕ) (s : List ℕ) → length (tidyCode mode s) ≤ length s
-  -- only codes that the panel takes or refuses with 11 or 10 are changed; what is unclear stays as it is
-  pub others-kept : (mode : ℕ) (s : List ℕ) → meantBy mode s ≡ unclear → tidyCode mode s ≡ s
-  pub of-these-kinds : (mode : ℕ) (s : List ℕ) (zs : List ℤ) → meantBy mode s ≡ means zs → Among (0 ∷ 10 ∷ 11 ∷ []) (readFault mode 4096 s)
+      (s mode : ℕ) (b : List ℕ) (zs : List ℤ) → meantBy s mode b ≡ means zs →
+      (readFault mode 4096 (tidyCode s mode b) ≡ 0) × (decoded mode (tidyCode s mode b) ≡ zs)
+  -- it is 01's bytes of that list, and never longer than what came
+  pub is-code : (s mode : ℕ) (b : List ℕ) (zs : List ℤ) → meantBy s mode b ≡ means zs → tidyCode s mode b ≡ bytesOf mode zs
+  pub never-longer : (s mode : ℕ) (b : List ℕ) → length (tidyCode s mode b) ≤ length b
+  -- what is unclear stays as it is; of what strict and FreeRDP's filter take the panel says 0 or 11
+  pub others-kept : (s mode : ℕ) (b : List ℕ) → meantBy s mode b ≡ unclear → tidyCode s mode b ≡ b
+  pub of-these-kinds :
+      (s mode : ℕ) (b : List ℕ) (zs : List ℤ) → meantBy s mode b ≡ means zs → (s ≡ 2 → ⊥) → Among (0 ∷ 11 ∷ []) (readFault mode 4096 b)
   -- tidying twice is tidying once
-  pub once : (mode : ℕ) (s : List ℕ) → Bytes s → tidyCode mode (tidyCode mode s) ≡ tidyCode mode s
+  pub once : (s mode : ℕ) (b : List ℕ) → Bytes b → tidyCode s mode (tidyCode s mode b) ≡ tidyCode s mode b
+  -- not empty: in both modes FreeRDP's and the sample's own form of 4,096 zeros mean them, and are not 01's, which are 00 00 00
+  pub zeros-one : Both (λ mode. meantBy 1 mode (0x00 ∷ 0x00 ∷ 0x00 ∷ 0x00 ∷ []) ≡ means (replicate 4096 (pos 0)))
+  pub zeros-two : Both (λ mode. meantBy 2 mode (0x00 ∷ 0x00 ∷ 0x08 ∷ 0x09 ∷ 0x00 ∷ 0x00 ∷ []) ≡ means (replicate 4096 (pos 0)))

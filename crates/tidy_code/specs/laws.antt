@@ -1,7 +1,6 @@
+pub mod Behind
 pub mod Cases
-pub mod Element
-pub mod Fill
-pub mod Meant
-pub mod Pair
+pub mod Form
+pub mod Longer
+pub mod Read
 pub mod Request
-pub mod Walk

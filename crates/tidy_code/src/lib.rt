@@ -1,110 +1,108 @@
-// Two habits of other encoders' component codes, mended in front of the panel: bits behind a code that is complete, and a last pair whose second value has no
-// place. A component whose bytes mean a list by this reading is written as document 01's own code of that list; any other is kept byte for byte
-// (specs/Loose; specs/Request says what this makes true). Elements are read by `element`, the filter's own.
+// What other encoders' component codes are, by the sender that was named: FreeRDP's, with one byte 00 behind some, and those of MS-RDPRFX's own sample, with one value
+// too many and a byte 00. A component whose bytes mean a list for that sender is written as document 01's own code of that list; any other is kept byte for byte
+// (specs/Sent; specs/Request says what this makes true). 01's own bytes are read by the component reader; the 4,097 values by `longer`, whose elements are the filter's own.
 ghost use mathlib.Core.Path.{_≡_};
-ghost use Prim.Native.Nat.{_+_, _≤_, _<_, min};
-ghost use lib.ListN.{length, replicate, set};
-ghost use lib.IntN.{pos};
+ghost use Prim.Native.Nat.{_+_, _≤_};
+ghost use lib.ListN.{length};
 ghost use Rattle.wire.specs.Le.{patch};
-ghost use Rattle.bits.specs.Bits.{bitsOf};
-ghost use Rattle.code.specs.Fold.{unfoldZ};
-ghost use Rattle.tidy_code.specs.Loose.{placesFor, looseList, meantEnd, tidyCode, Answers, LooselyRead};
-use code::element::Element;
-use code::element::State;
+ghost use Rattle.tidy_code.specs.Sent.{isSender, unclear, paddedMeant, surplusMeant, othersMeant, meantBy, listMeant, tidyCode, Answers, MeantRead};
 
 mod element;
+mod longer;
 
-// How many places the next element is given: a pair has two, also where one is left.
-fn places(kp: usize, left: usize) -> usize
-    ensures { λ r. ⌜ r ≡ placesFor kp left ⌝ }
+// Is this number a sender's?
+pub fn is_sender(sender: u8) -> bool
+    ensures { λ r. ⌜ r ≡ isSender sender ⌝ }
 {
-    if kp < 8 {
-        if left < 2 {
-            return 2;
-        }
-    }
-    left
+    sender <= 2
 }
 
-// The place z places past i, at most n.
-fn past(n: usize, i: usize, z: usize) -> usize
-    requires { ⌜ i ≤ n ⌝ }
-    ensures { λ r. ⌜ r ≡ min n (i + z) ⌝ }
-{
-    if n - i < z { n } else { i + z }
-}
-
-// Stores a folded value at place i, if there is such a place.
-fn store(list: &mut [i32], i: usize, v: usize)
-    requires { ⌜ (i < length (now list) → v ≤ 65534) ⌝ }
-    ensures { λ _. ⌜ now (list .exit) ≡ set (now (list .entry)) i (unfoldZ v) ⌝ }
-{
-    if i < list.len() {
-        list[i] = code::element::unfolded(v);
-    }
-}
-
-// The loose walk over a code, into a list that holds zeros: whether it is whole with fewer than 32 bits behind it.
-fn fill(s: &[u8], rlgr3: bool, list: &mut [i32]) -> bool
-    requires { ⌜ (length (now s) ≤ 65535) × (length (now list) ≡ 4096) × (now list ≡ replicate (length (now list)) (pos 0)) ⌝ }
-    ensures { λ r. ⌜ Answers (meantEnd (bitsOf (now (s .entry))) (looseList rlgr3 4096 (bitsOf (now (s .entry))))) (now (list .exit)) r ⌝ }
-{
-    let n = list.len();
-    let mut c = State {
-        at: 0,
-        kp: 8,
-        krp: 8,
-    };
-    let mut i: usize = 0;
-    while i < n {
-        let kp = c.kp;
-        match element::read_element(s, rlgr3, c, places(kp, n - i)) {
-            Element::Refused(r) => {
-                return false;
-            }
-            Element::Zeros(z, t) => {
-                i = past(n, i, z);
-                c = t;
-            }
-            Element::One(z, v, t) => {
-                store(list, i + z, v);
-                i = i + z + 1;
-                c = t;
-            }
-            Element::Two(a, b, t) => {
-                store(list, i, a);
-                store(list, i + 1, b);
-                i = past(n, i, 2);
-                c = t;
-            }
-        }
-    }
-    let at = c.at;
-    s.len() * 8 - at < 32
-}
-
-// Reads a component's bytes loosely into a list of 4,096: whether they mean a list.
-pub fn read_loose(mode: u8, s: &[u8], list: &mut [i32]) -> bool
+// Nothing is meant: the list is left with zeros.
+fn refuse(list: &mut [i32]) -> bool
     requires { ⌜ length (now list) ≡ 4096 ⌝ }
-    ensures { λ r. ⌜ LooselyRead mode (now (s .entry)) (now (list .exit)) r ⌝ }
+    ensures { λ r. ⌜ Answers unclear (now (list .exit)) r ⌝ }
 {
+    whole::clear(list);
+    false
+}
+
+// 01's bytes of a list whose last byte has at most three bits free: FreeRDP puts one byte 00 behind such codes.
+fn read_padded(mode: u8, w: &[u8], list: &mut [i32]) -> bool
+    requires { ⌜ length (now list) ≡ 4096 ⌝ }
+    ensures { λ r. ⌜ Answers (paddedMeant mode (now (w .entry))) (now (list .exit)) r ⌝ }
+{
+    let a = code::read::read_component(mode, w, list);
+    if code::read::reading_number(a) == 0 {
+        if 5 <= code::read::reading_bits(a) % 8 {
+            return true;
+        }
+        return refuse(list);
+    }
+    refuse(list)
+}
+
+// A sender's own form without its last byte.
+fn read_surplus(sender: u8, mode: u8, w: &[u8], list: &mut [i32]) -> bool
+    requires { ⌜ (length (now w) ≤ 65535) × (length (now list) ≡ 4096) ⌝ }
+    ensures { λ r. ⌜ Answers (surplusMeant sender mode (now (w .entry))) (now (list .exit)) r ⌝ }
+{
+    if sender == 1 {
+        return read_padded(mode, w, list);
+    }
+    if sender == 2 {
+        return longer::read_longer(w, mode == 4, list);
+    }
+    refuse(list)
+}
+
+// Bytes that are not 01's: those of the sender, which end with 00.
+fn read_others(sender: u8, mode: u8, s: &[u8], list: &mut [i32]) -> bool
+    requires { ⌜ (length (now s) ≤ 65535) × (length (now list) ≡ 4096) ⌝ }
+    ensures { λ r. ⌜ Answers (othersMeant sender mode (now (s .entry))) (now (list .exit)) r ⌝ }
+{
+    let n = s.len();
+    if 0 < n {
+        let m = n - 1;
+        if s[m] == 0 {
+            return read_surplus(sender, mode, &s[..m], list);
+        }
+        return refuse(list);
+    }
+    refuse(list)
+}
+
+// Reads the list that a component's bytes mean for a sender: whether they mean one. The list holds zeros where they do not.
+pub fn read_meant(sender: u8, mode: u8, s: &[u8], list: &mut [i32]) -> bool
+    requires { ⌜ length (now list) ≡ 4096 ⌝ }
+    ensures { λ r. ⌜ MeantRead sender mode (now (s .entry)) (now (list .exit)) r ⌝ }
+{
+    whole::clear(list);
     if !wire::is_mode(mode as usize) {
         return false;
     }
     if 65535 < s.len() {
         return false;
     }
-    whole::clear(list);
-    fill(s, mode == 4, list)
+    if code::read::reading_number(code::read::read_component(mode, s, list)) == 0 {
+        return true;
+    }
+    read_others(sender, mode, s, list)
 }
 
-// Writes a component's tidied code at a place of the output; `list` is lent to work in. The answer is the place past it. The code is not measured: it is never
-// longer than what came (law `never-longer`).
-pub fn put_tidied(mode: u8, s: &[u8], list: &mut [i32], out: &mut [u8], at: usize) -> usize
+// Writes a component's tidied code at a place of the output; `list` is lent to work in, and holds what reading left. The answer is the place past the code, which
+// is not measured: it is never longer than what came (law `never-longer`).
+pub fn put_tidied(
+    sender: u8,
+    mode: u8,
+    s: &[u8],
+    list: &mut [i32],
+    out: &mut [u8],
+    at: usize,
+) -> usize
     requires { ⌜ (length (now list) ≡ 4096) × (at + length (now s) ≤ length (now out)) ⌝ }
-    ensures { λ r. ⌜ (now (out .exit) ≡ patch (now (out .entry)) at (tidyCode mode (now (s .entry)))) × (r ≡ at + length (tidyCode mode (now (s .entry)))) ⌝ }
+    ensures { λ r. ⌜ (now (out .exit) ≡ patch (now (out .entry)) at (tidyCode sender mode (now (s .entry)))) × (r ≡ at + length (tidyCode sender mode (now (s .entry)))) × (now (list .exit) ≡ listMeant (meantBy sender mode (now (s .entry)))) ⌝ }
 {
-    if read_loose(mode, s, list) {
+    if read_meant(sender, mode, s, list) {
         return code_write::call::put_component(mode, list, out, at);
     }
     collect::copy(out, at, s, 0, s.len());

@@ -36,7 +36,7 @@ use Rattle.frame_blocks.specs.Tiles.{tileFields, tileFront}
 use Rattle.frame_blocks.specs.laws.Blocks.{fixed-good}
 use Rattle.frame_blocks.specs.laws.Tiles.{tile-goes-on, tile-sound}
 use Rattle.frame.specs.Frame.{frontFault}
-use Rattle.tidy_code.specs.Loose.{tidyCode}
+use Rattle.tidy_code.specs.Sent.{tidyCode}
 use Rattle.tidy_code.specs.laws.Request.{tidyCodes}
 use Rattle.tidy.specs.Tidy.{tidyTile, tidyTiles, tilesTidied, frameTidied}
 use Rattle.tidy.specs.Put.{Laid}
@@ -103,22 +103,22 @@ pub record Alike (m m′ T E : List ℕ) (sp from : ℕ) : Type 0 where
   pub behind : drop from m′ ≡ T ++ E
   pub long : length m′ ≡ from + length (T ++ E)
 
-pub alike : (et : ℕ) (m : List ℕ) (sp from end : ℕ) → Placed m sp from end → 22 + 5 * quantCount m sp + length (tilesTidied et m) < 4294967296 →
-    Alike m (frameTidied et m) (tilesTidied et m) (drop end m) sp from
+pub alike : (sd et : ℕ) (m : List ℕ) (sp from end : ℕ) → Placed m sp from end → 22 + 5 * quantCount m sp + length (tilesTidied sd et m) < 4294967296 →
+    Alike m (frameTidied sd et m) (tilesTidied sd et m) (drop end m) sp from
 unfolding fills bytes32
-alike et m sp from end z small =
+alike sd et m sp from end z small =
     let F = take from m in
-    let S = tilesTidied et m ++ drop end m in
-    let v = 22 + 5 * quantCount m sp + length (tilesTidied et m) in
-    let u = length (tilesTidied et m) in
+    let S = tilesTidied sd et m ++ drop end m in
+    let v = 22 + 5 * quantCount m sp + length (tilesTidied sd et m) in
+    let u = length (tilesTidied sd et m) in
     let G = patch F (sp + 2) (bytes32 v) in
     let H = patch G (sp + 18) (bytes32 u) in
-    let e = frame-is et m sp from end z in
-    let l = front-length et m sp from end z in
+    let e = frame-is sd et m sp from end z in
+    let l = front-length sd et m sp from end z in
     let f : sp + 22 ≤ from = omega (arith, z .tiles) in
     let g : length G ≡ from = patch-length F (bytes32 v) (sp + 2) (omega (arith, l, f)) ∙ l in
     let h : length H ≡ from = patch-length G (bytes32 u) (sp + 18) (omega (arith, g, f)) ∙ g in
-    let there : (k : ℕ) → k < from → getD (frameTidied et m) k 0 ≡ getD H k 0 =
+    let there : (k : ℕ) → k < from → getD (frameTidied sd et m) k 0 ≡ getD H k 0 =
     λ k b. ap (λ (x : List ℕ). getD x k 0) e ∙ List·getD-append H S 0 k (omega (arith, h, b)) in
     let under : (k : ℕ) → k < sp + 18 → getD H k 0 ≡ getD G k 0 = λ k b. patch-below G (bytes32 u) (sp + 18) k b (omega (arith, g, f)) in
     record {
@@ -131,9 +131,9 @@ alike et m sp from end z small =
       high = λ k a b.
           there k b ∙ (patch-above G (bytes32 u) (sp + 18) k (omega (arith, a)) (omega (arith, g, f))
           ∙ (patch-above F (bytes32 v) (sp + 2) k (omega (arith, a)) (omega (arith, l, f)) ∙ getD-take from m k 0 b));
-      size = le32-same (frameTidied et m) G (sp + 2) (λ k a b. there k (omega (arith, f, b)) ∙ under k (omega (arith, b)))
+      size = le32-same (frameTidied sd et m) G (sp + 2) (λ k a b. there k (omega (arith, f, b)) ∙ under k (omega (arith, b)))
           ∙ le32-put F (sp + 2) v (omega (arith, l, f)) small;
-      bytes = le32-same (frameTidied et m) H (sp + 18) (λ k a b. there k (omega (arith, f, b)))
+      bytes = le32-same (frameTidied sd et m) H (sp + 18) (λ k a b. there k (omega (arith, f, b)))
           ∙ le32-put G (sp + 18) u (omega (arith, g, f)) (omega (arith, small));
       behind = ap (drop from) e ∙ drop-at H S from h;
       long = ap length e ∙ (length-append H S ∙ ap (λ (k : ℕ). k + length S) h);
@@ -328,16 +328,16 @@ place-held w h q d at e =
     (ltb-true _ _ (x5 .0), ltb-true _ _ (x6 .0))
 
 -- judges of codes before and after tidying
-module _ (et w h q : ℕ) (before after : ℕ → List ℕ → ℕ) (same : (j : ℕ) → j < q → (code : List ℕ) → before j code ≡ after j (tidyCode et code))
+module _ (sd et w h q : ℕ) (before after : ℕ → List ℕ → ℕ) (same : (j : ℕ) → j < q → (code : List ℕ) → before j code ≡ after j (tidyCode sd et code))
     (d : List ℕ) (hb : Bytes d) where
-  tile-again : (at : ℕ) → at ≤ length d → 0 ≡ tileFault before w h q d at → Good after w h q (tidyTile et (tileAt d at))
+  tile-again : (at : ℕ) → at ≤ length d → 0 ≡ tileFault before w h q d at → Good after w h q (tidyTile sd et (tileAt d at))
   unfolding tidyTile codesFault tileAt
   tile-again at l e =
       let s = tile-sound before w h q d at l e in
       let f = both (tileFront w h q d at) _ (e ∙ tile-goes-on before w h q d at) in
       let p = place-held w h q d at (f .0) in
       let z = tile-sized d at (s .good .whole) in
-      let n = tidyCodes .never-longer et in
+      let n = tidyCodes .never-longer sd et in
       let t = tileAt d at in
       record {
         fits = record {
@@ -356,8 +356,8 @@ module _ (et w h q : ℕ) (before after : ℕ → List ℕ → ℕ) (same : (j :
       }
 
   pub walk-again :
-      (d′ : List ℕ) (n at at′ : ℕ) → at ≤ length d → at′ ≤ length d′ → 0 ≡ tilesFault before w h q d n at → drop at′ d′ ≡ tidyTiles et d n at →
-      (0 ≡ tilesFault after w h q d′ n at′) × (tilesIn d′ n at′ ≡ map (tidyTile et) (tilesIn d n at))
+      (d′ : List ℕ) (n at at′ : ℕ) → at ≤ length d → at′ ≤ length d′ → 0 ≡ tilesFault before w h q d n at → drop at′ d′ ≡ tidyTiles sd et d n at →
+      (0 ≡ tilesFault after w h q d′ n at′) × (tilesIn d′ n at′ ≡ map (tidyTile sd et) (tilesIn d n at))
   unfolding tilesFault tilesIn tidyTiles
   walk-again d′ zero at at′ l l′ e r =
       let z : length d′ - at′ ≡ 0 = sym (length-drop at′ d′) ∙ ap length r in
@@ -366,10 +366,10 @@ module _ (et w h q : ℕ) (before after : ℕ → List ℕ → ℕ) (same : (j :
       let p = both (tileFault before w h q d at) (tilesFault before w h q d n (at + sizeAt d at)) e in
       let s = tile-sound before w h q d at l (p .0) in
       let g = tile-again at l (p .0) in
-      let t = tile-here d′ at′ (tidyTile et (tileAt d at)) (tidyTiles et d n (at + sizeAt d at)) (g .fits) r in
+      let t = tile-here d′ at′ (tidyTile sd et (tileAt d at)) (tidyTiles sd et d n (at + sizeAt d at)) (g .fits) r in
       let more = walk-again d′ n (at + sizeAt d at) (at′ + sizeAt d′ at′) (s .good .whole .there) (omega (arith, t .size, t .room, l′)) (p .1)
       (rw (t .size) (t .next)) in
-      (none _ _ (tile-none after w h q d′ at′ (tidyTile et (tileAt d at)) _ g t) (more .0), ap₂ _∷_ (t .is) (more .1))
+      (none _ _ (tile-none after w h q d′ at′ (tidyTile sd et (tileAt d at)) _ g t) (more .0), ap₂ _∷_ (t .is) (more .1))
 
 -- ---- the frame
 
@@ -390,13 +390,13 @@ le32-small : (d : List ℕ) (at : ℕ) → Bytes d → le32 d at < 4294967296
 unfolding le32
 le32-small d at h = omega (arith, le16-small d at h, le16-small d (at + 2) h)
 
-tiles-short : (et : ℕ) (m : List ℕ) → Laid m → length (tilesTidied et m) ≤ length (dataOf m (setPlace m))
+tiles-short : (sd et : ℕ) (m : List ℕ) → Laid m → length (tilesTidied sd et m) ≤ length (dataOf m (setPlace m))
 unfolding tilesTidied
-tiles-short et m w = omega (arith, tiles-shorter et (dataOf m (setPlace m)) (tileCount m (setPlace m)) 0 (omega arith) (w .tiles))
+tiles-short sd et m w = omega (arith, tiles-shorter sd et (dataOf m (setPlace m)) (tileCount m (setPlace m)) 0 (omega arith) (w .tiles))
 
-tiles-from : (et : ℕ) (m : List ℕ) → drop 0 (tilesTidied et m) ≡ tidyTiles et (dataOf m (setPlace m)) (tileCount m (setPlace m)) 0
+tiles-from : (sd et : ℕ) (m : List ℕ) → drop 0 (tilesTidied sd et m) ≡ tidyTiles sd et (dataOf m (setPlace m)) (tileCount m (setPlace m)) 0
 unfolding tilesTidied
-tiles-from et m = refl
+tiles-from sd et m = refl
 
 end-is : (m : List ℕ) (end : ℕ) → end ≡ setPlace m + sizeAt m (setPlace m) → end ≡ endPlace m
 unfolding endPlace
@@ -408,17 +408,17 @@ tiles-moved : (comp : ℕ → List ℕ → List ℕ → ℕ) (w h et : ℕ) (m T
 tiles-moved comp w h et m T sp′ sp q n e a b c x = rw (e, a, b, c) x
 
 -- what the tidied frame is to a reader, by a judge of components
-pub record Again (comp : ℕ → List ℕ → List ℕ → ℕ) (w h et : ℕ) (m m′ : List ℕ) : Type 0 where
+pub record Again (sd : ℕ) (comp : ℕ → List ℕ → List ℕ → ℕ) (w h et : ℕ) (m m′ : List ℕ) : Type 0 where
   pub fault : 0 ≡ frameFault comp w h et m′
-  pub tiles : frameTiles m′ ≡ map (tidyTile et) (frameTiles m)
+  pub tiles : frameTiles m′ ≡ map (tidyTile sd et) (frameTiles m)
   pub region : (rectCount m′ 14 ≡ rectCount m 14) × (rectsOf m′ 14 ≡ rectsOf m 14)
   pub sets : (j : ℕ) → j < quantCount m (setPlace m) → setAt m′ (setPlace m′) j ≡ setAt m (setPlace m) j
 
-pub again : (comp : ℕ → List ℕ → List ℕ → ℕ) (w h et : ℕ) (m : List ℕ) → Bytes m →
-    0 ≡ frameFault (λ (e : ℕ) (five code : List ℕ). comp e five (tidyCode e code)) w h et m → Again comp w h et m (frameTidied et m)
+pub again : (sd : ℕ) (comp : ℕ → List ℕ → List ℕ → ℕ) (w h et : ℕ) (m : List ℕ) → Bytes m →
+    0 ≡ frameFault (λ (e : ℕ) (five code : List ℕ). comp e five (tidyCode sd e code)) w h et m → Again sd comp w h et m (frameTidied sd et m)
 unfolding frameTiles tilesBy sizeAt
-again comp w h et m hb e =
-    let loose : ℕ → List ℕ → List ℕ → ℕ = λ i five code. comp i five (tidyCode i code) in
+again sd comp w h et m hb e =
+    let loose : ℕ → List ℕ → List ℕ → ℕ = λ i five code. comp i five (tidyCode sd i code) in
     let p = parts-good loose w h et m e in
     let lay = laid loose w h et m p in
     let sp = setPlace m in
@@ -428,16 +428,16 @@ again comp w h et m hb e =
     let g = p .good .set .good in
     let r = p .good .region in
     let z = placed m sp q (length D) refl g refl refl in
-    let T = tilesTidied et m in
-    let m′ = frameTidied et m in
-    let short : length T ≤ length D = tiles-short et m lay in
+    let T = tilesTidied sd et m in
+    let m′ = frameTidied sd et m in
+    let short : length T ≤ length D = tiles-short sd et m lay in
     let small : 22 + 5 * q + length T < 4294967296 = omega (arith, short, data-long m sp g, g .size, le32-small m (sp + 2) hb) in
-    let a = alike et m sp (sp + (22 + 5 * q)) (sp + (22 + 5 * q) + length D) z small in
+    let a = alike sd et m sp (sp + (22 + 5 * q)) (sp + (22 + 5 * q) + length D) z small in
     let by = sets-again m m′ T _ sp _ a refl refl r (omega (arith, z .inside)) in
     let place = place-again m m′ T _ sp _ a refl refl r in
-    let walk = walk-again et w h q (λ j code. comp et (setAt m sp j) (tidyCode et code)) (λ j code. comp et (setAt m′ sp j) code)
-    (λ j l code. ap (λ (five : List ℕ). comp et five (tidyCode et code)) (sym (by j l))) D (data-bytes m sp hb) T n 0 0 (omega arith) (omega arith) (p .tiles)
-    (tiles-from et m) in
+    let walk = walk-again sd et w h q (λ j code. comp et (setAt m sp j) (tidyCode sd et code)) (λ j code. comp et (setAt m′ sp j) code)
+    (λ j l code. ap (λ (five : List ℕ). comp et five (tidyCode sd et code)) (sym (by j l))) D (data-bytes m sp hb) T n 0 0 (omega arith) (omega arith) (p .tiles)
+    (tiles-from sd et m) in
     let count = count-again m m′ T _ sp _ a refl refl r in
     let all = data-again m m′ T _ sp _ a refl refl r in
     let last = end-again m m′ T _ sp _ a refl refl r (sp + (22 + 5 * q) + length D) refl (z .inside)

@@ -16,7 +16,7 @@ use Rattle.frame_layout.specs.Reader.{sizeAt, tileAt, dataOf, dataSize, tileCou
 use Rattle.frame_layout.specs.laws.Here.{tile-length}
 use Rattle.frame_blocks.specs.Blocks.{SetGood}
 use Rattle.frame_blocks.specs.Tiles.{TileWhole, codePart}
-use Rattle.tidy_code.specs.Loose.{tidyCode}
+use Rattle.tidy_code.specs.Sent.{tidyCode}
 use Rattle.tidy_code.specs.laws.Request.{tidyCodes}
 use Rattle.tidy.specs.Tidy.{tidyTile, tidyTiles, tilesTidied, tilesPlace, frontTidied, frameTidied, sameBytes, cutCode, cutTiles}
 use Rattle.tidy.specs.Put.{Puts, headWith, tileCut, AllWhole, Laid, closedAs}
@@ -54,15 +54,15 @@ put-there x xs ys at e p q h =
 changed : (t : Bool) (x a b : List ℕ) → t ≡ sameBytes x b → x ≡ a → t ≡ sameBytes a b
 changed t x a b e f = e ∙ ap (λ (z : List ℕ). sameBytes z b) f
 
-module _ (et : ℕ) (code o o′ : List ℕ) (at e : ℕ) (h : at ≤ length o) (p : o′ ≡ patch o at (tidyCode et code)) (q : e ≡ at + length (tidyCode et code)) where
-  there : take (e - at) (drop at o′) ≡ tidyCode et code
-  there = put-there o′ o (tidyCode et code) at e p q h
+module _ (sd et : ℕ) (code o o′ : List ℕ) (at e : ℕ) (h : at ≤ length o) (p : o′ ≡ patch o at (tidyCode sd et code)) (q : e ≡ at + length (tidyCode sd et code)) where
+  there : take (e - at) (drop at o′) ≡ tidyCode sd et code
+  there = put-there o′ o (tidyCode sd et code) at e p q h
 
-  pub code-kept : true ≡ sameBytes (take (e - at) (drop at o′)) code → Puts (tidyCode et code) (cutCode et code) at o o′ (record { to = e; cut = 0 })
+  pub code-kept : true ≡ sameBytes (take (e - at) (drop at o′)) code → Puts (tidyCode sd et code) (cutCode sd et code) at o o′ (record { to = e; cut = 0 })
   unfolding cutCode
   code-kept t = record { left = p; behind = q; counts = passes _ _ _ _ (sym (changed _ _ _ _ t there)) refl }
 
-  pub code-cut : false ≡ sameBytes (take (e - at) (drop at o′)) code → Puts (tidyCode et code) (cutCode et code) at o o′ (record { to = e; cut = 1 })
+  pub code-cut : false ≡ sameBytes (take (e - at) (drop at o′)) code → Puts (tidyCode sd et code) (cutCode sd et code) at o o′ (record { to = e; cut = 1 })
   unfolding cutCode
   code-cut t = record { left = p; behind = q; counts = fails _ _ _ _ (sym (changed _ _ _ _ t there)) refl }
 
@@ -71,9 +71,9 @@ unfolding _!_⨾_
 at-most-1 true = omega arith
 at-most-1 false = omega arith
 
-pub cut-few : (et : ℕ) (code : List ℕ) → cutCode et code ≤ 1
+pub cut-few : (sd et : ℕ) (code : List ℕ) → cutCode sd et code ≤ 1
 unfolding cutCode
-cut-few et code = at-most-1 (sameBytes (tidyCode et code) code)
+cut-few sd et code = at-most-1 (sameBytes (tidyCode sd et code) code)
 
 -- a component's code that was put ends no later than it did as it came, and counts once at most
 pub record Coded (part : List ℕ) (to : ℕ) (out out′ : List ℕ) (p : Put) : Type 0 where
@@ -82,11 +82,11 @@ pub record Coded (part : List ℕ) (to : ℕ) (out out′ : List ℕ) (p : Put) 
   pub long : length out′ ≡ length out
 
 pub coded :
-    (et : ℕ) {to : ℕ} {code part out out′ : List ℕ} {p : Put} → code ≡ part → Puts (tidyCode et code) (cutCode et code) to out out′ p →
+    (sd et : ℕ) {to : ℕ} {code part out out′ : List ℕ} {p : Put} → code ≡ part → Puts (tidyCode sd et code) (cutCode sd et code) to out out′ p →
     length out′ ≡ length out → Coded part to out out′ p
-coded et {code = code} e h l = record {
-  ends = omega (arith, h .behind, tidyCodes .never-longer et code, ap length e);
-  few = omega (arith, h .counts, cut-few et code);
+coded sd et {code = code} e h l = record {
+  ends = omega (arith, h .behind, tidyCodes .never-longer sd et code, ap length e);
+  few = omega (arith, h .counts, cut-few sd et code);
   long = l;
 }
 
@@ -111,23 +111,23 @@ pub codes-room : (d : List ℕ) (at : ℕ) → TileWhole d at →
     19 + length (tileAt d at .ys) + length (tileAt d at .cbs) + length (tileAt d at .crs) ≡ sizeAt d at
 codes-room d at w = let s = tile-sized d at w in rw (s .0, s .1 .0, s .1 .1) (sym (w .lengths))
 
-pub tile-shorter : (et : ℕ) (d : List ℕ) (at : ℕ) → TileWhole d at → length (tileOf (tidyTile et (tileAt d at))) ≤ sizeAt d at
+pub tile-shorter : (sd et : ℕ) (d : List ℕ) (at : ℕ) → TileWhole d at → length (tileOf (tidyTile sd et (tileAt d at))) ≤ sizeAt d at
 unfolding tileLen tidyTile
-tile-shorter et d at w =
+tile-shorter sd et d at w =
     let t = tileAt d at in
-    let n = tidyCodes .never-longer et in
-    omega (arith, tile-length (tidyTile et t), codes-room d at w, n (t .ys), n (t .cbs), n (t .crs))
+    let n = tidyCodes .never-longer sd et in
+    omega (arith, tile-length (tidyTile sd et t), codes-room d at w, n (t .ys), n (t .cbs), n (t .crs))
 
 head-long : (t : Tile) (a b c : ℕ) → length (headWith t a b c) ≡ 19
 unfolding headWith bytes16 bytes32
 head-long t a b c = refl
 
-tile-is : (et : ℕ) (t : Tile) →
-    headWith t (length (tidyCode et (t .ys))) (length (tidyCode et (t .cbs))) (length (tidyCode et (t .crs)))
-    ++ (tidyCode et (t .ys) ++ (tidyCode et (t .cbs) ++ tidyCode et (t .crs)))
-    ≡ tileOf (tidyTile et t)
+tile-is : (sd et : ℕ) (t : Tile) →
+    headWith t (length (tidyCode sd et (t .ys))) (length (tidyCode sd et (t .cbs))) (length (tidyCode sd et (t .crs)))
+    ++ (tidyCode sd et (t .ys) ++ (tidyCode sd et (t .cbs) ++ tidyCode sd et (t .crs)))
+    ≡ tileOf (tidyTile sd et t)
 unfolding tileOf tileHead tileLen headWith tidyTile
-tile-is et t = refl
+tile-is sd et t = refl
 
 pub head-put : (t : Tile) (o o′ : List ℕ) (to x y ly lcb lcr : ℕ) → x ≡ t .x → y ≡ t .y →
     o′ ≡ patch o to (bytes16 0xCAC3 ++ (bytes32 (19 + ly + lcb + lcr) ++ (t .qy ∷ t .qcb ∷ t .qcr ∷ (bytes16 x ++ (bytes16 y
@@ -137,19 +137,19 @@ unfolding headWith
 head-put t o o′ to x y ly lcb lcr ex ey e = rw (← ex, ← ey) e
 
 -- o1 .. o3 are the output after each code, o4 after the head
-module _ (et : ℕ) (t : Tile) (o o1 o2 o3 o4 : List ℕ) (to : ℕ) (y cb cr : Put) where
+module _ (sd et : ℕ) (t : Tile) (o o1 o2 o3 o4 : List ℕ) (to : ℕ) (y cb cr : Put) where
   codes-put :
       to + 19 ≤ length o →
-      Puts (tidyCode et (t .ys)) (cutCode et (t .ys)) (to + 19) o o1 y →
-      Puts (tidyCode et (t .cbs)) (cutCode et (t .cbs)) (y .to) o1 o2 cb →
-      Puts (tidyCode et (t .crs)) (cutCode et (t .crs)) (cb .to) o2 o3 cr →
+      Puts (tidyCode sd et (t .ys)) (cutCode sd et (t .ys)) (to + 19) o o1 y →
+      Puts (tidyCode sd et (t .cbs)) (cutCode sd et (t .cbs)) (y .to) o1 o2 cb →
+      Puts (tidyCode sd et (t .crs)) (cutCode sd et (t .crs)) (cb .to) o2 o3 cr →
       o4 ≡ patch o3 to (headWith t (y .to - (to + 19)) (cb .to - y .to) (cr .to - cb .to)) →
-      Puts (tileOf (tidyTile et t)) (tileCut et t) to o o4 (record { to = cr .to; cut = y .cut + cb .cut + cr .cut })
+      Puts (tileOf (tidyTile sd et t)) (tileCut sd et t) to o o4 (record { to = cr .to; cut = y .cut + cb .cut + cr .cut })
   unfolding tileCut
   codes-put h p1 p2 p3 p4 =
-      let Y = tidyCode et (t .ys) in
-      let Cb = tidyCode et (t .cbs) in
-      let Cr = tidyCode et (t .crs) in
+      let Y = tidyCode sd et (t .ys) in
+      let Cb = tidyCode sd et (t .cbs) in
+      let Cr = tidyCode sd et (t .crs) in
       let H = headWith t (length Y) (length Cb) (length Cr) in
       let n1 : y .to - (to + 19) ≡ length Y = omega (arith, p1 .behind) in
       let n2 : cb .to - y .to ≡ length Cb = omega (arith, p2 .behind) in
@@ -159,9 +159,9 @@ module _ (et : ℕ) (t : Tile) (o o1 o2 o3 o4 : List ℕ) (to : ℕ) (y cb cr : 
       ∙ ap (patch o (to + 19)) (append-assoc Y Cb Cr) in
       let w4 : o4 ≡ patch o3 to H = p4 ∙ rw (n1, n2, n3) refl in
       let hl = head-long t (length Y) (length Cb) (length Cr) in
-      let w5 = patch-before o3 o4 o H (Y ++ (Cb ++ Cr)) to (to + 19) w3 w4 (omega arith) h ∙ ap (patch o to) (tile-is et t) in
-      let long : length (tileOf (tidyTile et t)) ≡ 19 + (length Y + (length Cb + length Cr)) =
-      ap length (sym (tile-is et t)) ∙ (length-append H (Y ++ (Cb ++ Cr)) ∙ rw (hl, length-append Y (Cb ++ Cr), length-append Cb Cr) refl) in
+      let w5 = patch-before o3 o4 o H (Y ++ (Cb ++ Cr)) to (to + 19) w3 w4 (omega arith) h ∙ ap (patch o to) (tile-is sd et t) in
+      let long : length (tileOf (tidyTile sd et t)) ≡ 19 + (length Y + (length Cb + length Cr)) =
+      ap length (sym (tile-is sd et t)) ∙ (length-append H (Y ++ (Cb ++ Cr)) ∙ rw (hl, length-append Y (Cb ++ Cr), length-append Cb Cr) refl) in
       record {
         left = w5;
         behind = omega (arith, long, p1 .behind, p2 .behind, p3 .behind);
@@ -171,39 +171,39 @@ module _ (et : ℕ) (t : Tile) (o o1 o2 o3 o4 : List ℕ) (to : ℕ) (y cb cr : 
   -- the codes as they were read from the message
   pub tile-put :
       (ys cbs crs : List ℕ) → ys ≡ codePart t 0 → cbs ≡ codePart t 1 → crs ≡ codePart t 2 → to + 19 ≤ length o →
-      Puts (tidyCode et ys) (cutCode et ys) (to + 19) o o1 y →
-      Puts (tidyCode et cbs) (cutCode et cbs) (y .to) o1 o2 cb →
-      Puts (tidyCode et crs) (cutCode et crs) (cb .to) o2 o3 cr →
+      Puts (tidyCode sd et ys) (cutCode sd et ys) (to + 19) o o1 y →
+      Puts (tidyCode sd et cbs) (cutCode sd et cbs) (y .to) o1 o2 cb →
+      Puts (tidyCode sd et crs) (cutCode sd et crs) (cb .to) o2 o3 cr →
       o4 ≡ patch o3 to (headWith t (y .to - (to + 19)) (cb .to - y .to) (cr .to - cb .to)) →
-      Puts (tileOf (tidyTile et t)) (tileCut et t) to o o4 (record { to = cr .to; cut = y .cut + cb .cut + cr .cut })
+      Puts (tileOf (tidyTile sd et t)) (tileCut sd et t) to o o4 (record { to = cr .to; cut = y .cut + cb .cut + cr .cut })
   unfolding codePart
   tile-put ys cbs crs e1 e2 e3 h p1 p2 p3 p4 =
-      codes-put h (subst (λ (z : List ℕ). Puts (tidyCode et z) (cutCode et z) (to + 19) o o1 y) e1 p1)
-      (subst (λ (z : List ℕ). Puts (tidyCode et z) (cutCode et z) (y .to) o1 o2 cb) e2 p2)
-      (subst (λ (z : List ℕ). Puts (tidyCode et z) (cutCode et z) (cb .to) o2 o3 cr) e3 p3) p4
+      codes-put h (subst (λ (z : List ℕ). Puts (tidyCode sd et z) (cutCode sd et z) (to + 19) o o1 y) e1 p1)
+      (subst (λ (z : List ℕ). Puts (tidyCode sd et z) (cutCode sd et z) (y .to) o1 o2 cb) e2 p2)
+      (subst (λ (z : List ℕ). Puts (tidyCode sd et z) (cutCode sd et z) (cb .to) o2 o3 cr) e3 p3) p4
 
-pub cut-three : (et : ℕ) (t : Tile) → tileCut et t ≤ 3
+pub cut-three : (sd et : ℕ) (t : Tile) → tileCut sd et t ≤ 3
 unfolding tileCut
-cut-three et t = omega (arith, cut-few et (t .ys), cut-few et (t .cbs), cut-few et (t .crs))
+cut-three sd et t = omega (arith, cut-few sd et (t .ys), cut-few sd et (t .cbs), cut-few sd et (t .crs))
 
 -- ---- the loop over the tiles: done is what has been put so far, from a place on
 
 left : (n i : ℕ) → i < n → n - i ≡ suc (n - (i + 1))
 left n i h = omega arith
 
-pub record SoFar (et : ℕ) (d : List ℕ) (n i at to cut from : ℕ) (out₀ out : List ℕ) : Type 0 where
+pub record SoFar (sd et : ℕ) (d : List ℕ) (n i at to cut from : ℕ) (out₀ out : List ℕ) : Type 0 where
   pub done : List ℕ
   pub is : out ≡ patch out₀ from done
   pub here : to ≡ from + length done
-  pub rest : done ++ tidyTiles et d (n - i) at ≡ tidyTiles et d n 0
-  pub counted : cut + cutTiles et d (n - i) at ≡ cutTiles et d n 0
+  pub rest : done ++ tidyTiles sd et d (n - i) at ≡ tidyTiles sd et d n 0
+  pub counted : cut + cutTiles sd et d (n - i) at ≡ cutTiles sd et d n 0
   pub few : cut ≤ 3 * i
   pub short : length done ≤ at
   pub inside : at ≤ length d
   pub whole : AllWhole (n - i) d at
 
-pub so-far-start : (et : ℕ) (d : List ℕ) (n from : ℕ) (out : List ℕ) → AllWhole n d 0 → SoFar et d n 0 0 from 0 from out out
-so-far-start et d n from out w = record {
+pub so-far-start : (sd et : ℕ) (d : List ℕ) (n from : ℕ) (out : List ℕ) → AllWhole n d 0 → SoFar sd et d n 0 0 from 0 from out out
+so-far-start sd et d n from out w = record {
   done = [];
   is = patch-none out from;
   here = omega arith;
@@ -215,7 +215,7 @@ so-far-start et d n from out w = record {
   whole = subst (λ (k : ℕ). AllWhole k d 0) (sym (sub-zero n)) w;
 }
 
-module _ (et : ℕ) (d : List ℕ) (n i at to cut from : ℕ) (out₀ out : List ℕ) (f : SoFar et d n i at to cut from out₀ out) where
+module _ (sd et : ℕ) (d : List ℕ) (n i at to cut from : ℕ) (out₀ out : List ℕ) (f : SoFar sd et d n i at to cut from out₀ out) where
   module _ (l : i < n) where
     both-whole : TileWhole d at × AllWhole (n - (i + 1)) d (at + sizeAt d at)
     unfolding AllWhole
@@ -224,21 +224,21 @@ module _ (et : ℕ) (d : List ℕ) (n i at to cut from : ℕ) (out₀ out : List
     pub tile-whole : TileWhole d at
     tile-whole = both-whole .0
 
-    tiles-step : tidyTiles et d (n - i) at ≡ tileOf (tidyTile et (tileAt d at)) ++ tidyTiles et d (n - (i + 1)) (at + sizeAt d at)
+    tiles-step : tidyTiles sd et d (n - i) at ≡ tileOf (tidyTile sd et (tileAt d at)) ++ tidyTiles sd et d (n - (i + 1)) (at + sizeAt d at)
     unfolding tidyTiles
     tiles-step = rw (left n i l) refl
 
-    cut-step : cutTiles et d (n - i) at ≡ tileCut et (tileAt d at) + cutTiles et d (n - (i + 1)) (at + sizeAt d at)
+    cut-step : cutTiles sd et d (n - i) at ≡ tileCut sd et (tileAt d at) + cutTiles sd et d (n - (i + 1)) (at + sizeAt d at)
     unfolding cutTiles tileCut
     cut-step = rw (left n i l) (omega arith)
 
     pub so-far-grows : (out′ : List ℕ) (p : Put) (size : ℕ) → from ≤ length out₀ → size ≡ sizeAt d at →
-        Puts (tileOf (tidyTile et (tileAt d at))) (tileCut et (tileAt d at)) to out out′ p →
-        SoFar et d n (i + 1) (at + size) (p .to) (cut + p .cut) from out₀ out′
+        Puts (tileOf (tidyTile sd et (tileAt d at))) (tileCut sd et (tileAt d at)) to out out′ p →
+        SoFar sd et d n (i + 1) (at + size) (p .to) (cut + p .cut) from out₀ out′
     so-far-grows out′ p size h e q =
-        let t = tileOf (tidyTile et (tileAt d at)) in
+        let t = tileOf (tidyTile sd et (tileAt d at)) in
         let w = both-whole in
-        let s = tile-shorter et d at (w .0) in
+        let s = tile-shorter sd et d at (w .0) in
         let a = length-append (f .done) t in
         record {
           done = f .done ++ t;
@@ -246,18 +246,18 @@ module _ (et : ℕ) (d : List ℕ) (n i at to cut from : ℕ) (out₀ out : List
           here = omega (arith, f .here, q .behind, a);
           rest = rw e (append-assoc (f .done) t _ ∙ (ap (λ (z : List ℕ). f .done ++ z) (sym tiles-step) ∙ f .rest));
           counted = rw e (omega (arith, f .counted, cut-step, q .counts));
-          few = omega (arith, f .few, q .counts, cut-three et (tileAt d at));
+          few = omega (arith, f .few, q .counts, cut-three sd et (tileAt d at));
           short = omega (arith, f .short, a, s, e);
           inside = omega (arith, w .0 .there, e);
           whole = subst (λ (k : ℕ). AllWhole (n - (i + 1)) d (at + k)) (sym e) (w .1);
         }
 
-  pub so-far-ends : n ≤ i → Puts (tidyTiles et d n 0) (cutTiles et d n 0) from out₀ out (record { to = to; cut = cut })
+  pub so-far-ends : n ≤ i → Puts (tidyTiles sd et d n 0) (cutTiles sd et d n 0) from out₀ out (record { to = to; cut = cut })
   unfolding tidyTiles cutTiles
   so-far-ends l =
       let z : n - i ≡ 0 = omega arith in
-      let e : f .done ≡ tidyTiles et d n 0 = sym (append-nil (f .done)) ∙ subst (λ (k : ℕ). f .done ++ tidyTiles et d k at ≡ tidyTiles et d n 0) z (f .rest) in
-      let c : cut + 0 ≡ cutTiles et d n 0 = subst (λ (k : ℕ). cut + cutTiles et d k at ≡ cutTiles et d n 0) z (f .counted) in
+      let e : f .done ≡ tidyTiles sd et d n 0 = sym (append-nil (f .done)) ∙ subst (λ (k : ℕ). f .done ++ tidyTiles sd et d k at ≡ tidyTiles sd et d n 0) z (f .rest) in
+      let c : cut + 0 ≡ cutTiles sd et d n 0 = subst (λ (k : ℕ). cut + cutTiles sd et d k at ≡ cutTiles sd et d n 0) z (f .counted) in
       record {
         left = f .is ∙ ap (patch out₀ from) e;
         behind = f .here ∙ ap (λ (xs : List ℕ). from + length xs) e;
@@ -265,14 +265,14 @@ module _ (et : ℕ) (d : List ℕ) (n i at to cut from : ℕ) (out₀ out : List
       }
 
 -- all tiles are never longer than they came
-pub tiles-shorter : (et : ℕ) (d : List ℕ) (n at : ℕ) → at ≤ length d → AllWhole n d at → at + length (tidyTiles et d n at) ≤ length d
+pub tiles-shorter : (sd et : ℕ) (d : List ℕ) (n at : ℕ) → at ≤ length d → AllWhole n d at → at + length (tidyTiles sd et d n at) ≤ length d
 unfolding tidyTiles AllWhole
-tiles-shorter et d zero at l w = omega arith
-tiles-shorter et d (suc n) at l w =
-    let t = tileOf (tidyTile et (tileAt d at)) in
-    let s = tile-shorter et d at (w .0) in
-    let a = length-append t (tidyTiles et d n (at + sizeAt d at)) in
-    let m = tiles-shorter et d n (at + sizeAt d at) (w .0 .there) (w .1) in
+tiles-shorter sd et d zero at l w = omega arith
+tiles-shorter sd et d (suc n) at l w =
+    let t = tileOf (tidyTile sd et (tileAt d at)) in
+    let s = tile-shorter sd et d at (w .0) in
+    let a = length-append t (tidyTiles sd et d n (at + sizeAt d at)) in
+    let m = tiles-shorter sd et d n (at + sizeAt d at) (w .0 .there) (w .1) in
     omega arith
 
 -- ---- the frame
@@ -303,11 +303,11 @@ placed m sp q len e g f l =
       all = omega (arith, f, l);
     }
 
-module _ (et : ℕ) (m : List ℕ) (sp from end : ℕ) (z : Placed m sp from end) where
+module _ (sd et : ℕ) (m : List ℕ) (sp from end : ℕ) (z : Placed m sp from end) where
   unfoldable pub fills : List ℕ → List ℕ
-  fills F = patch (patch F (sp + 2) (bytes32 (22 + 5 * quantCount m sp + length (tilesTidied et m)))) (sp + 18) (bytes32 (length (tilesTidied et m)))
+  fills F = patch (patch F (sp + 2) (bytes32 (22 + 5 * quantCount m sp + length (tilesTidied sd et m)))) (sp + 18) (bytes32 (length (tilesTidied sd et m)))
 
-  pub frame-is : frameTidied et m ≡ fills (take from m) ++ (tilesTidied et m ++ drop end m)
+  pub frame-is : frameTidied sd et m ≡ fills (take from m) ++ (tilesTidied sd et m ++ drop end m)
   unfolding fills frameTidied frontTidied tilesPlace endPlace
   frame-is = rw (z .tiles, z .last, z .set) refl
 
@@ -317,25 +317,25 @@ module _ (et : ℕ) (m : List ℕ) (sp from end : ℕ) (z : Placed m sp from end
   fills-length : (F : List ℕ) → sp + 22 ≤ length F → length (fills F) ≡ length F
   unfolding fills bytes32
   fills-length F h =
-      let a = patch-length F (bytes32 (22 + 5 * quantCount m sp + length (tilesTidied et m))) (sp + 2) (omega arith) in
-      patch-length _ (bytes32 (length (tilesTidied et m))) (sp + 18) (omega (arith, a)) ∙ a
+      let a = patch-length F (bytes32 (22 + 5 * quantCount m sp + length (tilesTidied sd et m))) (sp + 2) (omega arith) in
+      patch-length _ (bytes32 (length (tilesTidied sd et m))) (sp + 18) (omega (arith, a)) ∙ a
 
-  pub frame-length : length (frameTidied et m) ≡ from + (length (tilesTidied et m) + (length m - end))
+  pub frame-length : length (frameTidied sd et m) ≡ from + (length (tilesTidied sd et m) + (length m - end))
   frame-length =
       let F = take from m in
-      let T = tilesTidied et m in
+      let T = tilesTidied sd et m in
       let E = drop end m in
       let a = fills-length F (omega (arith, front-length, z .tiles)) in
       ap length frame-is ∙ (length-append (fills F) (T ++ E) ∙ rw (a, front-length, length-append T E, length-drop end m) refl)
 
   module _ (o o1 o2 o3 : List ℕ) (cut : ℕ) (r : Put) where
     pub frame-put :
-        o1 ≡ patch o 0 (take from m) → Puts (tilesTidied et m) cut from o1 o2 r → o3 ≡ closedAs m sp end o2 from (r .to) →
-        Puts (frameTidied et m) cut 0 o o3 (record { to = r .to + (length m - end); cut = r .cut })
+        o1 ≡ patch o 0 (take from m) → Puts (tilesTidied sd et m) cut from o1 o2 r → o3 ≡ closedAs m sp end o2 from (r .to) →
+        Puts (frameTidied sd et m) cut 0 o o3 (record { to = r .to + (length m - end); cut = r .cut })
     unfolding closedAs fills bytes32
     frame-put p1 p2 p3 =
         let F = take from m in
-        let T = tilesTidied et m in
+        let T = tilesTidied sd et m in
         let E = drop end m in
         let S = T ++ E in
         let l = front-length in
@@ -361,13 +361,13 @@ module _ (et : ℕ) (m : List ℕ) (sp from end : ℕ) (z : Placed m sp from end
         }
 
 -- a frame with its codes tidied is never longer than it came
-pub frame-shorter : (et : ℕ) (m : List ℕ) → Laid m → length (frameTidied et m) ≤ length m
+pub frame-shorter : (sd et : ℕ) (m : List ℕ) → Laid m → length (frameTidied sd et m) ≤ length m
 unfolding tilesTidied
-frame-shorter et m w =
+frame-shorter sd et m w =
     let sp = setPlace m in
     let z = placed m sp (quantCount m sp) (length (dataOf m sp)) refl (w .front .set .good) refl refl in
-    let l = frame-length et m sp _ _ z in
-    let t = tiles-shorter et (dataOf m sp) (tileCount m sp) 0 (omega arith) (w .tiles) in
+    let l = frame-length sd et m sp _ _ z in
+    let t = tiles-shorter sd et (dataOf m sp) (tileCount m sp) 0 (omega arith) (w .tiles) in
     omega (arith, l, t, z .inside)
 
 -- what is read of a message whose layout is in order: the region's size, the number of quantiser sets and of tiles, the tiles' data
@@ -401,9 +401,9 @@ found m size q n d w es eq en ed =
       whole = subst (λ (k : ℕ). AllWhole k d 0) (sym c) (subst (λ (z : List ℕ). AllWhole (tileCount m (setPlace m)) z 0) (sym e) (w .tiles));
     }
 
-pub found-put : (et : ℕ) (m d o o′ : List ℕ) (size q n from : ℕ) (r : Put) → Found m size q n d → Puts (tidyTiles et d n 0) (cutTiles et d n 0) from o o′ r →
-    Puts (tilesTidied et m) (cutTiles et (dataOf m (setPlace m)) (tileCount m (setPlace m)) 0) from o o′ r
+pub found-put : (sd et : ℕ) (m d o o′ : List ℕ) (size q n from : ℕ) (r : Put) → Found m size q n d → Puts (tidyTiles sd et d n 0) (cutTiles sd et d n 0) from o o′ r →
+    Puts (tilesTidied sd et m) (cutTiles sd et (dataOf m (setPlace m)) (tileCount m (setPlace m)) 0) from o o′ r
 unfolding tilesTidied
-found-put et m d o o′ size q n from r f p =
-    subst (λ (k : ℕ). Puts (tidyTiles et (dataOf m (setPlace m)) k 0) (cutTiles et (dataOf m (setPlace m)) k 0) from o o′ r) (f .count)
-    (subst (λ (z : List ℕ). Puts (tidyTiles et z n 0) (cutTiles et z n 0) from o o′ r) (f .tiles) p)
+found-put sd et m d o o′ size q n from r f p =
+    subst (λ (k : ℕ). Puts (tidyTiles sd et (dataOf m (setPlace m)) k 0) (cutTiles sd et (dataOf m (setPlace m)) k 0) from o o′ r) (f .count)
+    (subst (λ (z : List ℕ). Puts (tidyTiles sd et z n 0) (cutTiles sd et z n 0) from o o′ r) (f .tiles) p)

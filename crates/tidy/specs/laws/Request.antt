@@ -5,6 +5,7 @@ use mathlib.Core.Bool.{Bool, true, false, true≢false}
 use mathlib.Core.List.{List, [], _∷_, _++_, append-nil, flatten}
 use native.Mathlib.Omega.{arith}
 use lib.Dec.{eqb}
+use lib.IntN.{ℤ}
 use lib.ListN.{length}
 use borrow.Author.Tests.{eqb-true, eq-eqb}
 use Rattle.whole.specs.Row.{_!_⨾_, _⇒_∣_}
@@ -17,16 +18,21 @@ use Rattle.frame_blocks.specs.Tiles.{tileFront}
 use Rattle.frame_blocks.specs.laws.Tiles.{tile-goes-on}
 use Rattle.session.specs.Header.{ready}
 use Rattle.session.specs.declared.Session.{Session}
-use Rattle.tidy.specs.Tidy.{faultFor, layoutFor, isTidied, tidyFrame, frameTidied}
+use Rattle.tidy.specs.Tidy.{faultFor, layoutFor, isTidied, tidyFrame, frameTidied, FrameTidied}
 use Rattle.tidy.specs.Put.{Laid}
-use Rattle.tidy.specs.Headers.{kindOf, isSync, allOn, none, isThree, isGroup, ofKind, blocksOn}
+use Rattle.tidy.specs.Headers.{kindOf, isSync, allOn, none, isThree, isGroup, ofKind, blocksOn, GaveOn}
+use Rattle.tidy.specs.Held.{HeldGave}
+use Rattle.tidy.specs.declared.frames.Tidied.{Tidied}
+use Rattle.tidy.specs.declared.headers.Gave.{Gave}
+use Rattle.tidy.specs.declared.headers.Waiting.{Waiting}
+use Rattle.tidy.specs.declared.held.Passed.{Passed}
 use Rattle.tidy.specs.laws.Layout.{tilesBy, parts-by, parts-good, laid, anyCode, front-alone}
 use Rattle.tidy.specs.laws.Mended.{Again, again}
 use Rattle.tidy.specs.laws.Sync.{sync-good}
 use Rattle.tidy.specs.laws.Blocks.{same-blocks, twice-once}
 use Rattle.tidy.specs.laws.Order.{bytes-on}
 use Rattle.tidy.specs.laws.Put.{frame-shorter}
-use Rattle.tidy.specs.Request.{judgedLoosely, TidyFrames, ordersOf, EachOf, TidyHeaders}
+use Rattle.tidy.specs.Request.{judgedAs, TidyFrames, ordersOf, EachOf, TidyHeaders}
 
 -- ---- by whether a frame is tidied
 
@@ -43,21 +49,21 @@ all-hold true true c d e = absurd (true≢false (sym e))
 all-hold true false false d e = absurd (true≢false (sym e))
 all-hold true false true d e = (refl, (refl, e))
 
-module _ (s : Session) (m : List ℕ) where
-  pub kept : isTidied s m ≡ false → tidyFrame s m ≡ m
+module _ (sd : ℕ) (s : Session) (m : List ℕ) where
+  pub kept : isTidied sd s m ≡ false → tidyFrame sd s m ≡ m
   unfolding tidyFrame
   kept e = sym (fails _ _ _ _ e refl)
 
-  pub tidied : isTidied s m ≡ true → tidyFrame s m ≡ frameTidied (s .mode) m
+  pub tidied : isTidied sd s m ≡ true → tidyFrame sd s m ≡ frameTidied sd (s .mode) m
   unfolding tidyFrame
   tidied e = sym (passes _ _ _ _ e refl)
 
   -- what a frame has that is tidied
-  pub hold-all : isTidied s m ≡ true → (ready s ≡ true) × ((0 ≡ layoutFor s m) × (faultFor s (frameTidied (s .mode) m) ≡ 0))
+  pub hold-all : isTidied sd s m ≡ true → (ready s ≡ true) × ((0 ≡ layoutFor s m) × (faultFor s (frameTidied sd (s .mode) m) ≡ 0))
   unfolding isTidied
   hold-all e =
-      let k = all-hold (ready s) (eqb (faultFor s m) 0) (eqb (layoutFor s m) 0) (eqb (faultFor s (frameTidied (s .mode) m)) 0) e in
-      (k .0, (sym (eqb-true (layoutFor s m) 0 (k .1 .0)), eqb-true (faultFor s (frameTidied (s .mode) m)) 0 (k .1 .1)))
+      let k = all-hold (ready s) (eqb (faultFor s m) 0) (eqb (layoutFor s m) 0) (eqb (faultFor s (frameTidied sd (s .mode) m)) 0) e in
+      (k .0, (sym (eqb-true (layoutFor s m) 0 (k .1 .0)), eqb-true (faultFor s (frameTidied sd (s .mode) m)) 0 (k .1 .1)))
 
   pub laid-by : 0 ≡ layoutFor s m → Laid m
   unfolding layoutFor
@@ -65,30 +71,30 @@ module _ (s : Session) (m : List ℕ) where
       laid (λ (et : ℕ) (five code : List ℕ). 0) (s .width) (s .height) (s .mode) m
       (parts-good (λ (et : ℕ) (five code : List ℕ). 0) (s .width) (s .height) (s .mode) m e)
 
-  accepted-kept : faultFor s m ≡ 0 → tidyFrame s m ≡ m
+  accepted-kept : faultFor s m ≡ 0 → tidyFrame sd s m ≡ m
   unfolding isTidied
   accepted-kept e = kept (good-as-is (ready s) (eqb (faultFor s m) 0) (eqb (layoutFor s m) 0) _ (eq-eqb (faultFor s m) 0 e))
 
   -- the two ways
-  by-cases : (P : List ℕ → Type 0) → (isTidied s m ≡ true → P (frameTidied (s .mode) m)) → (isTidied s m ≡ false → P m) → P (tidyFrame s m)
-  by-cases P one two = go (isTidied s m) refl
+  by-cases : (P : List ℕ → Type 0) → (isTidied sd s m ≡ true → P (frameTidied sd (s .mode) m)) → (isTidied sd s m ≡ false → P m) → P (tidyFrame sd s m)
+  by-cases P one two = go (isTidied sd s m) refl
     where
-      go : (t : Bool) → isTidied s m ≡ t → P (tidyFrame s m)
+      go : (t : Bool) → isTidied sd s m ≡ t → P (tidyFrame sd s m)
       go true e = subst P (sym (tidied e)) (one e)
       go false e = subst P (sym (kept e)) (two e)
 
-  others-kept : (faultFor s (tidyFrame s m) ≡ 0 → ⊥) → tidyFrame s m ≡ m
+  others-kept : (faultFor s (tidyFrame sd s m) ≡ 0 → ⊥) → tidyFrame sd s m ≡ m
   others-kept = by-cases (λ z. (faultFor s z ≡ 0 → ⊥) → z ≡ m) (λ e h. absurd (h (hold-all e .1 .1))) (λ e h. refl)
 
-  never-longer : length (tidyFrame s m) ≤ length m
-  never-longer = by-cases (λ z. length z ≤ length m) (λ e. frame-shorter (s .mode) m (laid-by (hold-all e .1 .0))) (λ e. omega arith)
+  never-longer : length (tidyFrame sd s m) ≤ length m
+  never-longer = by-cases (λ z. length z ≤ length m) (λ e. frame-shorter sd (s .mode) m (laid-by (hold-all e .1 .0))) (λ e. omega arith)
 
-once : (s : Session) (m : List ℕ) → tidyFrame s (tidyFrame s m) ≡ tidyFrame s m
-once s m = go (isTidied s m) refl
+once : (sd : ℕ) (s : Session) (m : List ℕ) → tidyFrame sd s (tidyFrame sd s m) ≡ tidyFrame sd s m
+once sd s m = go (isTidied sd s m) refl
   where
-    go : (t : Bool) → isTidied s m ≡ t → tidyFrame s (tidyFrame s m) ≡ tidyFrame s m
-    go true e = accepted-kept s (tidyFrame s m) (ap (faultFor s) (tidied s m e) ∙ hold-all s m e .1 .1)
-    go false e = ap (tidyFrame s) (kept s m e)
+    go : (t : Bool) → isTidied sd s m ≡ t → tidyFrame sd s (tidyFrame sd s m) ≡ tidyFrame sd s m
+    go true e = accepted-kept sd s (tidyFrame sd s m) (ap (faultFor s) (tidied sd s m e) ∙ hold-all sd s m e .1 .1)
+    go false e = ap (tidyFrame sd s) (kept sd s m e)
 
 -- ---- a tidied frame is what came, tidied
 
@@ -117,45 +123,66 @@ as-is false b c d p q r e = absurd (true≢false (sym p))
 as-is true b false d p q r e = absurd (true≢false (sym q))
 as-is true b true false p q r e = absurd (true≢false (sym r))
 
-module _ (s : Session) (m : List ℕ) (hb : Bytes m) where
-  by-layout : isTidied s m ≡ true → Again (λ (i : ℕ) (five code : List ℕ). 0) (s .width) (s .height) (s .mode) m (tidyFrame s m)
+module _ (sd : ℕ) (s : Session) (m : List ℕ) (hb : Bytes m) where
+  by-layout : isTidied sd s m ≡ true → Again sd (λ (i : ℕ) (five code : List ℕ). 0) (s .width) (s .height) (s .mode) m (tidyFrame sd s m)
   unfolding layoutFor
   by-layout e =
-      subst (Again (λ (i : ℕ) (five code : List ℕ). 0) (s .width) (s .height) (s .mode) m) (sym (tidied s m e))
-      (again (λ (i : ℕ) (five code : List ℕ). 0) (s .width) (s .height) (s .mode) m hb (hold-all s m e .1 .0))
+      subst (Again sd (λ (i : ℕ) (five code : List ℕ). 0) (s .width) (s .height) (s .mode) m) (sym (tidied sd s m e))
+      (again sd (λ (i : ℕ) (five code : List ℕ). 0) (s .width) (s .height) (s .mode) m hb (hold-all sd s m e .1 .0))
 
-  module _ (r : ready s ≡ true) (f : frameFault judgedLoosely (s .width) (s .height) (s .mode) m ≡ 0) where
-    accepted : faultFor s (frameTidied (s .mode) m) ≡ 0
-    unfolding faultFor judgedLoosely
-    accepted = sym (again judged (s .width) (s .height) (s .mode) m hb (sym f) .fault)
+  module _ (r : ready s ≡ true) (f : frameFault (judgedAs sd) (s .width) (s .height) (s .mode) m ≡ 0) where
+    accepted : faultFor s (frameTidied sd (s .mode) m) ≡ 0
+    unfolding faultFor judgedAs
+    accepted = sym (again sd judged (s .width) (s .height) (s .mode) m hb (sym f) .fault)
 
     sound : layoutFor s m ≡ 0
     unfolding layoutFor
-    sound = sym (layout-none judgedLoosely (s .width) (s .height) (s .mode) m (sym f))
+    sound = sym (layout-none (judgedAs sd) (s .width) (s .height) (s .mode) m (sym f))
 
-    as-came : isTidied s m ≡ false → faultFor s m ≡ 0
+    as-came : isTidied sd s m ≡ false → faultFor s m ≡ 0
     unfolding isTidied
     as-came e =
-        eqb-true (faultFor s m) 0 (as-is (ready s) (eqb (faultFor s m) 0) (eqb (layoutFor s m) 0) (eqb (faultFor s (frameTidied (s .mode) m)) 0) r
-        (eq-eqb (layoutFor s m) 0 sound) (eq-eqb (faultFor s (frameTidied (s .mode) m)) 0 accepted) e)
+        eqb-true (faultFor s m) 0 (as-is (ready s) (eqb (faultFor s m) 0) (eqb (layoutFor s m) 0) (eqb (faultFor s (frameTidied sd (s .mode) m)) 0) r
+        (eq-eqb (layoutFor s m) 0 sound) (eq-eqb (faultFor s (frameTidied sd (s .mode) m)) 0 accepted) e)
 
-    mended : faultFor s (tidyFrame s m) ≡ 0
-    mended = go (isTidied s m) refl
+    mended : faultFor s (tidyFrame sd s m) ≡ 0
+    mended = go (isTidied sd s m) refl
       where
-        go : (t : Bool) → isTidied s m ≡ t → faultFor s (tidyFrame s m) ≡ 0
-        go true e = ap (faultFor s) (tidied s m e) ∙ hold-all s m e .1 .1
-        go false e = ap (faultFor s) (kept s m e) ∙ as-came e
+        go : (t : Bool) → isTidied sd s m ≡ t → faultFor s (tidyFrame sd s m) ≡ 0
+        go true e = ap (faultFor s) (tidied sd s m e) ∙ hold-all sd s m e .1 .1
+        go false e = ap (faultFor s) (kept sd s m e) ∙ as-came e
+
+-- ---- one answer
+
+one-tidied :
+    (sd : ℕ) (s : Session) (m : List ℕ) (list a b : List ℤ) (out x y : List ℕ) (r q : Tidied) → FrameTidied sd s m list a out x r →
+    FrameTidied sd s m list b out y q → (r .number ≡ q .number) × (r .size ≡ q .size) × (r .cut ≡ q .cut) × (a ≡ b) × (x ≡ y)
+one-tidied sd s m list a b out x y r q f g =
+    (f .number ∙ sym (g .number), f .size ∙ sym (g .size), f .cut ∙ sym (g .cut), f .work ∙ sym (g .work), f .left ∙ sym (g .left))
+
+one-given :
+    (fault : ℕ) (bytes : List ℕ) (next w : Waiting) (after store a b out x y : List ℕ) (r q : Gave) → GaveOn fault bytes next w after store a out x r →
+    GaveOn fault bytes next w after store b out y q → (r .number ≡ q .number) × (r .size ≡ q .size) × (r .waiting ≡ q .waiting) × (a ≡ b) × (x ≡ y)
+one-given fault bytes next w after store a b out x y r q f g =
+    (f .number ∙ sym (g .number), f .size ∙ sym (g .size), f .waiting ∙ sym (g .waiting), f .kept ∙ sym (g .kept), f .left ∙ sym (g .left))
+
+one-held :
+    (fault : ℕ) (bytes after held a b out x y : List ℕ) (r q : Passed) → HeldGave fault bytes after held a out x r →
+    HeldGave fault bytes after held b out y q → (r .number ≡ q .number) × (r .size ≡ q .size) × (a ≡ b) × (x ≡ y)
+one-held fault bytes after held a b out x y r q f g =
+    (f .number ∙ sym (g .number), f .size ∙ sym (g .size), f .kept ∙ sym (g .kept), f .left ∙ sym (g .left))
 
 pub tidyFrames : TidyFrames
 tidyFrames = record {
   accepted-kept = accepted-kept;
   mended = mended;
-  same-tiles = λ s m hb e. by-layout s m hb e .tiles;
-  same-region = λ s m hb e. by-layout s m hb e .region;
-  same-sets = λ s m j hb e l. by-layout s m hb e .sets j l;
+  same-tiles = λ sd s m hb e. by-layout sd s m hb e .tiles;
+  same-region = λ sd s m hb e. by-layout sd s m hb e .region;
+  same-sets = λ sd s m j hb e l. by-layout sd s m hb e .sets j l;
   others-kept = others-kept;
   once = once;
   never-longer = never-longer;
+  one-answer = one-tidied;
 }
 
 -- ---- headers
@@ -189,4 +216,6 @@ tidyHeaders = record {
   unchanged = unchanged;
   nothing-lost = λ store bs l. (bytes-on store bs l, same-blocks bs);
   once = twice-once;
+  one-answer = one-given;
+  one-held = one-held;
 }

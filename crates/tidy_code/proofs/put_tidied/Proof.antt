@@ -1,7 +1,9 @@
 -- Where a list is meant its own code is the tidied one, and has room (`put-code`, `meant-few`); else the bytes are (`put-kept`).
 use native.Mathlib.Omega.{arith}
 use borrow.Author.Needs.{needs}
-use Rattle.tidy_code.specs.laws.Meant.{meant-range, meant-few, put-code, put-kept}
+use Rattle.tidy_code.specs.laws.Read.{meant-list, put-code, put-kept}
+use Rattle.tidy_code.specs.laws.Request.{meant-listed, meant-few}
+use Rattle.code_write.specs.laws.Write.{is-range}
 use Rattle.tidy_code.proofs.put_tidied.Statement.{statement}
 use Rattle.tidy_code.proofs.put_tidied.Tie as tie
 
@@ -9,11 +11,12 @@ put-component-requires : tie.Need-put-component-requires
 put-component-requires c κs =
     let r = c .before .before .before .before in
     let p = r .before .before .before .before in
-    let l = r .read-loose .last .1 .1 .0 in
-    let m = r .read-loose .ensures .list (c .before .before .if1 .taken) in (
-      omega (arith, r .read-loose .kept .1 .1 .0, p .pre .0),
-      meant-range (p .args .mode) (p .args .s .now) l m,
-      omega (arith, meant-few (p .args .mode) (p .args .s .now) l m, p .pre .1),
+    let a = p .args in
+    let l = r .read-meant .last .1 .1 .1 .0 in
+    let m = meant-list _ l _ (r .read-meant .ensures) (c .before .before .if1 .taken) in (
+      omega (arith, r .read-meant .kept .1 .1 .1 .0, p .pre .0),
+      is-range l (meant-listed (a .sender) (a .mode) (a .s .now) l m .range),
+      omega (arith, meant-few (a .sender) (a .mode) (a .s .now) l m, p .pre .1),
     )
 
 returns : tie.Need-returns
@@ -22,8 +25,8 @@ returns c =
     let t = c .before .before .before .before .before in
     let r = t .before .before in
     let a = r .before .before .before .before .args in
-    put-code (a .mode) (a .s .now) (r .read-loose .last .1 .1 .0) (r .read-loose .result) (r .read-loose .ensures) (a .out .now) (w .last .1 .1 .0) (a .at)
-    (w .result) (t .if1 .taken) (w .ensures)
+    put-code (a .sender) (a .mode) (a .s .now) (r .read-meant .last .1 .1 .1 .0) (r .read-meant .result) (r .read-meant .ensures) (a .out .now)
+    (w .last .1 .1 .0) (a .at) (w .result) (t .if1 .taken) (w .ensures)
 
 returns-2 : tie.Need-returns-2
 returns-2 c =
@@ -31,8 +34,8 @@ returns-2 c =
     let t = c .before .before .before .before in
     let r = t .before .before in
     let a = r .before .before .before .before .args in
-    put-kept (a .mode) (a .s .now) (r .read-loose .last .1 .1 .0) (r .read-loose .result) (r .read-loose .ensures) (a .out .now) (k .last .0) (a .at)
-    (t .if1 .left) (k .ensures)
+    put-kept (a .sender) (a .mode) (a .s .now) (r .read-meant .last .1 .1 .1 .0) (r .read-meant .result) (r .read-meant .ensures) (a .out .now) (k .last .0)
+    (a .at) (t .if1 .left) (k .ensures)
 
 pub put-tidied-spec : {M : Type 1} → statement M
 put-tidied-spec =

@@ -1,173 +1,169 @@
--- What is promised of a tidied code, proved: what 01 reads whole is read so loosely (`strict-loose`), what is meant is in range and its code no longer
--- (`meant-listed`, `meant-few`), and one list has one code.
-use Prim.Native.Nat.{ℕ, zero, suc, _+_, _-_, _≤_, _<_}
+-- What is promised of a tidied code, proved: what means a list is one of its two forms and nothing else (laws/Form), so that two lists share no form; and the
+-- code of the list meant is never longer than what came, since the sample's form is the code of one value more (`one-behind`).
+use Prim.Native.Nat.{ℕ, _+_, _-_, _*_, _≤_}
 use mathlib.Core.Path.{_≡_, refl, sym, ap, subst, _∙_}
-use mathlib.Core.Bool.{Bool, true, false, true≢false}
-use mathlib.Core.Logic.{⊎-elim}
+use mathlib.Core.Bool.{Bool, false}
+use mathlib.Core.Logic.{_⊎_, inl, inr}
 use mathlib.Core.List.{List, [], _∷_, _++_, map}
 use native.Mathlib.Omega.{arith}
-use borrow.Author.Tests.{ltb-true, le-leb}
-use lib.Dec.{ltb, eqb}
-use lib.IntN.{ℤ, natAbs}
-use lib.ListN.{length, drop, take, length-append, length-map, length-drop}
-use lib.Seq.{take-at}
-use Rattle.whole.specs.Row.{_!_⨾_}
-use Rattle.whole.specs.Among.{among, Among}
+use lib.Dec.{eqb}
+use lib.IntN.{ℤ}
+use lib.ListN.{length, replicate, length-append}
+use Rattle.whole.specs.Among.{Among, among}
 use Rattle.whole.specs.laws.Among.{said}
-use Rattle.whole.specs.laws.Row.{held, passes}
-use Rattle.bits.specs.Bits.{bitsOf}
+use Rattle.bits.specs.Bytes.{Written}
+use Rattle.bits.specs.laws.Bit.{length-bitsOf}
 use Rattle.bits.specs.laws.Bytes.{Bytes}
 use Rattle.code.specs.Fold.{foldZ}
-use Rattle.code.specs.laws.Fold.{map-unfold, range-fold, near-fold}
-use Rattle.code.specs.Code.{codeOf, InRange}
-use Rattle.code.specs.ReadList.{Walked, whole, bad, readList, refusalNumber}
-use Rattle.code.specs.declared.element.Refusal.the-variants.{Overrun}
-use Rattle.code.specs.declared.read.Reading.the-variants.{Done, Tail}
-use Rattle.code.specs.laws.List.{read-back}
-use Rattle.code.specs.Read.{readFault, readBits, decoded, readingNumber, noOnes, clean, endReading, codeReading, shellFault, reading}
-use Rattle.code.specs.laws.Read.{accepted, accepted-list, decoded-length, into-decoded, shell-goes}
-use Rattle.code.specs.OneCode.{code, Listed, Call}
-use Rattle.code.specs.laws.OneCode.{behind-bits, written-decoded}
+use Rattle.code.specs.Code.{codeOf}
+use Rattle.code.specs.Read.{readFault, decoded}
+use Rattle.code.specs.OneCode.{code, Listed}
+use Rattle.code.specs.laws.OneCode.{written-decoded}
 use Rattle.code_write.specs.Write.{bytesOf}
-use Rattle.code_write.specs.laws.Write.{bytes-written, bytes-bytes}
-use Rattle.code_write.specs.laws.Once.{read-written}
-use Rattle.tidy_code.specs.Loose.{Meant, means, unclear, looseList, meantBy, tidyCode, pairLast, pairLastF}
+use Rattle.code_write.specs.laws.Write.{bytes-written, bytes-bytes, bytes-length, bytes-only}
+use Rattle.tidy_code.specs.Sent.{oneMore, sent, Form, Meant, means, unclear, allBut, meantBy, tidiedBy, tidyCode}
 use Rattle.tidy_code.specs.Request.{TidyCodes}
-use Rattle.tidy_code.specs.laws.Walk.{list-same, strict-loose, range-append}
-use Rattle.tidy_code.specs.laws.Pair.{list-dropped}
-use Rattle.tidy_code.specs.laws.Meant.{meaning, is-meant, meant-passed, meant-listed, meant-few, is-code, others-kept}
+use Rattle.tidy_code.specs.laws.Behind.{one-behind}
+use Rattle.tidy_code.specs.laws.Cases.{zeros-one, zeros-two}
+use Rattle.tidy_code.specs.laws.Form.{means-list, How, own, padded, longer, how, ends-zero, taken-exactly, fold-snoc, longer-is}
+use Rattle.tidy_code.specs.laws.Form.{means-form, own-means, surplus-eleven, form-means}
 
--- ---- codes that the panel takes
+-- ---- the forms
 
-clean-few : (bs : List Bool) → clean bs ≡ true → length bs < 8
-unfolding clean
-clean-few bs h = ltb-true (length bs) 8 (held (ltb (length bs) 8) false (noOnes bs) true true≢false (sym h) .0)
+one-list : (s mode : ℕ) (b : List ℕ) (zs zs′ : List ℤ) → Form s mode b zs → Form s mode b zs′ → zs ≡ zs′
+one-list s mode b zs zs′ f g = means-list (sym (form-means s mode b zs f) ∙ form-means s mode b zs′ g)
 
-good-means : (mode : ℕ) (s : List ℕ) → readFault mode 4096 s ≡ 0 → meantBy mode s ≡ means (decoded mode s)
-good-means mode s e =
-    let a = accepted mode 4096 s (sym e) in
-    let t = clean-few (drop (a .at) (bitsOf s)) (a .tail) in
-    is-meant mode s (a .xs) (a .at) (a .shell) (strict-loose (eqb mode 4) 4096 (bitsOf s) (a .xs) (a .at) (a .walked))
-    (omega (arith, t, length-drop (a .at) (bitsOf s))) ∙ ap means (sym (accepted-list mode 4096 s a))
-
-good-kept : (mode : ℕ) (s : List ℕ) → Bytes s → readFault mode 4096 s ≡ 0 → tidyCode mode s ≡ s
-good-kept mode s b e =
-    let f : readFault mode (length (decoded mode s)) s ≡ 0 = ap (λ (n : ℕ). readFault mode n s) (decoded-length mode 4096 s (sym e)) ∙ e in
-    is-code mode s (decoded mode s) (good-means mode s e)
-    ∙ sym (read-written mode s (decoded mode s) b f ∙ ap (bytesOf mode) (into-decoded mode s (decoded mode s) (sym f)))
-
--- ---- a code with bits behind it
-
-no-fault : (mode : ℕ) (s : List ℕ) (before : List ℤ) → Call mode s before → 0 ≡ shellFault mode 4096 (length s)
-unfolding shellFault
-no-fault mode s before c = passes _ _ _ _ (c .allowed) (passes _ _ _ _ refl (passes _ _ _ _ (le-leb (length s) 65535 (c .small)) refl))
-
-module _ (mode : ℕ) (s : List ℕ) (before zs : List ℤ) (rest : List Bool) (c : Call mode s before) (l : Listed zs) (e : bitsOf s ≡ code mode zs ++ rest) where
-  read-whole : readList (eqb mode 4) 4096 (bitsOf s) ≡ whole (map foldZ zs) (length (code mode zs))
-  read-whole =
-      let n : 4096 ≡ length (map foldZ zs) = sym (length-map zs foldZ ∙ l .len) in
-      ap (λ (k : ℕ). readList (eqb mode 4) k (bitsOf s)) n ∙ ap (readList (eqb mode 4) (length (map foldZ zs))) e
-      ∙ read-back (eqb mode 4) (map foldZ zs) rest (range-fold zs (l .range))
-
-  tail-means : length rest < 32 → (meantBy mode s ≡ means zs) × (readBits mode 4096 s ≡ length (code mode zs))
-  tail-means h = (
-    is-meant mode s (map foldZ zs) (length (code mode zs)) (no-fault mode s before c)
-        (strict-loose (eqb mode 4) 4096 (bitsOf s) (map foldZ zs) (length (code mode zs)) read-whole)
-        (omega (arith, ap length e, length-append (code mode zs) rest)) ∙ ap means (map-unfold zs),
-    ap (λ (n : ℕ). readBits mode n s) (sym (c .room)) ∙ behind-bits mode s before zs c l rest e,
-  )
-
--- ---- a last pair whose second value has no place
-
-fold-snoc : (zs : List ℤ) (b : ℤ) → map foldZ (zs ++ (b ∷ [])) ≡ map foldZ zs ++ (foldZ b ∷ [])
-fold-snoc [] b = refl
-fold-snoc (z ∷ zs) b = ap (λ (l : List ℕ). foldZ z ∷ l) (fold-snoc zs b)
-
-one-range : (v : ℕ) → v ≤ 65534 → InRange (v ∷ [])
-one-range v h zero = h
-one-range v h (suc i) = omega arith
-
-module _ (s : List ℕ) (before zs : List ℤ) (b : ℤ) (rest : List Bool) (c : Call 4 s before) (l : Listed zs) (h : natAbs b ≤ 32767)
-    (p : pairLast (zs ++ (b ∷ [])) ≡ true) (e : bitsOf s ≡ code 4 (zs ++ (b ∷ [])) ++ rest) where
-  all-but-last : looseList true 4096 (bitsOf s) ≡ whole (map foldZ zs) (length (code 4 (zs ++ (b ∷ []))))
-  unfolding pairLast
-  all-but-last =
-      let xs = map foldZ (zs ++ (b ∷ [])) in
-      let n : length xs ≡ length (zs ++ (b ∷ [])) = length-map (zs ++ (b ∷ [])) foldZ in
-      let m : length (zs ++ (b ∷ [])) ≡ 4097 = length-append zs (b ∷ []) ∙ omega (arith, l .len) in
-      let r : InRange xs =
-      subst InRange (sym (fold-snoc zs b)) (range-append (map foldZ zs) (foldZ b ∷ []) (range-fold zs (l .range)) (one-range (foldZ b) (near-fold b h))) in
-      list-dropped xs (bitsOf s) rest 4096 (omega (arith, n, m)) r (subst (λ (k : ℕ). pairLastF k 8 8 xs ≡ true) (sym n) p) e
-      ∙ ap (λ (t : List ℕ). whole t (length (codeOf true xs)))
-      (ap (take 4096) (fold-snoc zs b) ∙ take-at (map foldZ zs) (foldZ b ∷ []) 4096 (length-map zs foldZ ∙ l .len))
-
-  pair-means : length rest < 32 → meantBy 4 s ≡ means zs
-  pair-means k =
-      is-meant 4 s (map foldZ zs) (length (code 4 (zs ++ (b ∷ [])))) (no-fault 4 s before c) all-but-last
-      (omega (arith, ap length e, length-append (code 4 (zs ++ (b ∷ []))) rest)) ∙ ap means (map-unfold zs)
+one-form :
+    (s mode : ℕ) (b b′ : List ℕ) (zs : List ℤ) → Form s mode b zs → Form s mode b′ zs → (b ≡ bytesOf mode zs → ⊥) → (b′ ≡ bytesOf mode zs → ⊥) → b ≡ b′
+one-form s mode b b′ zs f g n n′ = other b n (f .bytes) ∙ sym (other b′ n′ (g .bytes))
+  where
+    other : (c : List ℕ) → (c ≡ bytesOf mode zs → ⊥) → (c ≡ bytesOf mode zs) ⊎ (c ≡ sent s mode zs) → c ≡ sent s mode zs
+    other c n (inl e) = absurd (n e)
+    other c n (inr e) = e
 
 -- ---- whatever is meant
 
-same-list :
-    (mode : ℕ) (s : List ℕ) (zs : List ℤ) → meantBy mode s ≡ means zs → (readFault mode 4096 (tidyCode mode s) ≡ 0) × (decoded mode (tidyCode mode s) ≡ zs)
-same-list mode s zs m =
-    let p = meant-passed mode s zs m in
-    subst (λ (t : List ℕ). (readFault mode 4096 t ≡ 0) × (decoded mode t ≡ zs)) (sym (is-code mode s zs m))
-    (written-decoded mode (bytesOf mode zs) zs (p .known) (omega (arith, meant-few mode s zs m, p .small)) (meant-listed mode s zs m) (bytes-written mode zs))
+-- the bits of a list's code, and how many bytes they take
+written-few : (mode : ℕ) (w : List ℕ) (c : List Bool) → Written w c → length c ≤ 8 * length w
+written-few mode w c t = omega (arith, ap length (t .bits), length-append c (replicate (t .pad) false), length-bitsOf w)
 
-number-by : (mode : ℕ) (s : List ℕ) (w : Walked) → 0 ≡ shellFault mode 4096 (length s) → readList (eqb mode 4) 4096 (bitsOf s) ≡ w →
-    readFault mode 4096 s ≡ readingNumber (endReading (bitsOf s) w)
-unfolding readFault reading codeReading
-number-by mode s w e r =
-    ap readingNumber (sym (shell-goes (shellFault mode 4096 (length s)) (codeReading (eqb mode 4) s) (sym e)) ∙ ap (endReading (bitsOf s)) r)
+module _ (s mode : ℕ) (b : List ℕ) (zs : List ℤ) (m : meantBy s mode b ≡ means zs) where
+  pub meant-listed : Listed zs
+  meant-listed = go (how s mode b zs m .1)
+    where
+      go : How s mode b zs → Listed zs
+      go (own f z) = subst Listed (sym z) (taken-exactly mode b f .list)
+      go (padded q o f n z) = subst Listed (sym z) (taken-exactly mode (allBut b) f .list)
+      go (longer q o xs at r c g z) = longer-is mode (allBut b) xs at zs r c g z .list
 
-kind-over : (B : List Bool) → Among (0 ∷ 10 ∷ 11 ∷ []) (readingNumber (endReading B (bad Overrun)))
-unfolding readingNumber endReading refusalNumber among
-kind-over B = said refl
+  code-few : length (code mode zs) ≤ 8 * length b
+  code-few = go (how s mode b zs m .1)
+    where
+      list-few : (w : List ℕ) → readFault mode 4096 w ≡ 0 → zs ≡ decoded mode w → length (code mode zs) ≤ 8 * length w
+      list-few w f z =
+          omega (arith, written-few mode w (code mode (decoded mode w)) (taken-exactly mode w f .bytes), ap (λ (c : List ℤ). length (code mode c)) z)
 
-kind-whole : (B : List Bool) (xs : List ℕ) (at : ℕ) → Among (0 ∷ 10 ∷ 11 ∷ []) (readingNumber (endReading B (whole xs at)))
-unfolding readingNumber endReading among _!_⨾_
-kind-whole B xs at = go (clean (drop at B))
+      go : How s mode b zs → length (code mode zs) ≤ 8 * length b
+      go (own f z) = list-few b f z
+      go (padded q o f n z) = omega (arith, list-few (allBut b) f z, ends-zero b o .1)
+      go (longer q o xs at r c g z) =
+          let x = longer-is mode (allBut b) xs at zs r c g z in
+          let k : length (code mode (oneMore zs)) ≡ length (codeOf (eqb mode 4) (map foldZ zs ++ (1 ∷ []))) =
+          ap (λ (l : List ℕ). length (codeOf (eqb mode 4) l)) (fold-snoc zs) in
+          omega (arith, written-few mode (allBut b) (code mode (oneMore zs)) (x .bytes), k, one-behind (eqb mode 4) (map foldZ zs), ends-zero b o .1)
+
+  pub meant-few : length (bytesOf mode zs) ≤ length b
+  meant-few = omega (arith, code-few, bytes-length mode zs)
+
+  pub is-code : tidyCode s mode b ≡ bytesOf mode zs
+  unfolding tidyCode tidiedBy
+  is-code = ap (tidiedBy mode b) m
+
+  same-list : (readFault mode 4096 (tidyCode s mode b) ≡ 0) × (decoded mode (tidyCode s mode b) ≡ zs)
+  same-list =
+      let p = how s mode b zs m .0 in
+      subst (λ (t : List ℕ). (readFault mode 4096 t ≡ 0) × (decoded mode t ≡ zs)) (sym is-code)
+      (written-decoded mode (bytesOf mode zs) zs (p .known) (omega (arith, meant-few, p .small)) meant-listed (bytes-written mode zs))
+
+pub others-kept : (s mode : ℕ) (b : List ℕ) → meantBy s mode b ≡ unclear → tidyCode s mode b ≡ b
+unfolding tidyCode tidiedBy
+others-kept s mode b e = ap (tidiedBy mode b) e
+
+-- ---- codes that the panel takes
+
+good-means : (s mode : ℕ) (b : List ℕ) → readFault mode 4096 b ≡ 0 → meantBy s mode b ≡ means (decoded mode b)
+good-means s mode b e = let x = taken-exactly mode b e in own-means s mode b (decoded mode b) (x .call .allowed) (x .call .small) e refl
+
+good-kept : (s mode : ℕ) (b : List ℕ) → Bytes b → readFault mode 4096 b ≡ 0 → tidyCode s mode b ≡ b
+good-kept s mode b h e =
+    is-code s mode b (decoded mode b) (good-means s mode b e) ∙ sym (bytes-only mode (decoded mode b) b h (taken-exactly mode b e .bytes))
+
+strict : (mode : ℕ) (b : List ℕ) → Bytes b → tidyCode 0 mode b ≡ b
+strict mode b h = go (meantBy 0 mode b) refl
   where
-    go : (b : Bool) → Among (0 ∷ 10 ∷ 11 ∷ []) (readingNumber (b ! Tail at ⨾ Done at))
-    go true = said refl
-    go false = said refl
+    own-only : (zs : List ℤ) → How 0 mode b zs → readFault mode 4096 b ≡ 0
+    own-only zs (own f z) = f
+    own-only zs (padded q o f n z) = absurd (omega arith)
+    own-only zs (longer q o xs at r c g z) = absurd (omega arith)
 
-of-these-kinds : (mode : ℕ) (s : List ℕ) (zs : List ℤ) → meantBy mode s ≡ means zs → Among (0 ∷ 10 ∷ 11 ∷ []) (readFault mode 4096 s)
-of-these-kinds mode s zs m =
-    let a = meaning mode s zs m in
-    ⊎-elim (λ b. subst (Among (0 ∷ 10 ∷ 11 ∷ [])) (sym (number-by mode s (bad Overrun) (a .shell) b)) (kind-over (bitsOf s)))
-    (λ e. subst (Among (0 ∷ 10 ∷ 11 ∷ [])) (sym (number-by mode s (whole (a .xs) (a .at)) (a .shell) (sym e ∙ a .walked)))
-    (kind-whole (bitsOf s) (a .xs) (a .at)))
-    (list-same (eqb mode 4) 4096 (bitsOf s))
+    go : (m : Meant) → meantBy 0 mode b ≡ m → tidyCode 0 mode b ≡ b
+    go unclear e = others-kept 0 mode b e
+    go (means zs) e = good-kept 0 mode b h (own-only zs (how 0 mode b zs e .1))
 
 -- ---- all bytes
 
-never-longer : (mode : ℕ) (s : List ℕ) → length (tidyCode mode s) ≤ length s
-never-longer mode s = go (meantBy mode s) refl
+pub never-longer : (s mode : ℕ) (b : List ℕ) → length (tidyCode s mode b) ≤ length b
+never-longer s mode b = go (meantBy s mode b) refl
   where
-    go : (m : Meant) → meantBy mode s ≡ m → length (tidyCode mode s) ≤ length s
-    go unclear e = omega (arith, ap length (others-kept mode s e))
-    go (means zs) e = omega (arith, ap length (is-code mode s zs e), meant-few mode s zs e)
+    go : (m : Meant) → meantBy s mode b ≡ m → length (tidyCode s mode b) ≤ length b
+    go unclear e = omega (arith, ap length (others-kept s mode b e))
+    go (means zs) e = omega (arith, ap length (is-code s mode b zs e), meant-few s mode b zs e)
 
-once : (mode : ℕ) (s : List ℕ) → tidyCode mode (tidyCode mode s) ≡ tidyCode mode s
-once mode s = go (meantBy mode s) refl
+once : (s mode : ℕ) (b : List ℕ) → tidyCode s mode (tidyCode s mode b) ≡ tidyCode s mode b
+once s mode b = go (meantBy s mode b) refl
   where
-    go : (m : Meant) → meantBy mode s ≡ m → tidyCode mode (tidyCode mode s) ≡ tidyCode mode s
-    go unclear e = ap (tidyCode mode) (others-kept mode s e)
-    go (means zs) e = good-kept mode (tidyCode mode s) (subst Bytes (sym (is-code mode s zs e)) (bytes-bytes mode zs)) (same-list mode s zs e .0)
+    go : (m : Meant) → meantBy s mode b ≡ m → tidyCode s mode (tidyCode s mode b) ≡ tidyCode s mode b
+    go unclear e = ap (tidyCode s mode) (others-kept s mode b e)
+    go (means zs) e = good-kept s mode (tidyCode s mode b) (subst Bytes (sym (is-code s mode b zs e)) (bytes-bytes mode zs)) (same-list s mode b zs e .0)
+
+-- ---- which numbers the panel has for what means a list
+
+module _ (s mode : ℕ) (b : List ℕ) (zs : List ℤ) (m : meantBy s mode b ≡ means zs) where
+  of-these-kinds : (s ≡ 2 → ⊥) → Among (0 ∷ 11 ∷ []) (readFault mode 4096 b)
+  unfolding among
+  of-these-kinds n = go (how s mode b zs m .1)
+    where
+      zero-kind : readFault mode 4096 b ≡ 0 → Among (0 ∷ 11 ∷ []) (readFault mode 4096 b)
+      zero-kind e = subst (Among (0 ∷ 11 ∷ [])) (sym e) (said refl)
+
+      go : How s mode b zs → Among (0 ∷ 11 ∷ []) (readFault mode 4096 b)
+      go (own f z) = zero-kind f
+      go (padded q o f k z) =
+          let x = taken-exactly mode (allBut b) f in
+          let e = ends-zero b o in
+          let p = how s mode b zs m .0 in
+          let r : readFault mode 4096 b ≡ 11 =
+          ap (readFault mode 4096) (e .0)
+          ∙ surplus-eleven mode (decoded mode (allBut b)) (allBut b) (p .known) (omega (arith, ap length (e .0), p .small)) (x .list) (x .bytes) in
+          subst (Among (0 ∷ 11 ∷ [])) (sym r) (said refl)
+      go (longer q o xs at r c g z) = absurd (n q)
 
 pub tidyCodes : TidyCodes
 tidyCodes = record {
+  means-form = means-form;
+  form-means = form-means;
+  one-list = one-list;
+  one-form = one-form;
+  strict = strict;
   good-kept = good-kept;
   good-means = good-means;
-  tail-means = λ mode s before zs rest c l e h. tail-means mode s before zs rest c l e h;
-  pair-means = λ s before zs b rest c l h p e k. pair-means s before zs b rest c l h p e k;
   meant-listed = meant-listed;
   same-list = same-list;
   is-code = is-code;
   never-longer = never-longer;
   others-kept = others-kept;
   of-these-kinds = of-these-kinds;
-  once = λ mode s b. once mode s;
+  once = λ s mode b h. once s mode b;
+  zeros-one = zeros-one;
+  zeros-two = zeros-two;
 }

@@ -13,14 +13,14 @@ part-is-same-end c =
     let c1 = c .before .before .before .before in
     let c2 = c1 .before .before .before .before .before in
     let a = c2 .args in
-    omega (arith, c1 .put-tidied .ensures .1, tidyCodes .never-longer (a .mode) (now (a .code)), c2 .pre .1, c1 .put-tidied .kept .1 .1 .1 .0)
+    omega (arith, c1 .put-tidied .ensures .1, tidyCodes .never-longer (a .sender) (a .mode) (now (a .code)), c2 .pre .1, c1 .put-tidied .kept .1 .1 .1 .1 .0)
 
 returns : tie.Need-returns
 returns c =
     let c1 = c .before .before .before .before .before .before .before in
     let c2 = c1 .before .before .before .before .before in
     let a = c2 .args in
-    code-kept (a .mode) (now (a .code)) (now (a .out)) _ (a .to) (c1 .put-tidied .result) (omega (arith, c2 .pre .1)) (c1 .put-tidied .ensures .0)
+    code-kept (a .sender) (a .mode) (now (a .code)) (now (a .out)) _ (a .to) (c1 .put-tidied .result) (omega (arith, c2 .pre .1)) (c1 .put-tidied .ensures .0)
     (c1 .put-tidied .ensures .1) (sym (c .if1 .taken) ∙ c .before .is-same .ensures)
 
 returns-2 : tie.Need-returns-2
@@ -28,7 +28,7 @@ returns-2 c =
     let c1 = c .before .before .before .before .before .before .before in
     let c2 = c1 .before .before .before .before .before in
     let a = c2 .args in
-    code-cut (a .mode) (now (a .code)) (now (a .out)) _ (a .to) (c1 .put-tidied .result) (omega (arith, c2 .pre .1)) (c1 .put-tidied .ensures .0)
+    code-cut (a .sender) (a .mode) (now (a .code)) (now (a .out)) _ (a .to) (c1 .put-tidied .result) (omega (arith, c2 .pre .1)) (c1 .put-tidied .ensures .0)
     (c1 .put-tidied .ensures .1) (sym (c .if1 .left) ∙ c .before .is-same .ensures)
 
 pub put-code-spec : {M : Type 1} → statement M

@@ -69,12 +69,12 @@ close-frame-requires c κs =
     let c7 = c6 .before .before .before in
     let a = c7 .args in
     let f = found (now (a .m)) _ _ _ _ (c7 .pre .1) (c6 .le32-at .ensures .0) (c5 .byte-at .ensures .0) (c4 .le16-at .ensures .0) (c3 .tile-data .ensures) in
-    let t = tiles-shorter (a .mode) (now (c3 .tile-data .result)) (c4 .le16-at .result) 0 (omega arith) (f .whole) in
+    let t = tiles-shorter (a .sender) (a .mode) (now (c3 .tile-data .result)) (c4 .le16-at .result) 0 (omega arith) (f .whole) in
     let b = c1 .put-tiles .ensures .behind in
-    (omega arith, omega (arith, b), f .places .inside, omega (arith, b, t), omega (arith, c7 .pre .2, c2 .copy .kept .0, c1 .put-tiles .kept .1 .1 .1 .1 .0))
+    (omega arith, omega (arith, b), f .places .inside, omega (arith, b, t), omega (arith, c7 .pre .2, c2 .copy .kept .0, c1 .put-tiles .kept .1 .1 .1 .1 .1 .0))
 
-sub-t12 : tie.Need-sub-t12
-sub-t12 c =
+sub-t13 : tie.Need-sub-t13
+sub-t13 c =
     let c1 = c .before .before .before .before .before .before .before .before .before .before .before .before .before .before in
     let c2 = c1 .before in
     let c3 = c2 .before in
@@ -84,8 +84,8 @@ sub-t12 c =
     (c1 .tile-data .ensures) in
     omega (arith, f .places .inside)
 
-add-t14 : tie.Need-add-t14
-add-t14 c =
+add-t15 : tie.Need-add-t15
+add-t15 c =
     let c1 = c .before .before .before .before .before .before .before .before in
     let c2 = c1 .before .before .before .before .before .before .before in
     let c3 = c2 .before in
@@ -94,20 +94,20 @@ add-t14 c =
     let c6 = c5 .before .before .before in
     let a = c6 .args in
     let f = found (now (a .m)) _ _ _ _ (c6 .pre .1) (c5 .le32-at .ensures .0) (c4 .byte-at .ensures .0) (c3 .le16-at .ensures .0) (c2 .tile-data .ensures) in
-    let t = tiles-shorter (a .mode) (now (c2 .tile-data .result)) (c3 .le16-at .result) 0 (omega arith) (f .whole) in
+    let t = tiles-shorter (a .sender) (a .mode) (now (c2 .tile-data .result)) (c3 .le16-at .result) 0 (omega arith) (f .whole) in
     omega (arith, c1 .put-tiles .ensures .behind, t, f .places .inside, c6 .good)
 
 same-length : tie.Need-same-length
 same-length c =
     let c1 = c .before .before .before .before .before .before .before .before in
-    c1 .put-tiles .kept .1 .1 .1 .0
+    c1 .put-tiles .kept .1 .1 .1 .1 .0
 
 same-length-2 : tie.Need-same-length-2
 same-length-2 c =
     let c1 = c .before .before .before in
     let c2 = c1 .before .before .before .before .before in
     let c3 = c2 .before .before .before .before .before in
-    c1 .close-frame .kept .1 .1 .1 .0 ∙ (c2 .put-tiles .kept .1 .1 .1 .1 .0 ∙ c3 .copy .kept .0)
+    c1 .close-frame .kept .1 .1 .1 .0 ∙ (c2 .put-tiles .kept .1 .1 .1 .1 .1 .0 ∙ c3 .copy .kept .0)
 
 returns : tie.Need-returns
 returns c =
@@ -121,12 +121,12 @@ returns c =
     let c8 = c7 .before .before .before in
     let a = c8 .args in
     let f = found (now (a .m)) _ _ _ _ (c8 .pre .1) (c7 .le32-at .ensures .0) (c6 .byte-at .ensures .0) (c5 .le16-at .ensures .0) (c4 .tile-data .ensures) in
-    frame-put (a .mode) (now (a .m)) _ _ _ (f .places) (now (a .out)) _ _ _ _ (c2 .put-tiles .result) (c3 .copy .ensures)
-    (found-put (a .mode) (now (a .m)) _ _ _ _ _ _ _ (c2 .put-tiles .result) f (c2 .put-tiles .ensures)) (c1 .close-frame .ensures)
+    frame-put (a .sender) (a .mode) (now (a .m)) _ _ _ (f .places) (now (a .out)) _ _ _ _ (c2 .put-tiles .result) (c3 .copy .ensures)
+    (found-put (a .sender) (a .mode) (now (a .m)) _ _ _ _ _ _ _ (c2 .put-tiles .result) f (c2 .put-tiles .ensures)) (c1 .close-frame .ensures)
 
 pub put-frame-spec : {M : Type 1} → statement M
 put-frame-spec =
     tie.close
     (tie.spec le32-at-requires (λ c. search needs) (λ c. search needs) byte-at-requires (λ c. search needs) (λ c. search needs) (λ c. search needs)
-    (λ c. search needs) le16-at-requires tile-data-requires add-end copy-requires put-tiles-requires close-frame-requires sub-t12 add-t14 same-length
+    (λ c. search needs) le16-at-requires tile-data-requires add-end copy-requires put-tiles-requires close-frame-requires sub-t13 add-t15 same-length
     same-length-2 returns)
