@@ -587,21 +587,13 @@ impl Tidier {
     }
 }
 
-// What a frame writer writes, in as much room as it takes.
+// What a frame writer writes, in the room with which it writes at once (with less it measures the frame first). The memory comes zeroed from the system, and what is
+// not written is never touched: it costs nothing, and goes back with the cut.
 #[cfg(feature = "alloc")]
-fn in_room(width: usize, height: usize, mut write: impl FnMut(&mut [u8]) -> Result<usize, Refusal>) -> Result<Vec<u8>, Refusal> {
+fn in_room(width: usize, height: usize, write: impl FnOnce(&mut [u8]) -> Result<usize, Refusal>) -> Result<Vec<u8>, Refusal> {
     // A size that is not allowed is refused before room is judged, so any room will do for it.
-    let (w, h) = (width.min(MAX_WIDTH), height.min(MAX_HEIGHT));
-    let most = frame_room(w, h);
-    // Few frames need more than a byte a pixel. Where one does, the call says so and nothing is lost.
-    let mut room = most.min(77 + tiles(w, h) * LIST);
-    loop {
-        let mut out = vec![0; room];
-        match write(&mut out) {
-            Err(Refusal::Room) if room < most => room = most.min(4 * room),
-            answer => return answer.map(|size| cut_to(out, size)),
-        }
-    }
+    let mut out = vec![0; frame_room(width.min(MAX_WIDTH), height.min(MAX_HEIGHT))];
+    write(&mut out).map(|size| cut_to(out, size))
 }
 
 // What was written, and no memory behind it.

@@ -132,7 +132,7 @@ fn say_line(l: Line, s: Session, number: u8, tiles: usize, letter: u8, picture: 
             app_recording::lent::hash_words(picture),
         ),
         Line::Short(before) => crate::lines::say_short_frame(before, number, tiles),
-        Line::Told(count) => app_text::lines::say_frame(count, number, tiles),
+        Line::Told(count) => app_text::lines::say_frame(app_text::lines::ERR, count, number, tiles),
     }
 }
 
@@ -212,7 +212,7 @@ fn say_line_32(l: Line, s: Session, number: u8, tiles: usize, letter: u8, pictur
             app_recording::lent::hash_wide(picture),
         ),
         Line::Short(before) => crate::lines::say_short_frame(before, number, tiles),
-        Line::Told(count) => app_text::lines::say_frame(count, number, tiles),
+        Line::Told(count) => app_text::lines::say_frame(app_text::lines::ERR, count, number, tiles),
     }
 }
 

@@ -121,7 +121,11 @@ fn parts(d: Desk) -> u64 {
 // The line of a header call.
 fn say_header(d: Desk, number: u8, told: bool) {
     if told {
-        app_text::lines::say_header(std::num::wrapping_add_u64(d.headers, 1), number);
+        app_text::lines::say_header(
+            app_text::lines::ERR,
+            std::num::wrapping_add_u64(d.headers, 1),
+            number,
+        );
         return;
     }
     crate::lines::say_short_header(parts(d), number);

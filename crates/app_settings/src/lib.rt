@@ -1,5 +1,7 @@
-// Settings for the programs (document 02, request Five): quantisers and mode from arguments, a settings file read, settings in words. No customer links it.
-use app_text::lines::ERR;
+// Settings for the programs (document 02, request Five): quantisers and mode from arguments, a settings file read (specs/Text), settings in words. No customer links it.
+ghost use mathlib.Core.Path.{_≡_};
+ghost use Rattle.app_text.specs.First.{firstOf};
+ghost use Rattle.app_settings.specs.Text.{settingsIn};
 use app_text::lines::OUT;
 use bands::Quant;
 use settings::Settings;
@@ -78,21 +80,41 @@ pub fn usual() -> Quant {
     }
 }
 
-// The settings of the file that argument i names, standard input where i is 0, read by a reader of version 2. A refusal is said.
-pub fn load(i: usize) -> Reading {
-    let mut data = [0u8; 4096];
-    let l = app_text::loading::load(
-        i,
-        &mut data,
-        b"settings: the file is longer than 4096 bytes\n",
-    );
-    let r = settings::read::read_settings(2, app_text::loading::first(&data, l.n));
-    if r.number != 0 {
-        app_text::lines::say(ERR, b"settings: ");
-        app_text::lines::say_refused(r.number);
-    }
-    r
+// What a settings file came to: how many bytes were read of it, whether they are all of it, and what a reader says of them.
+pub struct Kept {
+    pub n: usize,
+    pub whole: bool,
+    pub reading: Reading,
 }
+
+// What a reader of version 2 says of a file's bytes; of a file that was not read whole nothing is taken, as of an empty one.
+pub fn settings_in(whole: bool, bytes: &[u8]) -> Reading
+    ensures { λ r. ⌜ r ≡ settingsIn whole (now (bytes .entry)) ⌝ }
+{
+    if whole {
+        return settings::read::read_settings(2, bytes);
+    }
+    settings::read::read_settings(2, &bytes[..0])
+}
+
+// The settings of the file that argument i names, standard input where i is 0. Where there are none, one line says why.
+pub fn load(to: i32, name: &[u8], i: usize, data: &mut [u8]) -> Kept
+    ensures { λ r. ⌜ r .reading ≡ settingsIn (r .whole) (firstOf (now («data» .exit)) (r .n)) ⌝ }
+{
+    let too_long = b"the settings file is longer than 4096 bytes";
+    let l = app_text::loading::load(to, name, i, data, too_long);
+    let r = settings_in(l.whole, app_text::loading::first(data, l.n));
+    if l.whole && r.number != 0 {
+        app_text::lines::say_refusal(to, name, r.number);
+    }
+    Kept {
+        n: l.n,
+        whole: l.whole,
+        reading: r,
+    }
+}
+
+// ---- settings in words
 
 // A line of a word and ten numbers.
 fn say_set(text: &[u8], q: Quant) {

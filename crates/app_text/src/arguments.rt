@@ -1,4 +1,4 @@
-// The arguments of a program: options of one letter, `-x`, each with so many values behind it, and a file. A program names its options by four letters, each
+// The arguments of a program: options of one letter, `-x`, each with so many values behind it, and a file. A program names its options by eight letters, each
 // with the number of its values (0 where it has fewer); the letter 0 is the file's. What the arguments are is the outside's, of which no contract can speak.
 ghost use Prim.Native.Nat.{_≤_};
 
@@ -10,8 +10,8 @@ pub struct Found {
     pub whole: bool,
 }
 
-// How many values an option has, 255 where it is none of the four.
-fn values_of(options: [u8; 8], letter: u8) -> u8 {
+// How many values an option has, 255 where it is none of them.
+fn values_of(options: [u8; 16], letter: u8) -> u8 {
     if options[0] == letter {
         return options[1];
     }
@@ -24,11 +24,23 @@ fn values_of(options: [u8; 8], letter: u8) -> u8 {
     if options[6] == letter {
         return options[7];
     }
+    if options[8] == letter {
+        return options[9];
+    }
+    if options[10] == letter {
+        return options[11];
+    }
+    if options[12] == letter {
+        return options[13];
+    }
+    if options[14] == letter {
+        return options[15];
+    }
     255
 }
 
 // The letter of an option, '-' where the program has no such option; 0 of an argument that is no option.
-fn letter_of(options: [u8; 8], i: usize) -> u8 {
+fn letter_of(options: [u8; 16], i: usize) -> u8 {
     let mut text = [0u8; 3];
     let n = os::arg(i, &mut text);
     if text[0] != b'-' {
@@ -44,7 +56,7 @@ fn letter_of(options: [u8; 8], i: usize) -> u8 {
 }
 
 // How many arguments an option takes up, itself among them; a file is one.
-fn span_of(options: [u8; 8], letter: u8) -> usize
+fn span_of(options: [u8; 16], letter: u8) -> usize
     ensures { λ r. ⌜ (1 ≤ r) × (r ≤ 256) ⌝ }
 {
     if letter == b'-' {
@@ -65,14 +77,14 @@ fn place_of(letter: u8, i: usize) -> usize {
 }
 
 // All arguments of one kind: an option by its letter, a file by 0, an option that the program does not have by '-'.
-pub fn find(options: [u8; 8], wanted: u8) -> Found
+pub fn find(options: [u8; 16], wanted: u8) -> Found
     ensures { λ _. ⌜ Unit ⌝ }
 {
     find_below(options, wanted, os::arg_count())
 }
 
 // The same of the arguments below the n-th: where the last file stands at n, what is found is the one before it.
-pub fn find_below(options: [u8; 8], wanted: u8, n: usize) -> Found
+pub fn find_below(options: [u8; 16], wanted: u8, n: usize) -> Found
     ensures { λ _. ⌜ Unit ⌝ }
 {
     let mut at = 0;

@@ -1,5 +1,6 @@
 // What the programs say, piece by piece: texts and numbers, on standard output (`OUT`) or standard error (`ERR`), and lines with 01's words for its
-// numbers ("Numbers the fitter sees"). They answer nothing and change nothing lent: they only talk to the outside.
+// numbers ("Numbers the fitter sees"). They answer nothing and change nothing lent: they only talk to the outside. A program has no exit status: the last line that
+// it says is its verdict, "NAME: done", or "NAME: " and why not. Its lines go to standard output where its result goes to a named file, else to standard error.
 pub const OUT: i32 = 1;
 
 pub const ERR: i32 = 2;
@@ -27,60 +28,89 @@ pub fn say_hex(to: i32, text: &[u8], n: u64, digits: usize)
 }
 
 // 01's word for a number, behind a blank, and the end of the line.
-fn say_word(number: u8) {
+fn say_word(to: i32, number: u8) {
     match number {
-        1 => say(ERR, b" cut\n"),
-        2 => say(ERR, b" buffer\n"),
-        3 => say(ERR, b" kind\n"),
-        4 => say(ERR, b" length\n"),
-        5 => say(ERR, b" field\n"),
-        6 => say(ERR, b" too big\n"),
-        7 => say(ERR, b" quant\n"),
-        8 => say(ERR, b" place\n"),
-        9 => say(ERR, b" range\n"),
-        10 => say(ERR, b" overrun\n"),
-        11 => say(ERR, b" tail\n"),
-        12 => say(ERR, b" order\n"),
-        13 => say(ERR, b" room\n"),
-        14 => say(ERR, b" version not taken\n"),
-        15 => say(ERR, b" no setting\n"),
-        16 => say(ERR, b" out of order\n"),
-        17 => say(ERR, b" tile missing\n"),
-        _ => say(ERR, b"\n"),
+        1 => say(to, b" cut\n"),
+        2 => say(to, b" buffer\n"),
+        3 => say(to, b" kind\n"),
+        4 => say(to, b" length\n"),
+        5 => say(to, b" field\n"),
+        6 => say(to, b" too big\n"),
+        7 => say(to, b" quant\n"),
+        8 => say(to, b" place\n"),
+        9 => say(to, b" range\n"),
+        10 => say(to, b" overrun\n"),
+        11 => say(to, b" tail\n"),
+        12 => say(to, b" order\n"),
+        13 => say(to, b" room\n"),
+        14 => say(to, b" version not taken\n"),
+        15 => say(to, b" no setting\n"),
+        16 => say(to, b" out of order\n"),
+        17 => say(to, b" tile missing\n"),
+        _ => say(to, b"\n"),
     }
 }
 
 // The end of a line: refused, the number and its word.
-pub fn say_refused(number: u8)
+pub fn say_refused(to: i32, number: u8)
     ensures { λ _. ⌜ Unit ⌝ }
 {
-    say_number(ERR, b"refused ", number as u64);
-    say_word(number);
+    say_number(to, b"refused ", number as u64);
+    say_word(to, number);
 }
 
 // What a header call came to.
-pub fn say_header(count: u64, number: u8)
+pub fn say_header(to: i32, count: u64, number: u8)
     ensures { λ _. ⌜ Unit ⌝ }
 {
-    say_number(ERR, b"header ", count);
-    say(ERR, b": ");
+    say_number(to, b"header ", count);
+    say(to, b": ");
     if number == 0 {
-        say(ERR, b"done\n");
+        say(to, b"done\n");
         return;
     }
-    say_refused(number);
+    say_refused(to, number);
 }
 
 // What a frame call came to.
-pub fn say_frame(count: u64, number: u8, tiles: usize)
+pub fn say_frame(to: i32, count: u64, number: u8, tiles: usize)
     ensures { λ _. ⌜ Unit ⌝ }
 {
-    say_number(ERR, b"frame ", count);
-    say(ERR, b": ");
+    say_number(to, b"frame ", count);
+    say(to, b": ");
     if number == 0 {
-        say_number(ERR, b"done, ", tiles as u64);
-        say(ERR, b" tiles\n");
+        say_number(to, b"done, ", tiles as u64);
+        say(to, b" tiles\n");
         return;
     }
-    say_refused(number);
+    say_refused(to, number);
+}
+
+// ---- the last line
+
+// All was done.
+pub fn say_done(to: i32, name: &[u8])
+    ensures { λ _. ⌜ Unit ⌝ }
+{
+    say(to, name);
+    say(to, b": done\n");
+}
+
+// Why it was not.
+pub fn say_why(to: i32, name: &[u8], text: &[u8])
+    ensures { λ _. ⌜ Unit ⌝ }
+{
+    say(to, name);
+    say(to, b": ");
+    say(to, text);
+    say(to, b"\n");
+}
+
+// What was refused, with 01's number and word.
+pub fn say_refusal(to: i32, name: &[u8], number: u8)
+    ensures { λ _. ⌜ Unit ⌝ }
+{
+    say(to, name);
+    say(to, b": ");
+    say_refused(to, number);
 }

@@ -3,7 +3,6 @@ ghost use Prim.Native.Nat.{_≤_};
 ghost use mathlib.Core.Path.{_≡_};
 ghost use lib.ListN.{length};
 ghost use Rattle.app_text.specs.First.{firstOf};
-use crate::lines::ERR;
 use libc::STDIN_FILENO;
 
 // How many bytes were read, and whether they are the whole input.
@@ -12,54 +11,58 @@ pub struct Loaded {
     pub whole: bool,
 }
 
-// Opens the file that an argument names: its descriptor, below 0 where that failed, which is said.
-fn open_input(i: usize) -> i32 {
+// Opens the file that argument i names, or standard input where i is 0: its descriptor, below 0 where that failed, which is said.
+pub fn open_input(to: i32, name: &[u8], i: usize) -> i32
+    ensures { λ _. ⌜ Unit ⌝ }
+{
+    if i == 0 {
+        return STDIN_FILENO;
+    }
     let mut path = io::buffer();
     let n = os::arg(i, &mut path);
     let fd = os::open_read(&path[..n]);
     if fd < 0 {
-        os::fail(&path[..n]);
+        crate::lines::say(to, name);
+        crate::lines::say_why(to, b": cannot open", &path[..n]);
     }
     fd
 }
 
 // Whether the input ends here; if not, that is said: more follows, or it cannot be read.
-fn is_end(fd: i32, too_long: &[u8]) -> bool {
+fn is_end(to: i32, name: &[u8], fd: i32, too_long: &[u8]) -> bool {
     let mut one = [0u8; 1];
     let got = libc::read(fd, &mut one);
     if got == 0 {
         return true;
     }
     if got < 0 {
-        os::fail(b"the input cannot be read");
+        crate::lines::say_why(to, name, b"the input cannot be read");
         return false;
     }
-    crate::lines::say(ERR, too_long);
+    crate::lines::say_why(to, name, too_long);
     false
 }
 
-fn load_from(fd: i32, data: &mut [u8], too_long: &[u8]) -> Loaded
+fn load_from(to: i32, name: &[u8], fd: i32, data: &mut [u8], too_long: &[u8]) -> Loaded
     ensures { λ l. ⌜ l .n ≤ length (now («data» .exit)) ⌝ }
 {
     let n = io::read_full(fd, data);
     Loaded {
         n: n,
-        whole: is_end(fd, too_long),
+        whole: is_end(to, name, fd, too_long),
     }
 }
 
-// Reads the file that argument i names, standard input where i is 0; the line is said where the input is longer than the buffer.
-pub fn load(i: usize, data: &mut [u8], too_long: &[u8]) -> Loaded
+// Reads the file that argument i names, standard input where i is 0. Where the file is not there, cannot be read or is longer than the buffer, one line says so,
+// and what was read is not the whole input.
+pub fn load(to: i32, name: &[u8], i: usize, data: &mut [u8], too_long: &[u8]) -> Loaded
     ensures { λ l. ⌜ l .n ≤ length (now («data» .exit)) ⌝ }
 {
-    if i == 0 {
-        return load_from(STDIN_FILENO, data, too_long);
-    }
-    let fd = open_input(i);
+    let fd = open_input(to, name, i);
     if fd < 0 {
         return Loaded { n: 0, whole: false };
     }
-    let l = load_from(fd, data, too_long);
+    let l = load_from(to, name, fd, data, too_long);
     libc::close(fd);
     l
 }

@@ -1,13 +1,14 @@
-// The options of the program `send`:  send [FILE] [-m 1|3] [-q Q0 .. Q9] [-i INDEX] [-s SETTINGS], or with OLD NEW for FILE
+// The options of the program `send`:  send [FILE | OLD NEW] [-m 1|3] [-q Q0 .. Q9] [-i INDEX] [-s SETTINGS] [-o OUT]
 use quants::Quants;
 use settings::Settings;
 
-// The arguments of the file (0 none), of the old picture where there are two (0 none) and of the settings (0 none), the settings of the arguments, the frame's
-// index; whether the arguments are as the usage says.
+// The arguments of the file (0 none), of the old picture where there are two, of the settings and of the result (0 none); the settings of the
+// arguments; the frame's index; whether the arguments are as the usage says, each option at most once.
 pub struct Options {
     pub file: usize,
     pub old: usize,
     pub kept: usize,
+    pub out: usize,
     pub settings: Settings,
     pub index: u32,
     pub good: bool,
@@ -28,7 +29,7 @@ fn index32(n: usize) -> u32 {
 }
 
 // The argument of the first of two files, 0 where there are not two.
-fn old_of(known: [u8; 8], at: usize, times: usize) -> usize {
+fn old_of(known: [u8; 16], at: usize, times: usize) -> usize {
     if times != 2 {
         return 0;
     }
@@ -37,33 +38,55 @@ fn old_of(known: [u8; 8], at: usize, times: usize) -> usize {
 }
 
 pub fn arguments() -> Options {
-    let known = [b'm', 1, b'q', 10, b'i', 1, b's', 1];
+    let known = [
+        b'm',
+        1,
+        b'q',
+        10,
+        b'i',
+        1,
+        b's',
+        1,
+        b't',
+        1,
+        b'o',
+        1,
+        0,
+        0,
+        0,
+        0,
+    ];
     let file = app_text::arguments::find(known, 0);
-    let m = app_text::arguments::find(known, b'm').at;
-    let q = app_text::arguments::find(known, b'q').at;
-    let kept = app_text::arguments::find(known, b's').at;
-    let index = index_of(app_text::arguments::find(known, b'i').at);
+    let m = app_text::arguments::find(known, b'm');
+    let q = app_text::arguments::find(known, b'q');
+    let kept = app_text::arguments::find(known, b's');
+    let out = app_text::arguments::find(known, b'o');
+    let i = app_text::arguments::find(known, b'i');
     let other = app_text::arguments::find(known, b'-');
-    let mode = app_settings::mode_of(m);
-    let ten = app_settings::quantisers(q, app_settings::usual());
+    let once = m.times < 2 && q.times < 2 && kept.times < 2 && i.times < 2;
+    let index = index_of(i.at);
+    let mode = app_settings::mode_of(m.at);
+    let ten = app_settings::quantisers(q.at, app_settings::usual());
     let v = ten.q;
     let both = Quants { luma: v, chroma: v };
     let s = Settings {
         quants: both,
         mode: mode,
     };
+    let numbers = mode != 0 && ten.good && index < app_settings::NONE;
     Options {
         file: file.at,
         old: old_of(known, file.at, file.times),
-        kept: kept,
+        kept: kept.at,
+        out: out.at,
         settings: s,
         index: index32(index),
         good: file.whole
             && file.times < 3
             && other.times == 0
-            && mode != 0
-            && ten.good
-            && (kept == 0 || q == 0 && m == 0)
-            && index < app_settings::NONE,
+            && once
+            && out.times < 2
+            && numbers
+            && (kept.times == 0 || q.times == 0 && m.times == 0),
     }
 }

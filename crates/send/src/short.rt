@@ -1,174 +1,113 @@
 // Two pictures of one size: a full frame of the old one, then a short frame of the new one, of the tiles that differ (02, request Eleven).
 use crate::args::Options;
-use app_pictures::ppm::Head;
-use app_text::lines::ERR;
-use frame_write::size::Job;
+use app_send::both::Both;
+use settings::Settings;
 
-// What the short frame came to: 01's number, its bytes, those that a full frame would have had, and how many tiles it has.
-struct Saved {
-    number: u8,
-    size: usize,
-    full: usize,
-    tiles: usize,
+// Both pictures, read into the two halves of a buffer: how many bytes of each, and whether both were read whole.
+struct Came {
+    old: usize,
+    new: usize,
+    whole: bool,
 }
 
-fn refused(number: u8) -> Saved {
-    Saved {
-        number: number,
-        size: 0,
-        full: 0,
-        tiles: 0,
-    }
-}
-
-// The frame's index behind another's.
-fn next_index(index: u32) -> usize {
-    if index == u32::MAX {
-        return 0;
-    }
-    index as usize + 1
-}
-
-// The short frame of the listed tiles.
-fn short_into(
-    o: Options,
-    job: Job,
-    old: &[u8],
-    new: &[u8],
-    picks: &[u32],
-    out: &mut [u8],
-) -> Saved {
-    let full = crate::frame_into(o, job.width, job.height, new, out);
-    let mut list = [0i32; 4096];
-    let mut scratch = [0i32; 4096];
-    let w = short_write::write_frame_short(job, old, new, picks, &mut list, &mut scratch, out);
-    Saved {
-        number: wire::writing_number(w),
-        size: wire::writing_length(w),
-        full: full.size,
-        tiles: picks.len(),
-    }
-}
-
-// The short frame of the tiles that differ. A full frame is written first, for its length; the short one then stands in its place.
-fn change_into(o: Options, job: Job, old: &[u8], new: &[u8], out: &mut [u8]) -> Saved {
-    let mut picks = [0u32; 2048];
-    let p = plan::make::make_plan(job.width, job.height, old, new, &mut picks);
-    let number = plan::make::planned_number(p);
-    let count = plan::make::planned_count(p);
-    if number != 0 {
-        return refused(number);
-    }
-    if 2048 < count {
-        return refused(6);
-    }
-    short_into(o, job, old, new, &picks[0..count], out)
-}
-
-// How many tiles a picture has.
-fn tiles_of(width: usize, height: usize) -> usize {
-    if 4096 < width {
-        return 0;
-    }
-    if 2048 < height {
-        return 0;
-    }
-    frame_pieces::tiles_no(width, height)
-}
-
-// "send: 2 of 40 tiles, 9000 bytes instead of 120000"
-fn say_saved(width: usize, height: usize, s: Saved) {
-    app_text::lines::say_number(ERR, b"send: ", s.tiles as u64);
-    app_text::lines::say_number(ERR, b" of ", tiles_of(width, height) as u64);
-    app_text::lines::say_number(ERR, b" tiles, ", s.size as u64);
-    app_text::lines::say_number(ERR, b" bytes instead of ", s.full as u64);
-    app_text::lines::say(ERR, b"\n");
-}
-
-// The short frame behind so many bytes of stream.
-fn change_behind(o: Options, job: Job, old: &[u8], new: &[u8], at: usize, out: &mut [u8]) -> Saved {
-    let e = out.len();
-    if e < at {
-        return refused(13);
-    }
-    change_into(o, job, old, new, &mut out[at..e])
-}
-
-// Headers, the full frame of the old picture and the short one of the new.
-fn send(o: Options, width: usize, height: usize, old: &[u8], new: &[u8], out: &mut [u8]) {
-    let m = crate::make(o, width, height, old, out);
-    if m.number != 0 {
-        crate::say_refused(m.number);
-        return;
-    }
-    let settings = o.settings;
-    let quants = settings.quants;
-    let job = Job {
-        width: width,
-        height: height,
-        mode: settings.mode,
-        index: next_index(o.index),
-        quants: quants,
-    };
-    let s = change_behind(
-        o,
-        job,
-        old,
-        new,
-        std::num::wrapping_add_usize(m.size, 47),
-        out,
-    );
-    if s.number != 0 {
-        crate::say_refused(s.number);
-        return;
-    }
-    crate::put(out, std::num::wrapping_add_usize(m.size, s.size));
-    say_saved(width, height, s);
-}
-
-// The new picture, beside an old one of so many pixels.
-fn send_new(o: Options, width: usize, height: usize, old: &[u8], data: &[u8], out: &mut [u8]) {
-    match app_pictures::ppm::read_picture(data) {
-        Head::Good(w, h, at) => {
-            if w == width {
-                if h == height {
-                    send(o, width, height, old, crate::behind(data, at), out);
-                    return;
-                }
-            }
-            app_text::lines::say(ERR, b"send: the two pictures differ in size\n");
-        }
-        Head::Refused(fault) => {
-            crate::say_fault(fault);
-        }
-    }
-}
-
-fn send_both(o: Options, old: &[u8], new: &[u8], out: &mut [u8]) {
-    match app_pictures::ppm::read_picture(old) {
-        Head::Good(width, height, at) => {
-            send_new(o, width, height, crate::behind(old, at), new, out);
-        }
-        Head::Refused(fault) => {
-            crate::say_fault(fault);
-        }
-    }
-}
-
-// Loads both into the two halves of a buffer.
-pub fn load_and_send(o: Options, data: &mut [u8], out: &mut [u8]) {
+fn load_both(to: i32, o: Options, data: &mut [u8]) -> Came {
     let end = data.len();
     let half = end / 2;
-    let said = b"send: a picture is too large: at most 524288 pixels each are taken\n";
-    let a = app_text::loading::load(o.old, &mut data[0..half], said);
+    let long = b"a picture is too large: at most 524288 pixels each are taken";
+    let a = app_text::loading::load(to, b"send", o.old, &mut data[0..half], long);
     if !a.whole {
-        return;
+        return Came {
+            old: 0,
+            new: 0,
+            whole: false,
+        };
     }
-    let b = app_text::loading::load(o.file, &mut data[half..end], said);
-    if !b.whole {
-        return;
+    let b = app_text::loading::load(to, b"send", o.file, &mut data[half..end], long);
+    Came {
+        old: a.n,
+        new: b.n,
+        whole: b.whole,
     }
-    let old = app_text::loading::first(&data[0..half], a.n);
-    let new = app_text::loading::first(&data[half..end], b.n);
-    send_both(o, old, new, out);
+}
+
+// ---- the tiles that are sent
+
+// Those that differ; none where the pictures are not of one size, which is said later.
+fn changed(old: &[u8], new: &[u8], picks: &mut [u32]) -> usize {
+    let p = app_send::pair::read(old, new);
+    let q = plan::make::make_plan(
+        p.width,
+        p.height,
+        app_send::rest(old, p.old),
+        app_send::rest(new, p.new),
+        picks,
+    );
+    plan::make::planned_count(q)
+}
+
+// ---- the stream
+
+// The two pictures' bytes.
+fn old_of(data: &[u8], c: Came) -> &[u8] {
+    let half = data.len() / 2;
+    app_text::loading::first(&data[0..half], c.old)
+}
+
+fn new_of(data: &[u8], c: Came) -> &[u8] {
+    let end = data.len();
+    let half = end / 2;
+    app_text::loading::first(&data[half..end], c.new)
+}
+
+// The stream of the pictures that were read, and of the tiles that were listed.
+fn make(s: Settings, index: u32, c: Came, data: &[u8], picks: &[u32], out: &mut [u8]) -> Both {
+    app_send::both::pictures(s, index, old_of(data, c), new_of(data, c), picks, out)
+}
+
+// "send: done, 2 of 40 tiles, 9000 bytes instead of 120000": of the short frame
+fn say_saved(to: i32, data: &[u8], c: Came, b: Both) {
+    let p = app_send::pair::read(old_of(data, c), new_of(data, c));
+    app_text::lines::say_number(to, b"send: done, ", b.tiles as u64);
+    app_text::lines::say_number(
+        to,
+        b" of ",
+        app_send::both::tiles_of(p.width, p.height) as u64,
+    );
+    app_text::lines::say_number(to, b" tiles, ", b.short as u64);
+    app_text::lines::say_number(to, b" bytes instead of ", b.full as u64);
+    app_text::lines::say(to, b"\n");
+}
+
+fn send(to: i32, o: Options, s: Settings, c: Came, data: &[u8], picks: &[u32], out: &mut [u8]) {
+    let b = make(s, o.index, c, data, picks, out);
+    let m = b.made;
+    if crate::is_good(to, m) {
+        let size = m.size;
+        if app_words::saving::save(to, b"send", o.out, app_text::loading::first(out, size)) {
+            say_saved(to, data, c, b);
+        }
+    }
+}
+
+fn pick_and_send(
+    to: i32,
+    o: Options,
+    s: Settings,
+    c: Came,
+    data: &[u8],
+    picks: &mut [u32],
+    out: &mut [u8],
+) {
+    let n = changed(old_of(data, c), new_of(data, c), picks);
+    if n <= picks.len() {
+        send(to, o, s, c, data, &picks[0..n], out);
+    }
+}
+
+pub fn two(to: i32, o: Options, s: Settings, data: &mut [u8], out: &mut [u8]) {
+    let mut picks = [0u32; 2048];
+    let c = load_both(to, o, data);
+    if c.whole {
+        pick_and_send(to, o, s, c, data, &mut picks, out);
+    }
 }

@@ -36,7 +36,7 @@ fn glass_of(bits: usize) -> u8 {
 }
 
 pub fn arguments() -> Options {
-    let known = [b'o', 1, b'p', 1, b'c', 1, b'g', 1];
+    let known = [b'o', 1, b'p', 1, b'c', 1, b'g', 1, 0, 0, 0, 0, 0, 0, 0, 0];
     let file = app_text::arguments::find(known, 0);
     let out = app_text::arguments::find(known, b'o');
     let pic = app_text::arguments::find(known, b'p');

@@ -24,6 +24,7 @@ fn frame(d: Desk, message: &[u8], picture: &mut [u32])
         &mut scratch,
     );
     app_text::lines::say_frame(
+        app_text::lines::ERR,
         d.frames,
         frame::call::frame_number(r),
         frame::call::frame_tiles(r),

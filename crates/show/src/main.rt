@@ -25,7 +25,7 @@ use libc::STDIN_FILENO;
 fn say_left(c: Collector) {
     if c.refused != 0 {
         app_text::lines::say(ERR, b"show: the stream from here on is ");
-        app_text::lines::say_refused(c.refused);
+        app_text::lines::say_refused(ERR, c.refused);
         return;
     }
     if c.held != 0 || c.seen != 0 {

@@ -118,7 +118,7 @@ fn settle(d: Desk) -> Desk
     let c = d.c;
     if foreign(c) {
         app_text::lines::say(ERR, b"block: ");
-        app_text::lines::say_refused(c.refused);
+        app_text::lines::say_refused(ERR, c.refused);
         return renewed(d);
     }
     d

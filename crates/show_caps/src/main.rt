@@ -1,6 +1,6 @@
-// Prints a client capability container in words (document 02, request Twelve):  show_caps [FILE]
-// The container is the whole of FILE, or of standard input: captureFlags, then a line for each entry with its flags and its entropy code. What is no
-// container is refused with 01's number, on standard error. The longest container has 49 bytes; of a longer input no more than 65,536 are taken.
+// Prints a client capability container in words (document 02, request Twelve):  caps [FILE]
+// The container is the whole of FILE, or of standard input: captureFlags, then a line for each entry with its flags and its entropy code, on standard output. What is
+// no container is refused with 01's number; the longest has 49 bytes. The last line, on standard error, says what it came to.
 use app_text::lines::ERR;
 use app_text::lines::OUT;
 use caps::Caps;
@@ -58,11 +58,11 @@ fn say_caps(c: Caps) {
 
 fn show(message: &[u8]) {
     match caps::read::read_caps(message) {
-        CapsReading::Taken(c) => say_caps(c),
-        CapsReading::Refused(number) => {
-            app_text::lines::say(ERR, b"show_caps: ");
-            app_text::lines::say_refused(number);
+        CapsReading::Taken(c) => {
+            say_caps(c);
+            app_text::lines::say_done(ERR, b"caps");
         }
+        CapsReading::Refused(number) => app_text::lines::say_refusal(ERR, b"caps", number),
     }
 }
 
@@ -75,17 +75,14 @@ fn file_of(count: usize) -> usize {
 }
 
 fn main() {
-    let mut space = [0u8; 65536];
+    let mut space = [0u8; 64];
     let count = os::arg_count();
     if 2 < count {
-        app_text::lines::say(ERR, b"usage: show_caps [FILE]\n");
+        app_text::lines::say(ERR, b"usage: caps [FILE]\n");
         return;
     }
-    let l = app_text::loading::load(
-        file_of(count),
-        &mut space,
-        b"show_caps: no container has more than 49 bytes\n",
-    );
+    let long = b"no container has more than 49 bytes";
+    let l = app_text::loading::load(ERR, b"caps", file_of(count), &mut space, long);
     if l.whole {
         show(app_text::loading::first(&space, l.n));
     }

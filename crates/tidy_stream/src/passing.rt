@@ -187,7 +187,7 @@ fn put_held(c: Collector, store: &[u8]) -> bool {
 fn refuse(from: Desk, number: u8, store: &[u8], held: &[u8], out: &mut [u8]) -> Desk {
     let d = let_go(from, held, out);
     app_text::lines::say(ERR, b"tidy: from here on as it came: ");
-    app_text::lines::say_refused(number);
+    app_text::lines::say_refused(ERR, number);
     let good = put_held(d.c, store);
     let s = d.s;
     let w = d.w;

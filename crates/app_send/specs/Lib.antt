@@ -1,0 +1,4 @@
+pub mod Both
+pub mod Pair
+pub mod Stream
+pub mod laws
