@@ -1,7 +1,7 @@
 // The pieces that an input gives, one after the other: the next is read once the one before is at its end. specs/Pieces says what a program that goes by them, turn
 // by turn, comes to. What an input gives is the outside's, of which no contract can speak; that it ends is said by a piece without bytes.
 ghost use mathlib.Core.Path.{_≡_};
-ghost use mathlib.Core.Bool.{true};
+ghost use lib.ListN.{drop};
 ghost use Rattle.app_text.specs.First.{firstOf};
 ghost use Rattle.app_stream.specs.Pieces.{Fills};
 
@@ -51,4 +51,15 @@ pub fn fill(p: Piece, fd: i32, size: usize, piece: &mut [u8]) -> Piece
         at: p.at - end,
         last: n == 0,
     }
+}
+
+// The bytes from a place on, none where it is past their end.
+pub fn rest(m: &[u8], at: usize) -> &[u8]
+    ensures { λ r. ⌜ now r ≡ drop at (now (m .entry)) ⌝ }
+{
+    let end = m.len();
+    if end < at {
+        return &m[..0];
+    }
+    &m[at..end]
 }

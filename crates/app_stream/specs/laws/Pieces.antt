@@ -1,12 +1,13 @@
 -- Turn by turn: what is known after some turns (`Playing`), after one more (`play-next`), and where it stops.
-use Prim.Native.Nat.{ℕ, _+_, _-_, _≤_, _<_}
+use Prim.Native.Nat.{ℕ, zero, suc, _+_, _-_, _≤_, _<_}
 use mathlib.Core.Path.{_≡_, refl, ap, sym, subst, _∙_}
 use mathlib.Core.Bool.{Bool, true, false, true≢false}
 use mathlib.Core.List.{List, [], _∷_}
 use native.Mathlib.Omega.{arith}
 use borrow.Author.Tests.{le-leb, eqb-true}
 use lib.Dec.{eqb}
-use lib.ListN.{length}
+use lib.ListN.{length, take, drop, length-drop}
+use lib.Seq.{take-all}
 use Rattle.whole.specs.laws.Row.{passes}
 use Rattle.app_text.specs.First.{firstOf}
 use Rattle.app_stream.specs.Pieces.{latest, Filled, same, next, Fills, Played, none, more, read, Ends, all, stop, long, PlayedTo}
@@ -30,6 +31,16 @@ fills-next at end n piece bytes p f g h =
       filled = subst (λ (k : ℕ). Filled at piece (at - k) (firstOf p n)) (sym l) (next (firstOf p n) m);
       ended = λ (e : eqb n 0 ≡ true). (sym (first-none p n (eqb-true n 0 e)), m);
     }
+
+-- bytes past their end: none; and those to the end
+pub past-end : (m : List ℕ) (at : ℕ) → length m < at → take 0 m ≡ drop at m
+past-end [] zero h = refl
+past-end [] (suc at) h = refl
+past-end (x ∷ m) zero h = absurd (omega arith)
+past-end (x ∷ m) (suc at) h = past-end m at (omega arith)
+
+pub to-end : (m : List ℕ) (at : ℕ) → take (length m - at) (drop at m) ≡ drop at m
+to-end m at = take-all (length m - at) (drop at m) (rw length-drop (omega arith))
 
 -- ---- turns
 
