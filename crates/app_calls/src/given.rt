@@ -71,7 +71,7 @@ pub fn advance(d: Desk, c: Collector, taken: usize) -> Desk
 }
 
 // After a header call that left the record s: the size is the record's, once it has one.
-fn after_header(d: Desk, s: Session) -> Desk
+pub fn after_header(d: Desk, s: Session) -> Desk
     ensures { λ r. ⌜ r ≡ headerDesk d s ⌝ }
 {
     let c = d.c;

@@ -1,7 +1,7 @@
 // Passes a RemoteFX stream on, made acceptable to the panel:  tidy_stream < IN.rfx > OUT.rfx
 // The stream goes through the collector (document 02, request One). Header blocks go on in 01's order, frames as `tidy` leaves them, each as soon as it is whole; a
-// line on standard error says what was changed. From the first head that the collector refuses on, every byte goes on as it came, that head included, and so do
-// the bytes of a block or frame that is not whole at the end. A block or frame may have 3,145,728 bytes.
+// line on standard error says what was changed. A block or frame of more than 3,145,728 bytes goes on as it came, up to its end. From the first head that the
+// collector refuses for another reason on, every byte goes on as it came, that head included, and so do the bytes of a block or frame that is not whole at the end.
 mod passing;
 
 use crate::passing::Desk;
@@ -16,12 +16,13 @@ fn read_piece(piece: &mut [u8]) -> usize {
 
 // What was done, in one line.
 fn say_all(d: Desk) {
-    app_text::lines::say_number(ERR, b"tidy: ", d.frames);
+    if !d.good {
+        app_text::lines::say_why(ERR, b"tidy", b"the output could not be written");
+        return;
+    }
+    app_text::lines::say_number(ERR, b"tidy: done, ", d.frames);
     app_text::lines::say_number(ERR, b" frames, of which changed: ", d.changed);
     app_text::lines::say(ERR, b"\n");
-    if !d.good {
-        app_text::lines::say(ERR, b"tidy: the output could not be written\n");
-    }
 }
 
 // The next piece of the input, passed on.

@@ -1,5 +1,7 @@
 // A stream given to the collector, some bytes at a time; each part that it hands on goes on tidied: header blocks by `tidy::headers`, frames by `tidy::frame`. The
-// filter keeps a session record of its own, by the headers that it passed on, as the panel behind it will.
+// filter keeps a session record of its own, by the headers that it passed on, as the panel behind it will. What is longer than the store is passed on as it came, up
+// to its end (crate app_stream), and the filter goes on behind it.
+use app_stream::skip::Skip;
 use app_text::lines::ERR;
 use app_text::lines::OUT;
 use collect::Collected;
@@ -9,12 +11,13 @@ use tidy::frames::Tidied;
 use tidy::headers::Gave;
 use tidy::headers::Waiting;
 
-// What goes on from part to part: the session's record, the collector's, the headers that wait, the place in the bytes that are given; how many frames went on and
-// how many of them changed; whether all goes on as it came, whether it could be written, and whether more is to come.
+// What goes on from part to part: the session's record, the collector's, the headers that wait, what is passed over, the place in the bytes that are given; how many
+// frames went on and how many of them changed; whether all goes on as it came, whether it could be written, and whether more is to come.
 pub struct Desk {
     pub s: Session,
     pub c: Collector,
     pub w: Waiting,
+    pub k: Skip,
     pub at: usize,
     pub frames: u64,
     pub changed: u64,
@@ -37,6 +40,7 @@ pub fn fresh() -> Desk {
         s: session::open(0),
         c: collect::reset(),
         w: none(),
+        k: app_stream::skip::nothing(),
         at: 0,
         frames: 0,
         changed: 0,
@@ -53,7 +57,7 @@ fn put(bytes: &[u8], n: usize) -> bool {
 
 // The block at a place, by its blockLen; nothing where it is not whole.
 fn block_at(m: &[u8], at: usize) -> &[u8] {
-    let left = rest(m, at);
+    let left = app_stream::pieces::rest(m, at);
     if left.len() < 6 {
         return &left[..0];
     }
@@ -77,10 +81,12 @@ fn read_all(from: Session, m: &[u8]) -> Session {
 // After bytes that were passed on.
 fn passed(d: Desk, s: Session, w: Waiting, good: bool) -> Desk {
     let c = d.c;
+    let k = d.k;
     Desk {
         s: s,
         c: c,
         w: w,
+        k: k,
         at: d.at,
         frames: d.frames,
         changed: d.changed,
@@ -131,11 +137,13 @@ fn counted(d: Desk, cut: usize, good: bool) -> Desk {
     let s = d.s;
     let c = d.c;
     let w = d.w;
+    let k = d.k;
     let more = if cut == 0 { 0 } else { 1 };
     Desk {
         s: s,
         c: c,
         w: w,
+        k: k,
         at: d.at,
         frames: std::num::wrapping_add_u64(d.frames, 1),
         changed: std::num::wrapping_add_u64(d.changed, more),
@@ -184,17 +192,17 @@ fn put_held(c: Collector, store: &[u8]) -> bool {
 }
 
 // From here on everything goes on as it came.
-fn refuse(from: Desk, number: u8, store: &[u8], held: &[u8], out: &mut [u8]) -> Desk {
-    let d = let_go(from, held, out);
+fn plainly(d: Desk, number: u8, good: bool) -> Desk {
     app_text::lines::say(ERR, b"tidy: from here on as it came: ");
     app_text::lines::say_refused(ERR, number);
-    let good = put_held(d.c, store);
     let s = d.s;
     let w = d.w;
+    let k = d.k;
     Desk {
         s: s,
         c: collect::reset(),
         w: w,
+        k: k,
         at: d.at,
         frames: d.frames,
         changed: d.changed,
@@ -202,6 +210,36 @@ fn refuse(from: Desk, number: u8, store: &[u8], held: &[u8], out: &mut [u8]) -> 
         good: d.good && good,
         go: d.go,
     }
+}
+
+// What is longer than the store is passed on as it came, and counts as a frame.
+fn over(d: Desk, number: u8, good: bool) -> Desk {
+    let frames = std::num::wrapping_add_u64(d.frames, 1);
+    app_text::lines::say_frame(ERR, frames, number, 0);
+    let s = d.s;
+    let w = d.w;
+    Desk {
+        s: s,
+        c: collect::reset(),
+        w: w,
+        k: app_stream::skip::begin(d.c),
+        at: d.at,
+        frames: frames,
+        changed: d.changed,
+        plain: d.plain,
+        good: d.good && good,
+        go: d.go,
+    }
+}
+
+// A head that the collector refused: what it holds goes on as it came.
+fn refuse(from: Desk, number: u8, store: &[u8], held: &[u8], out: &mut [u8]) -> Desk {
+    let d = let_go(from, held, out);
+    let good = put_held(d.c, store);
+    if number == 13 {
+        return over(d, number, good);
+    }
+    plainly(d, number, good)
 }
 
 // A part that is handed on.
@@ -222,13 +260,14 @@ fn part(
 }
 
 // After a hand-over that took so many bytes.
-fn advance(d: Desk, c: Collector, taken: usize) -> Desk {
+fn advance(d: Desk, c: Collector, k: Skip, taken: usize) -> Desk {
     let s = d.s;
     let w = d.w;
     Desk {
         s: s,
         c: c,
         w: w,
+        k: k,
         at: std::num::wrapping_add_usize(d.at, taken),
         frames: d.frames,
         changed: d.changed,
@@ -238,13 +277,17 @@ fn advance(d: Desk, c: Collector, taken: usize) -> Desk {
     }
 }
 
-// The bytes from a place on, none where it is past their end.
-fn rest(m: &[u8], at: usize) -> &[u8] {
-    let end = m.len();
-    if end < at {
-        return &m[..0];
+// Bytes of what is passed over, as they came; at a head inside that has no length all goes on as it came from there on.
+fn pass(d: Desk, left: &[u8]) -> Desk {
+    let p = app_stream::skip::pass_over(d.k, left);
+    let k = p.skip;
+    let good = put(left, p.taken);
+    let e = advance(d, d.c, k, p.taken);
+    let number = app_stream::skip::left_by(k).refused;
+    if number != 0 {
+        return plainly(e, number, good);
     }
-    &m[at..end]
+    passed(e, e.s, e.w, good)
 }
 
 // One hand-over of what is left, or all of it as it came.
@@ -256,16 +299,19 @@ fn step(
     list: &mut [i32],
     out: &mut [u8],
 ) -> Desk {
-    let left = rest(bytes, d.at);
+    let left = app_stream::pieces::rest(bytes, d.at);
     if d.plain {
         let good = put(left, left.len());
-        let e = advance(d, d.c, left.len());
+        let e = advance(d, d.c, d.k, left.len());
         return passed(e, e.s, e.w, good);
+    }
+    if app_stream::skip::goes_on(d.k) {
+        return pass(d, left);
     }
     let t = collect::collect(d.c, left, store);
     let c = t.collector;
     let answer = t.answer;
-    part(advance(d, c, t.taken), answer, store, held, list, out)
+    part(advance(d, c, d.k, t.taken), answer, store, held, list, out)
 }
 
 // Whether more is to come behind n bytes: not at the end of the input, and not where the output could not be written.
@@ -281,10 +327,12 @@ fn start(d: Desk, n: usize) -> Desk {
     let s = d.s;
     let c = d.c;
     let w = d.w;
+    let k = d.k;
     Desk {
         s: s,
         c: c,
         w: w,
+        k: k,
         at: 0,
         frames: d.frames,
         changed: d.changed,
