@@ -508,8 +508,9 @@ pub fn write_frame_short(
 /// ```
 #[inline]
 #[allow(clippy::too_many_arguments)]
-pub fn tidy_frame(sender: u8, width: usize, height: usize, mode: u8, message: &[u8], list: &mut [i32], out: &mut [u8], told: &mut [Size; 2]) -> u8 {
-    unsafe {
+pub fn tidy_frame(sender: u8, width: usize, height: usize, mode: u8, message: &[u8], list: &mut [i32], out: &mut [u8], told: &mut [usize; 2]) -> u8 {
+    let (answer, told) = (told, &mut [0; 2]);
+    let number = unsafe {
         archive::xurbalenz_tidy_frame(
             sender,
             width as Size,
@@ -523,7 +524,9 @@ pub fn tidy_frame(sender: u8, width: usize, height: usize, mode: u8, message: &[
             out.len() as Size,
             told,
         )
-    }
+    };
+    *answer = [told[0] as usize, told[1] as usize];
+    number
 }
 
 /// Gives a header block to the order of the headers: the number, and how many bytes of `out` go on (0 when refused). `held` is 38 bytes, all zeros at first. See

@@ -535,8 +535,8 @@ impl Sender {
 pub fn tidy_frame(sender: Sender, width: usize, height: usize, mode: Mode, frame: &[u8]) -> (Vec<u8>, usize) {
     let (mut list, mut out, mut told) = (vec![0; LIST], vec![0; frame.len()], [0; 2]);
     edge::tidy_frame(sender.number(), width, height, mode.number(), frame, &mut list, &mut out, &mut told); // sender, list and room are as asked
-    out.truncate(told[0] as usize);
-    (out, told[1] as usize)
+    out.truncate(told[0]);
+    (out, told[1])
 }
 
 /// Header blocks put into the panel's order: behind a good sync versions, channels and context wait until all three are there. Nothing is lost.
