@@ -4,7 +4,7 @@
  * Link target/staticlib/libxurbalenz.a (made by `tools/archive`, x86-64). Its functions read four header blocks and whole frames into a
  * lent picture of 16-bit or 32-bit words, and write headers, components and frames; and they gather header blocks and frames from a network card's
  * bytes, however these are cut;
- * they make frames of other senders acceptable;
+ * they make frames of other senders acceptable; they tell which tiles of two pictures differ;
  * and they read and write what a client says of its capabilities and the frames that it acknowledges, and the settings that a cabinet keeps.
  *
  * WHAT YOU CAN RELY ON
@@ -384,6 +384,34 @@ uint8_t xurbalenz_write_frame_short(size_t width, size_t height, uint8_t mode, c
                                     const uint8_t *old, size_t old_len, const uint8_t *next, size_t next_len,
                                     const uint32_t *picks, size_t picks_len, int32_t *list, size_t list_len, int32_t *scratch, size_t scratch_len,
                                     uint8_t *out, size_t out_len, size_t *size);
+
+/* ---- which tiles of two pictures differ ---- */
+
+/*
+ * Counts, for each tile, the words in which two pictures of one size differ: of what the glass showed and what it shows, say. counts[k] is that of tile k; tiles are
+ * numbered row by row from 0, and there are XURBALENZ_TILES(width, height) of them. Pictures may be longer than width x height words; what is behind is not looked at.
+ *
+ * Judged in this order: size (5), either picture's length (2), counts_len below the number of tiles (13).
+ * Afterwards: done - counts past the last tile are 0; refused - counts are untouched.
+ */
+uint8_t xurbalenz_count_tiles(size_t width, size_t height, const uint16_t *old, size_t old_len, const uint16_t *next, size_t next_len,
+                              uint32_t *counts, size_t counts_len);
+
+/* The same for pictures of 32-bit words. */
+uint8_t xurbalenz_count_tiles_32(size_t width, size_t height, const uint32_t *old, size_t old_len, const uint32_t *next, size_t next_len,
+                                 uint32_t *counts, size_t counts_len);
+
+/*
+ * Tells the first tile that differs, from tile `from` on: *tile is its number, *x and *y its column and its row, *n its count. Where there is none *n is 0, and so are
+ * the others. All of them, one after the other:
+ *
+ *     for (size_t from = 0; xurbalenz_next_tile(w, h, counts, counts_len, from, &tile, &x, &y, &n) == XURBALENZ_DONE && n > 0; from = tile + 1)
+ *         printf("%zu %zu %u\n", x, y, n);
+ *
+ * A size that is not allowed is 5; all four are 0 then.
+ */
+uint8_t xurbalenz_next_tile(size_t width, size_t height, const uint32_t *counts, size_t counts_len, size_t from, size_t *tile, size_t *x, size_t *y,
+                            uint32_t *n);
 
 /* ---- what other senders write, made acceptable ---- */
 

@@ -18,7 +18,8 @@ use Rattle.tile_diff.specs.Pic.{picOf, isWhole, sizesJudge, verdictOf}
 use Rattle.tile_diff.specs.Request.{pictureOf, rowOf, rowsCounted, noCounts, Asked, timesIn, Right, RequestSeven}
 use Rattle.tile_diff.specs.laws.Words.{words-length}
 use Rattle.tile_diff.specs.laws.Count.{some-columns, same}
-use Rattle.tile_diff.specs.laws.Picture.{placesCounted, counts, rowAt, row-places, places-count, count-differs, many-none}
+use Rattle.tile_diff.specs.Pictures.{placesCounted}
+use Rattle.tile_diff.specs.laws.Picture.{counts, rowAt, row-places, places-count, count-differs, many-none}
 use Rattle.tile_diff.specs.laws.Listed.{lines-same, lines-none, times-once, shown-only, rising, asked-lines}
 use Rattle.tile_diff.specs.declared.count.Line.{Line}
 use Rattle.tile_diff.specs.declared.pic.Pic.{Pic}
@@ -69,7 +70,7 @@ pub record Sized (w h : ℕ) : Type 0 where
   pub wider : w ≤ 4096
   pub high : h ≤ 2048
 
-size-is : (w h : ℕ) → sizeGood w h ≡ true → Sized w h
+pub size-is : (w h : ℕ) → sizeGood w h ≡ true → Sized w h
 unfolding sizeGood
 size-is w h e =
     let a = held (leb 1 w) false _ true (λ z. cannot z) (sym e) in
@@ -120,14 +121,14 @@ both-are a b e =
 
 -- ---- the counts of the definition
 
-few-tiles : (w h : ℕ) → Sized w h → tilesOver w * tilesOver h ≤ 2048
+pub few-tiles : (w h : ℕ) → Sized w h → tilesOver w * tilesOver h ≤ 2048
 unfolding tilesOver
 few-tiles w h s = mul-le-mul {n₂ = 64} {m₂ = 32} (omega arith) (omega arith)
 
-few-words : (w h : ℕ) → Sized w h → h * w ≤ 8388608
+pub few-words : (w h : ℕ) → Sized w h → h * w ≤ 8388608
 few-words w h s = mul-le-mul {n₂ = 2048} {m₂ = 4096} (s .high) (s .wider)
 
-some-tiles : (w : ℕ) → 1 ≤ w → 0 < tilesOver w
+pub some-tiles : (w : ℕ) → 1 ≤ w → 0 < tilesOver w
 unfolding tilesOver
 some-tiles w h = omega arith
 
