@@ -5,8 +5,10 @@ const STORE = 32 << 20; // the longest block or frame that is taken; memory that
 const PIECE = 256 << 10; // bytes of a file that are handed over at a time
 const UNDRAWN = 0xffffffff; // a word that no colour has
 const TILES = 2048; // counts that are lent: more than tiles are never asked for
+const HELD = 38; // bytes in which the filter holds headers that wait
 
 export const KIND = { none: 0, header: 1, frame: 2 }; // what the collector hands on
+export const SENDERS = ['as it came', 'FreeRDP', 'MS-RDPRFX’s sample']; // by the filter's numbers; 0 is strict, and no filter
 
 // An instance of the library with the memory that is lent to its calls.
 class Memory {
@@ -49,6 +51,8 @@ export class Library {
     async memory() { return new Memory((await WebAssembly.instantiate(this.module, {})).exports); }
     async reader(bits, sender = 0) { return new Reader(await this.memory(), this.facts, bits, sender); }
     async differ() { return new Differ(await this.memory()); }
+    // Whose streams can be made acceptable: none, where the library has no filter that takes a sender.
+    get senders() { return WebAssembly.Module.exports(this.module).some(({ name }) => name === 'xurbalenz_tidy_header') ? SENDERS : SENDERS.slice(0, 1); }
     word(number) { return this.facts.words[number] ?? this.facts.unknown[0]; }
     says(number) { return this.facts.says[number] ?? this.facts.unknown[1]; }
 }
@@ -60,12 +64,14 @@ export class Reader {
         Object.assign(this, { m, facts, bits, sender, room: 0, wide: 0, high: 0, given: 0, left: 0 });
         this.session = m.lend(facts.session.size);
         this.second = m.lend(facts.session.size); // the same session on a glass of 32 bits, for `drawn`
+        this.held = m.lend(HELD);
         this.collector = m.lend(facts.collector.size);
         this.out = m.lend(32 + 4 * TILES);
         this.work = [0, 1, 2, 3].map(() => m.lend(lists));
         this.piece = m.lend(PIECE);
         this.store = m.lend(STORE);
         this.glass = this.trace = this.blank = this.store; // of no length yet
+        if (sender > 0) [this.passed, this.part, this.parter] = [m.lend(STORE), m.lend(STORE), m.lend(facts.collector.size)];
         m.bytes(this.session + facts.session.glass, 1)[0] = bits === 16 ? 0 : 1;
         m.bytes(this.second + facts.session.glass, 1)[0] = 1;
     }
@@ -91,14 +97,16 @@ export class Reader {
 
     // ---- the two calls, for the message in the store
 
-    header(size) {
-        const call = this.m.calls.xurbalenz_read_header, number = call(this.session, this.store, BigInt(size));
-        call(this.second, this.store, BigInt(size));
+    header(size) { return { number: this.sender > 0 ? this.ordered(this.store, size) : this.block(this.store, size), tiles: 0, cut: 0 }; }
+    block(at, size) {
+        const call = this.m.calls.xurbalenz_read_header, number = call(this.session, at, BigInt(size));
+        call(this.second, at, BigInt(size));
         const { width, height } = this.size();
         if (number === 0 && width > 0 && (width !== this.wide || height !== this.high)) this.make(width, height).fill(0);
-        return { number, tiles: 0, cut: 0 };
+        return number;
     }
     frame(size) {
+        if (this.sender > 0) this.ordered();
         const from = this.tidy(size), name = this.bits === 16 ? 'xurbalenz_read_frame' : 'xurbalenz_read_frame_32';
         const number = this.read(name, this.session, from, this.glass);
         return { number, tiles: this.m.size(this.out), cut: from.cut };
@@ -107,8 +115,28 @@ export class Reader {
         const lists = this.work.flatMap((list) => [list, BigInt(this.facts.list)]);
         return this.m.calls[name](session, from.at, BigInt(from.size), picture, BigInt(this.room), ...lists, this.out);
     }
-    // Where the message is that goes to the call. What other senders write will pass through the filter here; for a strict sender it is the message as it came.
-    tidy(size) { return { at: this.store, size, cut: 0 }; }
+
+    // ---- what other senders write is passed through the filter first
+
+    // A frame: where what goes to the call is, how long, and how many of its codes were changed.
+    tidy(size) {
+        if (this.sender === 0) return { at: this.store, size, cut: 0 };
+        const { width, height, mode } = this.size(), [list, into] = [[this.work[0], BigInt(this.facts.list)], [this.passed, BigInt(STORE)]];
+        const number = this.m.calls.xurbalenz_tidy_frame(this.sender, BigInt(width), BigInt(height), mode, this.store, BigInt(size), ...list, ...into, this.out);
+        return number === 0 ? { at: this.passed, size: this.m.size(this.out), cut: this.m.size(this.out + 8) } : { at: this.store, size, cut: 0 };
+    }
+    // A header block, or before a frame none: what goes on now, block by block, to the header call. Answers the first number that is not 0.
+    ordered(at, size) {
+        const { xurbalenz_tidy_header: give, xurbalenz_tidy_flush: flush, xurbalenz_collect: collect } = this.m.calls, o = this.out, into = [this.passed, BigInt(STORE), o];
+        const number = at ? give(this.held, BigInt(HELD), at, BigInt(size), ...into) : flush(this.held, BigInt(HELD), ...into), end = this.passed + this.m.size(o);
+        let first = number;
+        for (let from = this.passed; from < end; from += this.m.size(o + 16)) {
+            if (collect(this.parter, from, BigInt(end - from), this.part, BigInt(STORE), o, o + 8, o + 16) !== 0 || this.m.bytes(o, 1)[0] !== KIND.header) break;
+            first ||= this.block(this.part, this.m.size(o + 8));
+        }
+        return first;
+    }
+
     // Which words a frame draws: it is read once more, onto a second glass that holds nothing but a word that no colour has, and the comparison counts those that
     // are something else then. With `at`, whether it draws that word.
     drawn(size, at) {
@@ -125,7 +153,7 @@ export class Reader {
         const f = this.facts.session, v = new DataView(this.m.calls.memory.buffer, this.session, f.size);
         return { width: v.getUint16(f.width, true), height: v.getUint16(f.height, true), mode: v.getUint8(f.mode) };
     }
-    records() { return this.m.bytes(this.session, this.second + this.facts.session.size - this.session).slice(); }
+    records() { return this.m.bytes(this.session, this.held + HELD - this.session).slice(); }
     words() { return this.m.words(this.glass, this.wide * this.high, this.bits); }
     // A glass of the channel's size: one of another size starts black, one of the same stays.
     make(width, height) {

@@ -83,9 +83,12 @@ function listen(page) {
 async function start() {
     const say = (text) => Object.assign(el('note'), { textContent: text, className: 'bad' });
     guard(say);
-    if (typeof WebAssembly !== 'object') return say('This browser has no WebAssembly, so the library cannot run in it. Any browser from 2021 on has.');
-    const library = await Library.open(raw('wasm'), JSON.parse(el('facts').textContent)), page = new Page(library);
+    const library = await Library.open(raw('wasm'), JSON.parse(el('facts').textContent)).catch(() => null);
+    if (!library) return say('The library cannot run in this browser: it needs one from 2023 or later.');
+    const page = new Page(library);
     const opened = (files, other) => page.opened(files, other);
+    el('sender').append(...library.senders.map((name, number) => new Option(name, number)));
+    el('sender-box').hidden = library.senders.length < 2;
     buttons(page, chooseFiles({ input: el('file'), first: el('open-a'), second: el('open-b'), drop: el('drop'), opened }));
     listen(page);
     await page.open(page.a, new Blob([raw('demo')]), 'The demonstration');

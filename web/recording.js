@@ -55,7 +55,8 @@ export class Recording {
     call({ kind, size }, at) {
         const began = now(), head = kind === KIND.header, said = head ? this.reader.header(size) : this.reader.frame(size);
         this.spent += now() - began;
-        if (head && said.number === 0) this.records.push(this.reader.records());
+        const record = this.reader.records();
+        if (record.some((byte, k) => byte !== this.records.at(-1)[k])) this.records.push(record);
         if (said.number !== 0) this.refused.push(this.calls.length);
         this.calls.push({ kind: head ? 'header' : 'frame', number: said.number, tiles: said.tiles, cut: said.cut, at, size, record: this.records.length - 1 });
         if (this.spent - this.copied < GAP || head || said.number !== 0) return;
@@ -98,12 +99,12 @@ export class Recording {
         this.shower.restore(state ?? { records: this.records[0], wide: 0, high: 0, words: [] });
         this.at = at;
     }
-    // Reads calls `from` to `to` again, those that were done: the refused ones changed nothing.
+    // Reads calls `from` to `to` again, those that were done: the refused ones changed nothing, unless a filter in front held a header back.
     async again(from, to, back) {
         for (let i = from; i <= to; i++) {
             const call = this.calls[i];
             if (back && to - i < NEAR && i > from) this.near.set(i - 1, { ...this.shower.keep(), words: this.shower.words().slice() });
-            if (call.number !== 0) continue;
+            if (call.number !== 0 && this.options.sender === 0) continue;
             this.shower.put(await this.message(call));
             if (call.kind === 'header') this.shower.header(call.size);
             else this.shower.frame(call.size);

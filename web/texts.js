@@ -12,7 +12,8 @@ export function sentence(library, call, i, all) {
     const where = `Call ${count(i + 1)} of ${count(all)}: ${call.kind}, ${many(call.size, 'byte')} from byte ${count(call.at)} on`;
     if (call.number !== 0) return `${where}, refused ${call.number} ${library.word(call.number)}: ${library.says(call.number)}. The glass shows what it showed before.`;
     if (call.kind === 'header') return `${where}, done. A header draws nothing.`;
-    return `${where}, done: it lists ${many(call.tiles, 'tile')}.`;
+    const tidied = call.cut > 0 ? ` The filter changed ${many(call.cut, 'code')} of it.` : '';
+    return `${where}, done: it lists ${many(call.tiles, 'tile')}.${tidied}`;
 }
 
 // What a file is, where there is something to say about it: an answer of `Recording.read` and how many calls came before.

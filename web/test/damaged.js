@@ -46,6 +46,24 @@ export async function damaged(times) {
     return [...told].sort(([a], [b]) => a - b).map(([n, k]) => `${n}: ${k}`).join(', ');
 }
 
+// Headers in another order, as some senders have them: refused as they came, put into order by the filter, where the library has one that takes a sender.
+export async function filtered() {
+    if (library.senders.length < 2) return 'the library has none that takes a sender';
+    const [w, h] = SIDE, blocks = headers(w, h), [sync, versions, channels, context] = [[0, 12], [12, 22], [22, 34], [34, 47]].map(([from, to]) => blocks.slice(from, to));
+    const messages = [sync, context, versions, channels], last = frame(w, h, drawing(w, h, 3)), told = [];
+    for (const sender of [0, 1, 2]) {
+        const reader = await library.reader(32, sender);
+        const said = messages.map((block) => {
+            reader.put(block);
+            return reader.header(block.length).number;
+        });
+        reader.put(last);
+        told.push([...said, reader.frame(last.length).number].filter((number) => number !== 0).length);
+    }
+    holds(told[0] > 0 && told[1] === 0 && told[2] === 0, `headers in another order: ${told} refused`);
+    return `headers in another order are refused as they came, and put into order for ${library.senders.slice(1).join(' and ')}`;
+}
+
 // A stream of noise, of zeros and of blocks cut anywhere: the collector always comes back.
 export async function streams() {
     const below = random(7), whole = joined(headers(64, 64), frame(64, 64, drawing(64, 64, 1)));

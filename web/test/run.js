@@ -8,11 +8,12 @@ const parts = process.argv.slice(2), wanted = (name) => parts.length === 0 || pa
 const since = (start) => `${((Date.now() - start) / 1000).toFixed(1)} s`;
 
 if (wanted('library')) {
-    const start = Date.now(), { vectors } = await import('./vectors.js'), { damaged, streams } = await import('./damaged.js');
+    const start = Date.now(), { vectors } = await import('./vectors.js'), { damaged, filtered, streams } = await import('./damaged.js');
     const { cases, made } = vectors();
     console.log(`web: ${made} recorded calls of ${cases} cases agree (${since(start)})`);
     const again = Date.now(), told = await damaged(10000);
     await streams();
+    console.log(`web: the filter: ${await filtered()}`);
     console.log(`web: 10000 damaged frames, number: times ${told} (${since(again)})`);
 }
 const made = path('web/xurbalenz.html');
