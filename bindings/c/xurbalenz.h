@@ -5,7 +5,7 @@
  * Link target/staticlib/libxurbalenz.a (made by `tools/archive`, x86-64; `tools/archive --list` says for which machines else). Its functions read four
  * header blocks and whole frames into a lent picture of 16-bit or 32-bit words, and write headers, components and frames; and they gather header blocks
  * and frames from a network card's bytes, however these are cut;
- * they make frames of other senders acceptable;
+ * they make frames of other senders acceptable; they tell which tiles of two pictures differ;
  * and they read and write what a client says of its capabilities and the frames that it acknowledges, and the settings that a cabinet keeps.
  *
  * WHAT YOU CAN RELY ON
@@ -425,6 +425,34 @@ uint8_t xurbalenz_write_frame_short(xurbalenz_size width, xurbalenz_size height,
                                     uint32_t index, const uint8_t *old, xurbalenz_size old_len, const uint8_t *next, xurbalenz_size next_len,
                                     const uint32_t *picks, xurbalenz_size picks_len, int32_t *list, xurbalenz_size list_len, int32_t *scratch,
                                     xurbalenz_size scratch_len, uint8_t *out, xurbalenz_size out_len, xurbalenz_size *size);
+
+/* ---- which tiles of two pictures differ ---- */
+
+/*
+ * Counts, for each tile, the words in which two pictures of one size differ: of what the glass showed and what it shows, say. counts[k] is that of tile k; tiles are
+ * numbered row by row from 0, and there are XURBALENZ_TILES(width, height) of them. Pictures may be longer than width x height words; what is behind is not looked at.
+ *
+ * Judged in this order: size (5), either picture's length (2), counts_len below the number of tiles (13).
+ * Afterwards: done - counts past the last tile are 0; refused - counts are untouched.
+ */
+uint8_t xurbalenz_count_tiles(xurbalenz_size width, xurbalenz_size height, const uint16_t *old, xurbalenz_size old_len, const uint16_t *next, xurbalenz_size next_len,
+                              uint32_t *counts, xurbalenz_size counts_len);
+
+/* The same for pictures of 32-bit words. */
+uint8_t xurbalenz_count_tiles_32(xurbalenz_size width, xurbalenz_size height, const uint32_t *old, xurbalenz_size old_len, const uint32_t *next, xurbalenz_size next_len,
+                                 uint32_t *counts, xurbalenz_size counts_len);
+
+/*
+ * Tells the first tile that differs, from tile `from` on: *tile is its number, *x and *y its column and its row, *n its count. Where there is none *n is 0, and so are
+ * the others. All of them, one after the other:
+ *
+ *     for (xurbalenz_size from = 0; xurbalenz_next_tile(w, h, counts, counts_len, from, &tile, &x, &y, &n) == XURBALENZ_DONE && n > 0; from = tile + 1)
+ *         printf("%zu %zu %u\n", x, y, n);
+ *
+ * A size that is not allowed is 5; all four are 0 then.
+ */
+uint8_t xurbalenz_next_tile(xurbalenz_size width, xurbalenz_size height, const uint32_t *counts, xurbalenz_size counts_len, xurbalenz_size from, xurbalenz_size *tile, xurbalenz_size *x, xurbalenz_size *y,
+                            uint32_t *n);
 
 /* ---- what other senders write, made acceptable ---- */
 

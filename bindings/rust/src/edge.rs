@@ -133,6 +133,37 @@ mod archive {
             out_len: Size,
             size: *mut Size,
         ) -> u8;
+        pub fn xurbalenz_count_tiles(
+            width: Size,
+            height: Size,
+            old: *const u16,
+            old_len: Size,
+            next: *const u16,
+            next_len: Size,
+            counts: *mut u32,
+            counts_len: Size,
+        ) -> u8;
+        pub fn xurbalenz_count_tiles_32(
+            width: Size,
+            height: Size,
+            old: *const u32,
+            old_len: Size,
+            next: *const u32,
+            next_len: Size,
+            counts: *mut u32,
+            counts_len: Size,
+        ) -> u8;
+        pub fn xurbalenz_next_tile(
+            width: Size,
+            height: Size,
+            counts: *const u32,
+            counts_len: Size,
+            from: Size,
+            tile: *mut Size,
+            x: *mut Size,
+            y: *mut Size,
+            n: *mut u32,
+        ) -> u8;
         pub fn xurbalenz_tidy_frame(
             sender: u8,
             width: Size,
@@ -553,6 +584,42 @@ pub fn tidy_flush(held: &mut [u8], out: &mut [u8]) -> (u8, usize) {
     let mut size = 0;
     let number = unsafe { archive::xurbalenz_tidy_flush(held.as_mut_ptr(), held.len() as Size, out.as_mut_ptr(), out.len() as Size, &mut size) };
     (number, size as usize)
+}
+
+/// Counts, tile by tile, the words in which two pictures of one size differ: the number. Counts past the last tile are 0; refused, all are as they were.
+///
+/// ```
+/// use xurbalenz::edge::{count_tiles, count_tiles_32, next_tile};
+/// let (old, new, mut counts) = ([7; 66], [[7; 64].as_slice(), &[8, 7]].concat(), [9; 2]); // 66 pixels in a row: two tiles, and a word of the second differs
+/// assert_eq!((count_tiles(66, 1, &old, &new, &mut counts), counts), (0, [0, 1]));
+/// assert_eq!(next_tile(66, 1, &counts, 0), (0, 1, 1, 0, 1)); // tile 1, in column 1 of row 0, one word
+/// assert_eq!(next_tile(66, 1, &counts, 2), (0, 0, 0, 0, 0)); // none
+/// assert_eq!(count_tiles_32(66, 1, &[7; 66], &[7; 66], &mut counts[..1]), 13);
+/// ```
+#[inline]
+pub fn count_tiles(width: usize, height: usize, old: &[u16], next: &[u16], counts: &mut [u32]) -> u8 {
+    unsafe {
+        archive::xurbalenz_count_tiles(width as Size, height as Size, old.as_ptr(), old.len() as Size, next.as_ptr(), next.len() as Size, counts.as_mut_ptr(), counts.len() as Size)
+    }
+}
+
+/// The same for words of 32 bits.
+#[inline]
+pub fn count_tiles_32(width: usize, height: usize, old: &[u32], next: &[u32], counts: &mut [u32]) -> u8 {
+    unsafe {
+        archive::xurbalenz_count_tiles_32(width as Size, height as Size, old.as_ptr(), old.len() as Size, next.as_ptr(), next.len() as Size, counts.as_mut_ptr(), counts.len() as Size)
+    }
+}
+
+/// The first tile with a count above 0, from tile `from` on: the number; the tile's; its column and row; its count, which is 0 where there is none.
+#[inline]
+pub fn next_tile(width: usize, height: usize, counts: &[u32], from: usize) -> (u8, usize, usize, usize, u32) {
+    let mut tile = 0;
+    let mut x = 0;
+    let mut y = 0;
+    let mut n = 0;
+    let number = unsafe { archive::xurbalenz_next_tile(width as Size, height as Size, counts.as_ptr(), counts.len() as Size, from as Size, &mut tile, &mut x, &mut y, &mut n) };
+    (number, tile as usize, x as usize, y as usize, n)
 }
 
 /// Takes bytes of the stream, up to the end of the first message that is whole: the number; to which call the message goes (1 to the header call,

@@ -19,6 +19,7 @@ use wire::Writing;
 pub mod cabinet;
 pub mod capabilities;
 pub mod collector;
+pub mod differ;
 pub mod edge;
 pub mod filter;
 pub mod short;

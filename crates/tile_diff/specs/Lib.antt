@@ -4,5 +4,6 @@ pub mod Counts
 pub mod Mark
 pub mod Request
 pub mod Text
+pub mod Pictures
 pub mod Cases
 pub mod laws

@@ -4,4 +4,5 @@ pub mod Mark
 pub mod Picture
 pub mod Listed
 pub mod Request
+pub mod Pictures
 pub mod Cases

@@ -20,7 +20,7 @@ pub enum Next {
 }
 
 // One more at a place, if it is there; no count goes past the largest.
-fn add_one(counts: &mut [u32], k: usize)
+pub fn add_one(counts: &mut [u32], k: usize)
     ensures { λ _. ⌜ now (counts .exit) ≡ oneMore k (now (counts .entry)) ⌝ }
 {
     if k < counts.len() {

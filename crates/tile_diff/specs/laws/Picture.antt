@@ -16,16 +16,8 @@ use Rattle.whole.specs.laws.Row.{passes}
 use Rattle.session.specs.Header.{tilesOver}
 use Rattle.tile_diff.specs.Tiles.{notSame, howMany, differsAt, differs}
 use Rattle.tile_diff.specs.Counts.{oneMore, countedIf, columnsCounted, rowCounted}
+use Rattle.tile_diff.specs.Pictures.{tileAt, placesCounted}
 use Rattle.tile_diff.specs.laws.Count.{more-in, counted-length}
-
--- the number of the tile over place i
-abbrev pub tileAt : ℕ → ℕ → ℕ
-tileAt w i = i / w / 64 * tilesOver w + i % w / 64
-
--- the first n places counted
-unfoldable pub placesCounted : List ℕ → List ℕ → ℕ → ℕ → List ℕ → List ℕ
-placesCounted ps qs w zero cs = cs
-placesCounted ps qs w (suc n) cs = countedIf (notSame (getD ps n 0) (getD qs n 0)) (tileAt w n) (placesCounted ps qs w n cs)
 
 -- row y of a picture
 abbrev pub rowAt : List ℕ → ℕ → ℕ → List ℕ

@@ -19,9 +19,10 @@ use Rattle.tile_diff.specs.Pic.{picOf, isWhole, sizesJudge, verdictOf}
 use Rattle.tile_diff.specs.Request.{pictureOf, rowOf, rowsCounted, noCounts, Asked, none, more, CanBeAsked, timesIn, Right, RequestSeven}
 use Rattle.tile_diff.specs.laws.Words.{words-length}
 use Rattle.tile_diff.specs.Counts.{nextTile}
+use Rattle.tile_diff.specs.Pictures.{placesCounted}
 use Rattle.tile_diff.specs.laws.Count.{some-columns, same, not-same, next-none}
 use Rattle.tile_diff.specs.laws.Cases.{cases}
-use Rattle.tile_diff.specs.laws.Picture.{placesCounted, counts, rowAt, row-places, places-count, count-differs, many-none}
+use Rattle.tile_diff.specs.laws.Picture.{counts, rowAt, row-places, places-count, count-differs, many-none}
 use Rattle.tile_diff.specs.laws.Listed.{lines-same, lines-none, times-once, shown-only, rising, asked-lines, found-from}
 use Rattle.tile_diff.specs.declared.count.Line.{Line}
 use Rattle.tile_diff.specs.declared.count.Next.{Next}
@@ -131,10 +132,10 @@ pub few-tiles : (w h : ℕ) → Sized w h → tilesOver w * tilesOver h ≤ 2048
 unfolding tilesOver
 few-tiles w h s = mul-le-mul {n₂ = 64} {m₂ = 32} (omega arith) (omega arith)
 
-few-words : (w h : ℕ) → Sized w h → h * w ≤ 8388608
+pub few-words : (w h : ℕ) → Sized w h → h * w ≤ 8388608
 few-words w h s = mul-le-mul {n₂ = 2048} {m₂ = 4096} (s .high) (s .wider)
 
-some-tiles : (w : ℕ) → 1 ≤ w → 0 < tilesOver w
+pub some-tiles : (w : ℕ) → 1 ≤ w → 0 < tilesOver w
 unfolding tilesOver
 some-tiles w h = omega arith
 
