@@ -26,9 +26,9 @@ static uint16_t old16[WORDS + 1], next16[WORDS + 1];
 static uint32_t old32[WORDS], next32[WORDS], counts[6];
 
 /* The next tile is this one. */
-static int told(size_t from, size_t tile, size_t x, size_t y, uint32_t n)
+static int told(xurbalenz_size from, xurbalenz_size tile, xurbalenz_size x, xurbalenz_size y, uint32_t n)
 {
-    size_t t = 99, column = 99, row = 99;
+    xurbalenz_size t = 99, column = 99, row = 99;
     uint32_t words = 99;
     uint8_t number = xurbalenz_next_tile(WIDTH, HEIGHT, counts, 6, from, &t, &column, &row, &words);
     return number == XURBALENZ_DONE && t == tile && column == x && row == y && words == n;
@@ -36,7 +36,7 @@ static int told(size_t from, size_t tile, size_t x, size_t y, uint32_t n)
 
 int main(void)
 {
-    size_t tile = 99, x = 99, y = 99, i;
+    xurbalenz_size tile = 99, x = 99, y = 99, i;
     uint32_t n = 99;
     for (i = 0; i < WORDS; i++) old16[i] = next16[i] = (uint16_t)(i * 7), old32[i] = next32[i] = (uint32_t)(i * 70001);
     memset(counts, 9, sizeof counts);
