@@ -24,7 +24,7 @@ filterRecord w h mode = ofNumbers 4 (sideOf w) (sideOf h) mode
 
 pub record TidyFrameCall (sender w h mode : ℕ) (m : List ℕ) (list list′ : List ℤ) (out out′ told : List ℕ) (n : ℕ) : Type 0 where
   pub number : n ≡ tidyFault sender (length list) (length m) (length out)
-  pub told :
+  pub told-is :
       told ≡ lengthSaid (tidyFault sender (length list) (length m) (length out)) (tidyFrame sender (filterRecord w h mode) m)
       ∷ cutSaid (tidyFault sender (length list) (length m) (length out)) (codesCut sender (filterRecord w h mode) m) ∷ []
   pub left : out′ ≡ outLeft (tidyFault sender (length list) (length m) (length out)) (tidyFrame sender (filterRecord w h mode) m) out
@@ -33,7 +33,7 @@ pub record TidyFrameCall (sender w h mode : ℕ) (m : List ℕ) (list list′ : 
 -- by the number of the first fault, the bytes that go on and what is held then
 pub record HeldCall (fault : ℕ) (bytes after held held′ out out′ : List ℕ) (size n : ℕ) : Type 0 where
   pub number : n ≡ fault
-  pub size : size ≡ lengthSaid fault bytes
+  pub size-is : size ≡ lengthSaid fault bytes
   pub kept : held′ ≡ storeLeft fault after held
   pub left : out′ ≡ outLeft fault bytes out
 

@@ -35,12 +35,12 @@ pub tidy-call :
 tidy-call sender w h mode a b s m list list′ out out′ t ea eb e p =
     let k : s ≡ filterRecord w h mode = e ∙ ap₂ (λ (x y : ℕ). ofNumbers 4 x y mode) ea eb in
     let q = subst (λ (x : Session). FrameTidied sender x m list list′ out out′ t) k p in
-    record { number = q .number; told = ap₂ (λ (x y : ℕ). x ∷ y ∷ []) (q .size) (q .cut); left = q .left; work = q .work }
+    record { number = q .number; told-is = ap₂ (λ (x y : ℕ). x ∷ y ∷ []) (q .size) (q .cut); left = q .left; work = q .work }
 
 pub held-call :
     (F : ℕ) (bytes after held held′ out out′ : List ℕ) (r : Passed) → HeldGave F bytes after held held′ out out′ r →
     HeldCall F bytes after held held′ out out′ (r .size) (r .number)
-held-call F bytes after held held′ out out′ r p = record { number = p .number; size = p .size; kept = p .kept; left = p .left }
+held-call F bytes after held held′ out out′ r p = record { number = p .number; size-is = p .size; kept = p .kept; left = p .left }
 
 -- ---- one answer for each call
 
@@ -48,13 +48,13 @@ pub tidy-once :
     (sender w h mode : ℕ) (m : List ℕ) (list a b : List ℤ) (out x y told told′ : List ℕ) (n n′ : ℕ) → TidyFrameCall sender w h mode m list a out x told n →
     TidyFrameCall sender w h mode m list b out y told′ n′ → (n ≡ n′) × (told ≡ told′) × (a ≡ b) × (x ≡ y)
 tidy-once sender w h mode m list a b out x y told told′ n n′ p q =
-    (p .number ∙ sym (q .number), p .told ∙ sym (q .told), p .work ∙ sym (q .work), p .left ∙ sym (q .left))
+    (p .number ∙ sym (q .number), p .told-is ∙ sym (q .told-is), p .work ∙ sym (q .work), p .left ∙ sym (q .left))
 
 pub held-once :
     (F : ℕ) (bytes after held a b out x y : List ℕ) (size size′ n n′ : ℕ) → HeldCall F bytes after held a out x size n →
     HeldCall F bytes after held b out y size′ n′ → (n ≡ n′) × (size ≡ size′) × (a ≡ b) × (x ≡ y)
 held-once F bytes after held a b out x y size size′ n n′ p q =
-    (p .number ∙ sym (q .number), p .size ∙ sym (q .size), p .kept ∙ sym (q .kept), p .left ∙ sym (q .left))
+    (p .number ∙ sym (q .number), p .size-is ∙ sym (q .size-is), p .kept ∙ sym (q .kept), p .left ∙ sym (q .left))
 
 -- ---- a size that is none: the frame goes on as it came
 
