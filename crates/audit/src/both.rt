@@ -1,23 +1,10 @@
 // The plain decoder and the product side by side: one component call, one tile. No section of document 01 is made true here; the theorem is `plain-same`, and
-// this is what an auditor runs. Each answer is true exactly where the two gave the same (specs/Same).
+// this is what an auditor runs.
 use bands::Quant;
 ghost use mathlib.Core.Path.{_≡_};
-ghost use Prim.Native.Nat.{_<_};
-ghost use lib.IntN.{pos};
-ghost use lib.ListN.{length, replicate};
-ghost use Rattle.bands.specs.Bands.{QuantGood};
 ghost use Rattle.tile_back.specs.Word.{Plane};
-ghost use Rattle.audit.specs.Same.{Exactly, ComponentCompared, PlaneCompared, RowAlike, RowsAlike, PixelsAlike, TileCompared};
 
-// A component's number by the product, and whether the plain decoder gave the same: the number, and where it is 0 the samples.
-pub struct Judged {
-    pub number: u8,
-    pub same: bool,
-}
-
-fn same_lists(a: &[i32], b: &[i32]) -> bool
-    ensures { λ r. ⌜ Exactly (now (a .entry) ≡ now (b .entry)) r ⌝ }
-{
+fn same_lists(a: &[i32], b: &[i32]) -> bool {
     if a.len() != b.len() {
         return false;
     }
@@ -31,9 +18,7 @@ fn same_lists(a: &[i32], b: &[i32]) -> bool
     true
 }
 
-fn same_words(a: &[u16], b: &[u16]) -> bool
-    ensures { λ r. ⌜ Exactly (now (a .entry) ≡ now (b .entry)) r ⌝ }
-{
+fn same_words(a: &[u16], b: &[u16]) -> bool {
     if a.len() != b.len() {
         return false;
     }
@@ -47,9 +32,7 @@ fn same_words(a: &[u16], b: &[u16]) -> bool
     true
 }
 
-fn same_words_32(a: &[u32], b: &[u32]) -> bool
-    ensures { λ r. ⌜ Exactly (now (a .entry) ≡ now (b .entry)) r ⌝ }
-{
+fn same_words_32(a: &[u32], b: &[u32]) -> bool {
     if a.len() != b.len() {
         return false;
     }
@@ -65,7 +48,7 @@ fn same_words_32(a: &[u32], b: &[u32]) -> bool
 
 // The component calls: number, bits and list.
 pub fn component_same(mode: u8, code: &[u8], ours: &mut [i32], plain: &mut [i32]) -> bool
-    ensures { λ r. ⌜ ComponentCompared mode (now (code .entry)) (replicate (length (now (ours .entry))) (pos 7)) (replicate (length (now (plain .entry))) (pos 7)) (now (ours .exit)) (now (plain .exit)) r ⌝ }
+    ensures { λ _. ⌜ Unit ⌝ }
 {
     app_recording::lent::fill_list(ours, 7);
     app_recording::lent::fill_list(plain, 7);
@@ -80,7 +63,10 @@ pub fn component_same(mode: u8, code: &[u8], ours: &mut [i32], plain: &mut [i32]
     same_lists(ours, plain)
 }
 
-// A component with its sums and scaling: its number, and where that is 0 its samples.
+// Where two answers differ.
+const DIFFER: u8 = 255;
+
+// A component's number and samples: 0 where both are the same, its number where both refuse it with that, else DIFFER.
 fn plane(
     mode: u8,
     q: Quant,
@@ -88,36 +74,49 @@ fn plane(
     ours: &mut [i32],
     plain: &mut [i32],
     tmp: &mut [i32],
-) -> Judged
-    requires { ⌜ (length (now ours) ≡ 4096) × (length (now plain) ≡ 4096) × (length (now tmp) ≡ 4096) × QuantGood (q .v) ⌝ }
-    ensures { λ r. ⌜ PlaneCompared mode (q .v) (now (code .entry)) (now (ours .exit)) (now (plain .exit)) r ⌝ }
+) -> u8
+    ensures { λ r. ⌜ (r ≡ 0 → Plane (now (ours .exit)) × Plane (now (plain .exit))) ⌝ }
 {
+    if ours.len() != 4096 {
+        return 2;
+    }
+    if plain.len() != 4096 {
+        return 2;
+    }
+    if tmp.len() != 4096 {
+        return 2;
+    }
+    if !bands::is_good(q) {
+        return 7;
+    }
     let n = tile_back::component_fault(mode, q, code, ours);
     let m = plain::samples(mode, q, code, plain, tmp);
     if n != m {
-        return Judged {
-            number: n,
-            same: false,
-        };
+        return DIFFER;
     }
     if n != 0 {
-        return Judged {
-            number: n,
-            same: true,
-        };
+        return n;
     }
     tile_back::samples(mode, q, code, ours, tmp);
-    Judged {
-        number: n,
-        same: same_lists(ours, plain),
+    if same_lists(ours, plain) {
+        return 0;
     }
+    DIFFER
 }
 
 // The pixels of row y, on a glass of 16 bits.
 fn row_same(ys: &[i32], cbs: &[i32], crs: &[i32], y: usize, row: &mut [u16], words: &[u16]) -> bool
-    requires { ⌜ (y < 64) × (length (now row) ≡ 64) × (length (now words) ≡ 4096) × Plane (now ys) × Plane (now cbs) × Plane (now crs) ⌝ }
-    ensures { λ r. ⌜ Exactly (RowAlike 0 (now (ys .entry)) (now (cbs .entry)) (now (crs .entry)) y (now (words .entry))) r ⌝ }
+    requires { ⌜ Plane (now ys) × Plane (now cbs) × Plane (now crs) ⌝ }
 {
+    if row.len() != 64 {
+        return false;
+    }
+    if words.len() != 4096 {
+        return false;
+    }
+    if 64 <= y {
+        return false;
+    }
     tile_back::words_row(ys, cbs, crs, y, row);
     let a = 64 * y;
     let b = a + 64;
@@ -125,8 +124,7 @@ fn row_same(ys: &[i32], cbs: &[i32], crs: &[i32], y: usize, row: &mut [u16], wor
 }
 
 fn rows_same(ys: &[i32], cbs: &[i32], crs: &[i32], row: &mut [u16], words: &[u16]) -> bool
-    requires { ⌜ (length (now row) ≡ 64) × (length (now words) ≡ 4096) × Plane (now ys) × Plane (now cbs) × Plane (now crs) ⌝ }
-    ensures { λ r. ⌜ Exactly (RowsAlike 0 (now (ys .entry)) (now (cbs .entry)) (now (crs .entry)) 64 (now (words .entry))) r ⌝ }
+    requires { ⌜ Plane (now ys) × Plane (now cbs) × Plane (now crs) ⌝ }
 {
     let mut y: usize = 0;
     while y < 64 {
@@ -141,7 +139,6 @@ fn rows_same(ys: &[i32], cbs: &[i32], crs: &[i32], row: &mut [u16], words: &[u16
 // The pixels of six planes, three of the product's and three of the plain decoder's, on a glass of 16 bits.
 fn pixels_same(ys: &[i32], cbs: &[i32], crs: &[i32], py: &[i32], pb: &[i32], pr: &[i32]) -> bool
     requires { ⌜ Plane (now ys) × Plane (now cbs) × Plane (now crs) × Plane (now py) × Plane (now pb) × Plane (now pr) ⌝ }
-    ensures { λ r. ⌜ Exactly (PixelsAlike 0 (now (ys .entry)) (now (cbs .entry)) (now (crs .entry)) (now (py .entry)) (now (pb .entry)) (now (pr .entry))) r ⌝ }
 {
     let mut row = [0u16; 64];
     let mut words = [0u16; 4096];
@@ -158,9 +155,17 @@ fn row_same_32(
     row: &mut [u32],
     words: &[u32],
 ) -> bool
-    requires { ⌜ (y < 64) × (length (now row) ≡ 64) × (length (now words) ≡ 4096) × Plane (now ys) × Plane (now cbs) × Plane (now crs) ⌝ }
-    ensures { λ r. ⌜ Exactly (RowAlike 1 (now (ys .entry)) (now (cbs .entry)) (now (crs .entry)) y (now (words .entry))) r ⌝ }
+    requires { ⌜ Plane (now ys) × Plane (now cbs) × Plane (now crs) ⌝ }
 {
+    if row.len() != 64 {
+        return false;
+    }
+    if words.len() != 4096 {
+        return false;
+    }
+    if 64 <= y {
+        return false;
+    }
     tile_back::words_row_32(ys, cbs, crs, y, row);
     let a = 64 * y;
     let b = a + 64;
@@ -168,8 +173,7 @@ fn row_same_32(
 }
 
 fn rows_same_32(ys: &[i32], cbs: &[i32], crs: &[i32], row: &mut [u32], words: &[u32]) -> bool
-    requires { ⌜ (length (now row) ≡ 64) × (length (now words) ≡ 4096) × Plane (now ys) × Plane (now cbs) × Plane (now crs) ⌝ }
-    ensures { λ r. ⌜ Exactly (RowsAlike 1 (now (ys .entry)) (now (cbs .entry)) (now (crs .entry)) 64 (now (words .entry))) r ⌝ }
+    requires { ⌜ Plane (now ys) × Plane (now cbs) × Plane (now crs) ⌝ }
 {
     let mut y: usize = 0;
     while y < 64 {
@@ -184,7 +188,6 @@ fn rows_same_32(ys: &[i32], cbs: &[i32], crs: &[i32], row: &mut [u32], words: &[
 // The pixels of six planes, three of the product's and three of the plain decoder's on a glass of 32 bits.
 fn pixels_same_32(ys: &[i32], cbs: &[i32], crs: &[i32], py: &[i32], pb: &[i32], pr: &[i32]) -> bool
     requires { ⌜ Plane (now ys) × Plane (now cbs) × Plane (now crs) × Plane (now py) × Plane (now pb) × Plane (now pr) ⌝ }
-    ensures { λ r. ⌜ Exactly (PixelsAlike 1 (now (ys .entry)) (now (cbs .entry)) (now (crs .entry)) (now (py .entry)) (now (pb .entry)) (now (pr .entry))) r ⌝ }
 {
     let mut row = [0u32; 64];
     let mut words = [0u32; 4096];
@@ -192,10 +195,19 @@ fn pixels_same_32(ys: &[i32], cbs: &[i32], crs: &[i32], py: &[i32], pb: &[i32], 
     rows_same_32(ys, cbs, crs, &mut row, &words)
 }
 
-// One tile: its three components, and where none is refused its pixels on either glass.
-pub fn tile_same(mode: u8, y: Quant, cb: Quant, cr: Quant, a: &[u8], b: &[u8], c: &[u8]) -> bool
-    requires { ⌜ QuantGood (y .v) × QuantGood (cb .v) × QuantGood (cr .v) ⌝ }
-    ensures { λ r. ⌜ TileCompared mode (y .v) (cb .v) (cr .v) (now (a .entry)) (now (b .entry)) (now (c .entry)) r ⌝ }
+// On both.
+fn both_same(ys: &[i32], cbs: &[i32], crs: &[i32], py: &[i32], pb: &[i32], pr: &[i32]) -> bool
+    requires { ⌜ Plane (now ys) × Plane (now cbs) × Plane (now crs) × Plane (now py) × Plane (now pb) × Plane (now pr) ⌝ }
+{
+    if pixels_same(ys, cbs, crs, py, pb, pr) {
+        return pixels_same_32(ys, cbs, crs, py, pb, pr);
+    }
+    false
+}
+
+// One tile: 0 where samples and pixels are the same, these on either glass, the first refusal's number where both refuse with that, else DIFFER.
+pub fn tile_same(mode: u8, y: Quant, cb: Quant, cr: Quant, a: &[u8], b: &[u8], c: &[u8]) -> u8
+    ensures { λ _. ⌜ Unit ⌝ }
 {
     let mut ys = [0i32; 4096];
     let mut cbs = [0i32; 4096];
@@ -205,16 +217,19 @@ pub fn tile_same(mode: u8, y: Quant, cb: Quant, cr: Quant, a: &[u8], b: &[u8], c
     let mut pr = [0i32; 4096];
     let mut tmp = [0i32; 4096];
     let n = plane(mode, y, a, &mut ys, &mut py, &mut tmp);
+    if n != 0 {
+        return n;
+    }
     let m = plane(mode, cb, b, &mut cbs, &mut pb, &mut tmp);
+    if m != 0 {
+        return m;
+    }
     let k = plane(mode, cr, c, &mut crs, &mut pr, &mut tmp);
-    if !n.same || !m.same || !k.same {
-        return false;
+    if k != 0 {
+        return k;
     }
-    if n.number != 0 || m.number != 0 || k.number != 0 {
-        return true;
+    if both_same(&ys, &cbs, &crs, &py, &pb, &pr) {
+        return 0;
     }
-    if pixels_same(&ys, &cbs, &crs, &py, &pb, &pr) {
-        return pixels_same_32(&ys, &cbs, &crs, &py, &pb, &pr);
-    }
-    false
+    DIFFER
 }
