@@ -66,7 +66,7 @@ fn pixels(word: &str, width: usize, length: usize) -> Vec<u8> {
 }
 
 /// The requests of document 02 that these files need.
-const LANDED: [&str; 6] = ["one", "three", "four", "five", "eleven", "twelve"];
+const LANDED: [&str; 7] = ["one", "three", "four", "five", "eleven", "twelve", "beyond"];
 
 /// What a case carries from line to line.
 #[derive(Default)]
@@ -81,6 +81,9 @@ struct Case {
     collector: Collector,
     memory: Vec<u8>,
     lent: usize,
+    said: Vec<u8>,
+    sent: Vec<u8>,
+    held: Vec<u8>,
 }
 
 /// Bytes with some of them changed: `P^XX` joined by commas.
@@ -275,6 +278,35 @@ impl Case {
                     write_ack(fields.iter().map(|n| number(n)).collect::<Vec<_>>().try_into().expect("nine fields"), number(room));
                 format!("{number} {size} {}", fnv(out))
             }
+            ["tdf", sender, width, height, mode, message, length, room] => {
+                let message = match *message {
+                    "m" => self.said.clone(),
+                    "w" => self.sent.clone(),
+                    given => bytes(given),
+                };
+                let (mut list, mut out, mut told) = (vec![7; number(length)], vec![0xA5; number(room)], [9; 2]);
+                let number = edge::tidy_frame(number(sender), number(width), number(height), number(mode), &message, &mut list, &mut out, &mut told);
+                self.sent = out[..told[0]].to_vec();
+                let work = match list.as_slice() {
+                    [] => "-",
+                    list if list.iter().all(|&v| v == 7) => "u",
+                    list if list.iter().all(|&v| v == 0) => "z",
+                    _ => "?",
+                };
+                format!("{number} {} {} {work} {}", told[0], told[1], fnv(out))
+            }
+            ["tdh", block, room] => {
+                self.held.resize(38, 0);
+                let mut out = vec![0xA5; number(room)];
+                let (number, size) = edge::tidy_header(&mut self.held, &bytes(block), &mut out);
+                format!("{number} {size} {}", fnv(out))
+            }
+            ["tdo", room] => {
+                self.held.resize(38, 0);
+                let mut out = vec![0xA5; number(room)];
+                let (number, size) = edge::tidy_flush(&mut self.held, &mut out);
+                format!("{number} {size} {}", fnv(out))
+            }
             _ => panic!("no such call: {words:?}"),
         }
     }
@@ -293,6 +325,7 @@ impl Case {
                     _ => self.picture = words.map(|w| w as u16).collect(),
                 }
             }
+            ["say", message] => self.said = bytes(message),
             ["col", room] => {
                 self.lent = number(room);
                 self.memory = vec![0xA5; self.lent];
@@ -315,6 +348,8 @@ fn run(name: &str) -> (usize, usize) {
         let (left, right) = line.split_once(" -> ").map_or((line, None), |(left, right)| (left, Some(right)));
         let words: Vec<&str> = left.split(' ').collect();
         match right {
+            Some(_) if words[0] == "tdc" => {} // a code by itself: the panel has no such call
+            Some(_) if words[0] == "tdf" && words[1].parse::<u8>().is_err() => {} // a sender that the call's byte does not hold
             Some(right) => {
                 let start: String = left.chars().take(60).collect();
                 assert_eq!(case.call(&words), right, "{name}, line {}: {start}", i + 1);
@@ -409,4 +444,6 @@ fn what_changed() {
 fn days() {
     assert_eq!(run("request_fourteen.vec"), (72, 799));
     assert_eq!(run("request_fourteen_32.vec"), (24, 249));
+fn tidied_frames_and_headers() {
+    assert_eq!(run("beyond_tidy.vec"), (360, 1443));
 }
