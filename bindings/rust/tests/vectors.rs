@@ -444,6 +444,9 @@ fn what_changed() {
 fn days() {
     assert_eq!(run("request_fourteen.vec"), (72, 799));
     assert_eq!(run("request_fourteen_32.vec"), (24, 249));
+}
+
+#[test]
 fn tidied_frames_and_headers() {
     assert_eq!(run("beyond_tidy.vec"), (360, 1443));
 }
