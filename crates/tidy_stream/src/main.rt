@@ -1,4 +1,4 @@
-// Passes a RemoteFX stream on, made acceptable to the panel:  tidy_stream < IN.rfx > OUT.rfx
+// Passes a RemoteFX stream on, made acceptable to the panel:  tidy_stream [--sender strict|freerdp|sample] < IN.rfx > OUT.rfx
 // The stream goes through the collector (document 02, request One). Header blocks go on in 01's order, frames as `tidy` leaves them, each as soon as it is whole; a
 // line on standard error says what was changed. A block or frame of more than 3,145,728 bytes goes on as it came, up to its end. From the first head that the
 // collector refuses for another reason on, every byte goes on as it came, that head included, and so do the bytes of a block or frame that is not whole at the end.
@@ -46,8 +46,15 @@ fn turn(
 }
 
 // The whole input. A proved loop ends, and nothing says that an input does: the turns are counted down from a number that no run uses up.
-fn run(piece: &mut [u8], store: &mut [u8], held: &mut [u8], list: &mut [i32], out: &mut [u8]) {
-    let mut d = crate::passing::fresh();
+fn run(
+    sender: u8,
+    piece: &mut [u8],
+    store: &mut [u8],
+    held: &mut [u8],
+    list: &mut [i32],
+    out: &mut [u8],
+) {
+    let mut d = crate::passing::fresh(sender);
     let mut turns = u64::MAX;
     while 0 < turns && d.go {
         d = turn(d, piece, store, held, list, out);
@@ -58,20 +65,73 @@ fn run(piece: &mut [u8], store: &mut [u8], held: &mut [u8], list: &mut [i32], ou
 
 // The large ones come as arrays: their lengths are known without counting to a million.
 fn run_in(
+    sender: u8,
     piece: &mut [u8],
     store: &mut [u8; 3145728],
     held: &mut [u8],
     list: &mut [i32],
     out: &mut [u8; 3145792],
 ) {
-    run(piece, store, held, list, out);
+    run(sender, piece, store, held, list, out);
+}
+
+// Is argument i this word?
+fn is_word(i: usize, word: &[u8]) -> bool {
+    let mut text = [0u8; 16];
+    let n = os::arg(i, &mut text);
+    check::same(app_text::loading::first(&text, n), word)
+}
+
+// The sender's number by its name; 255 where there is none of that name.
+fn named() -> u8 {
+    if is_word(2, b"strict") {
+        return 0;
+    }
+    if is_word(2, b"freerdp") {
+        return 1;
+    }
+    if is_word(2, b"sample") {
+        return 2;
+    }
+    255
+}
+
+// The sender that the arguments name: strict where there are none, which is said; 255 where they are not as the usage says.
+fn sender_of() -> u8 {
+    let n = os::arg_count();
+    if n < 2 {
+        app_text::lines::say(
+            ERR,
+            b"tidy: sender strict; --sender freerdp or --sender sample names another\n",
+        );
+        return 0;
+    }
+    if n == 3 && is_word(1, b"--sender") {
+        return named();
+    }
+    255
 }
 
 fn main() {
+    let sender = sender_of();
+    if sender == 255 {
+        app_text::lines::say(
+            ERR,
+            b"usage: tidy_stream [--sender strict|freerdp|sample] < IN.rfx > OUT.rfx\n",
+        );
+        return;
+    }
     let mut piece = [0u8; 65536];
     let mut store = [0u8; 3145728];
     let mut held = [0u8; 35];
     let mut list = [0i32; 4096];
     let mut out = [0u8; 3145792];
-    run_in(&mut piece, &mut store, &mut held, &mut list, &mut out);
+    run_in(
+        sender,
+        &mut piece,
+        &mut store,
+        &mut held,
+        &mut list,
+        &mut out,
+    );
 }

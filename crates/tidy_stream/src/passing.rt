@@ -11,9 +11,10 @@ use tidy::frames::Tidied;
 use tidy::headers::Gave;
 use tidy::headers::Waiting;
 
-// What goes on from part to part: the session's record, the collector's, the headers that wait, what is passed over, the place in the bytes that are given; how many
-// frames went on and how many of them changed; whether all goes on as it came, whether it could be written, and whether more is to come.
+// What goes on from part to part: the sender's number; the session's record, the collector's, the headers that wait, what is passed over, the place in the bytes that
+// are given; how many frames went on and how many of them changed; whether all goes on as it came, whether it could be written, and whether more is to come.
 pub struct Desk {
+    pub sender: u8,
     pub s: Session,
     pub c: Collector,
     pub w: Waiting,
@@ -35,8 +36,9 @@ fn none() -> Waiting {
     }
 }
 
-pub fn fresh() -> Desk {
+pub fn fresh(sender: u8) -> Desk {
     Desk {
+        sender: sender,
         s: session::open(0),
         c: collect::reset(),
         w: none(),
@@ -83,6 +85,7 @@ fn passed(d: Desk, s: Session, w: Waiting, good: bool) -> Desk {
     let c = d.c;
     let k = d.k;
     Desk {
+        sender: d.sender,
         s: s,
         c: c,
         w: w,
@@ -140,6 +143,7 @@ fn counted(d: Desk, cut: usize, good: bool) -> Desk {
     let k = d.k;
     let more = if cut == 0 { 0 } else { 1 };
     Desk {
+        sender: d.sender,
         s: s,
         c: c,
         w: w,
@@ -167,7 +171,7 @@ fn frame_on(d: Desk, t: Tidied, message: &[u8], out: &[u8]) -> Desk {
 // A frame, behind the headers that still wait.
 fn frame(from: Desk, message: &[u8], held: &[u8], list: &mut [i32], out: &mut [u8]) -> Desk {
     let d = let_go(from, held, out);
-    let t = tidy::frames::tidy_frame(d.s, message, list, out);
+    let t = tidy::frames::tidy_frame(d.sender, d.s, message, list, out);
     frame_on(d, t, message, out)
 }
 
@@ -199,6 +203,7 @@ fn plainly(d: Desk, number: u8, good: bool) -> Desk {
     let w = d.w;
     let k = d.k;
     Desk {
+        sender: d.sender,
         s: s,
         c: collect::reset(),
         w: w,
@@ -219,6 +224,7 @@ fn over(d: Desk, number: u8, good: bool) -> Desk {
     let s = d.s;
     let w = d.w;
     Desk {
+        sender: d.sender,
         s: s,
         c: collect::reset(),
         w: w,
@@ -264,6 +270,7 @@ fn advance(d: Desk, c: Collector, k: Skip, taken: usize) -> Desk {
     let s = d.s;
     let w = d.w;
     Desk {
+        sender: d.sender,
         s: s,
         c: c,
         w: w,
@@ -329,6 +336,7 @@ fn start(d: Desk, n: usize) -> Desk {
     let w = d.w;
     let k = d.k;
     Desk {
+        sender: d.sender,
         s: s,
         c: c,
         w: w,
