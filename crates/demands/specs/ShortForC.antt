@@ -2,13 +2,14 @@
 -- a full frame of the new one would give, with the same quantisers, mode and session", said of xurbalenz_write_frame_short, xurbalenz_write_frame_sets and the
 -- frame calls. laws/ShortForC proves it.
 -- (01 is this project's scope document, 02 its change requests, 001 is MS-RDPRFX: README, "What 01 is".)
-use Prim.Native.Nat.{ℕ, _*_, _≤_}
+use Prim.Native.Nat.{ℕ, zero, suc, _*_, _≤_}
 use mathlib.Core.Path.{_≡_}
 use mathlib.Core.List.{List}
 use lib.ListN.{length, take}
 use Rattle.whole.specs.Row.{_⨟_}
 use Rattle.wire.specs.Wrote.{writingNumber, writingLength}
-use Rattle.wire.specs.laws.Wrote.{answerOf}
+use Rattle.wire.specs.declared.Writing.{Writing}
+use Rattle.wire.specs.declared.Writing.the-variants.{Done, Refused}
 use Rattle.session.specs.Header.{recordOf}
 use Rattle.frame_write.specs.Picked.{framePicked}
 use Rattle.frame_write.specs.Sets.{frameOver, argFaultOver, sendFaultOver}
@@ -19,6 +20,11 @@ use Rattle.panel.specs.Short.{setsFor}
 use Rattle.panel.specs.laws.Cabinet.{over-told}
 use Rattle.panel.specs.laws.Short.{short-told}
 use Rattle.calls.specs.Calls.{CReadFrame, CWriteFrameSets, CWriteShort}
+
+-- the answer with this number: the length of what was written, or the refusal
+abbrev pub answerFor : ℕ → List ℕ → Writing
+answerFor zero bytes = Done (length bytes)
+answerFor (suc f) bytes = Refused (suc f)
 
 -- the call of the panel that it is: ten quantisers for Y, and ten for Cb and Cr
 pub record Ten (luma chroma : List ℕ) : Type 0 where
@@ -44,7 +50,7 @@ as-short c t = record {
   scratch′ = c .scratch′;
   out′ = c .out′;
   answer =
-      answerOf (shortFault (c .width) (c .height) (c .mode) (setsFor (c .luma) (c .chroma)) (c .index) (c .old) (c .new) (c .picks) (length (c .list))
+      answerFor (shortFault (c .width) (c .height) (c .mode) (setsFor (c .luma) (c .chroma)) (c .index) (c .old) (c .new) (c .picks) (length (c .list))
       (length (c .scratch)) (length (c .out)))
       (framePicked (c .index) (c .width) (c .height) (c .mode) (setsFor (c .luma) (c .chroma)) (c .new) (c .picks));
   promise =
@@ -69,7 +75,7 @@ as-sets c t = record {
   scratch′ = c .scratch′;
   out′ = c .out′;
   answer =
-      answerOf (argFaultOver (c .width) (c .height) (c .mode) (setsFor (c .luma) (c .chroma)) (length (c .pixels)) (length (c .list)) (length (c .scratch))
+      answerFor (argFaultOver (c .width) (c .height) (c .mode) (setsFor (c .luma) (c .chroma)) (length (c .pixels)) (length (c .list)) (length (c .scratch))
       ⨟ sendFaultOver (c .index) (c .width) (c .height) (c .mode) (setsFor (c .luma) (c .chroma)) (c .pixels) (length (c .out)))
       (frameOver (c .index) (c .width) (c .height) (c .mode) (setsFor (c .luma) (c .chroma)) (c .pixels));
   promise =

@@ -12,9 +12,9 @@ use Rattle.whole.specs.Among.{Among, Other}
 use Rattle.wire.specs.Wrote.{writingNumber, writingLength}
 use Rattle.wire.specs.declared.Writing.{Writing}
 use Rattle.session.specs.declared.Session.{Session}
-use Rattle.session.specs.Header.{recordOf}
+use Rattle.session.specs.declared.HeaderReading.the-variants.{Taken}
+use Rattle.session.specs.Header.{recordOf, keptGlass, headerReading}
 use Rattle.headers.specs.Headers.{HeadersWritten}
-use Rattle.headers.specs.laws.ReadBack.{AllTaken}
 use Rattle.quants.specs.Quants.{quantBytes, same}
 use Rattle.quants.specs.declared.Quants.{Quants}
 use Rattle.frame.specs.declared.call.FrameReading.{FrameReading}
@@ -24,6 +24,13 @@ use Rattle.frame_pieces.specs.Parts.{colsOf, tilesNo}
 use Rattle.frame_write.specs.Encode.{tilePart, pictureFrame}
 use Rattle.frame_write.specs.Sets.{frameOver, FrameWrittenOver}
 use Rattle.frame_readback.specs.Own.{ShownOver}
+
+-- the four header blocks are taken, one after the other, from any record
+pub record HeadersTaken (s : Session) (w h et : ℕ) (m : List ℕ) : Type 0 where
+  pub one : headerReading s (take 12 m) ≡ Taken (recordOf (keptGlass (s .glass)) 1 0 0 0)
+  pub two : headerReading (recordOf (keptGlass (s .glass)) 1 0 0 0) (take 10 (drop 12 m)) ≡ Taken (recordOf (keptGlass (s .glass)) 2 0 0 0)
+  pub three : headerReading (recordOf (keptGlass (s .glass)) 2 0 0 0) (take 12 (drop 22 m)) ≡ Taken (recordOf (keptGlass (s .glass)) 3 w h 0)
+  pub four : headerReading (recordOf (keptGlass (s .glass)) 3 w h 0) (take 13 (drop 34 m)) ≡ Taken (recordOf (keptGlass (s .glass)) 4 w h et)
 
 -- a call of the writer: what was given, what was answered, what lent memory holds afterwards
 pub record WriteFrameSets : Type 0 where
@@ -92,7 +99,7 @@ pub record TwoSets : Type 0 where
       → c .height * c .width ≤ length pic
       → FrameRead glass (recordOf glass 4 (c .width) (c .height) (c .mode)) (take (writingLength (c .answer)) (c .out′)) pic y cb cr tmp pic′ y′ cb′ cr′
       tmp′ answer
-      → AllTaken s₀ (c .width) (c .height) (c .mode) (take (writingLength hr) ho′)
+      → HeadersTaken s₀ (c .width) (c .height) (c .mode) (take (writingLength hr) ho′)
       × ShownOver glass (c .pixels) (c .width) (c .height) (c .quants) pic pic′ answer
   -- one answer and one content of lent memory
   pub one-answer :

@@ -9,7 +9,6 @@ use lib.ListN.{length, getD, take, replicate}
 use Rattle.whole.specs.Among.{Among, Other}
 use Rattle.wire.specs.Wrote.{writingNumber, writingLength}
 use Rattle.wire.specs.declared.Writing.{Writing}
-use Rattle.bits.specs.laws.Bytes.{Bytes}
 use Rattle.session.specs.Header.{recordOf}
 use Rattle.quants.specs.Quants.{chromaIndex, oneFor}
 use Rattle.quants.specs.declared.Quants.{Quants}
@@ -103,7 +102,7 @@ pub record RequestElevenFrames : Type 0 where
   pub then-the-check : (c : WriteShort) → ownOf c ≡ 0 → (checkOf c ≡ 0 → ⊥) → writingNumber (c .answer) ≡ checkOf c
   pub done-is-checked : (c : WriteShort) → writingNumber (c .answer) ≡ 0 → checkOf c ≡ 0
   -- "then 9, 6 and 13 as before, over the listed tiles": 9 and 6 cannot happen, where the picture's places are bytes
-  pub never-refuses : (c : WriteShort) → Bytes (c .new) → Among (0 ∷ 5 ∷ 7 ∷ 2 ∷ 16 ∷ 8 ∷ 17 ∷ 13 ∷ []) (writingNumber (c .answer))
+  pub never-refuses : (c : WriteShort) → ((i : ℕ) → getD (c .new) i 0 < 256) → Among (0 ∷ 5 ∷ 7 ∷ 2 ∷ 16 ∷ 8 ∷ 17 ∷ 13 ∷ []) (writingNumber (c .answer))
   -- when done, the bytes are the frame of the listed tiles
   pub done-bytes :
       (c : WriteShort) → writingNumber (c .answer) ≡ 0 →
@@ -149,7 +148,7 @@ pub record RequestElevenFrames : Type 0 where
       after-short ≡ after-full
   -- the room that is enough for a full frame is always enough: no 13
   pub always-room :
-      (c : WriteShort) → Bytes (c .new) → 77 + 196624 * tilesNo (c .width) (c .height) ≤ length (c .out) →
+      (c : WriteShort) → ((i : ℕ) → getD (c .new) i 0 < 256) → 77 + 196624 * tilesNo (c .width) (c .height) ≤ length (c .out) →
       Among (0 ∷ 5 ∷ 7 ∷ 2 ∷ 16 ∷ 8 ∷ 17 ∷ []) (writingNumber (c .answer))
   -- the words, with one set for both
   pub one-set-words : (glass : ℕ) (p : List ℕ) (w h : ℕ) (v : List ℕ) (k i : ℕ) → wordOver glass p w h (oneFor v) k i ≡ wordBack glass p w h v k i

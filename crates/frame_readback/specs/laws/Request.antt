@@ -69,9 +69,11 @@ twoSets = record {
   two-sets = λ index w h mode q p l k e. two-sets index w h mode q p e l k;
   done-bytes = λ c e. wrote-bytes _ _ (c .out) (c .out′) (c .answer) (c .promise .wrote) e;
   our-frames = λ glass s₀ ho ho′ hr c either hw e f pic y cb cr tmp pic′ y′ cb′ cr′ tmp′ answer ly lb lr lt room done.
+      let r =
       our-own-frames-over glass s₀ (c .width) (c .height) (c .mode) ho ho′ hr either hw e (c .quants) (c .index) (c .pixels) (c .list) (c .list′)
       (c .scratch) (c .scratch′)
-      (c .out) (c .out′) (c .answer) (c .luma) (c .chroma) (c .promise) f pic y cb cr tmp pic′ y′ cb′ cr′ tmp′ answer ly lb lr lt room done;
+      (c .out) (c .out′) (c .answer) (c .luma) (c .chroma) (c .promise) f pic y cb cr tmp pic′ y′ cb′ cr′ tmp′ answer ly lb lr lt room done in
+      (record { one = r .0 .one; two = r .0 .two; three = r .0 .three; four = r .0 .four }, r .1);
   one-answer = λ c list′ scratch′ out′ r x. frame-over-once _ _ _ _ _ _ _ _ _ _ _ _ _ _ _ _ _ (c .promise) x;
   work-untouched = λ c e. SendNumbers.work-untouched _ _ _ _ _ _ _ _ _ _ _ _ _ (c .promise) e;
   work-zeros = λ c o. SendNumbers.work-zeros _ _ _ _ _ _ _ _ _ _ _ _ _ (c .promise) o;

@@ -6,7 +6,7 @@ use Rattle.tidy_stream.proofs.run.Statement.{statement}
 use Rattle.tidy_stream.proofs.run.Tie as tie
 
 abbrev Inv-loop : tie.InvT-loop
-Inv-loop piece₀ store₀ held₀ list₀ out₀ d₀ turns₀ piece store held list out d turns =
+Inv-loop sender piece₀ store₀ held₀ list₀ out₀ d₀ turns₀ piece store held list out d turns =
     (length piece ≡ length piece₀)
     × (length store ≡ length store₀)
     × (length held ≡ length held₀)
@@ -14,7 +14,7 @@ Inv-loop piece₀ store₀ held₀ list₀ out₀ d₀ turns₀ piece store held
     × (length out ≡ length out₀)
 
 abbrev μ-loop : tie.MeasureT-loop
-μ-loop piece₀ store₀ held₀ list₀ out₀ d₀ turns₀ piece store held list out d turns = turns
+μ-loop sender piece₀ store₀ held₀ list₀ out₀ d₀ turns₀ piece store held list out d turns = turns
 
 loop-again : tie.Need-loop-again Inv-loop μ-loop
 loop-again c = (search needs, search needs, search needs, search needs, search needs)
