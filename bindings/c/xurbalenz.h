@@ -206,7 +206,8 @@ static inline XurbalenzSession xurbalenz_session_of(uint8_t headers, uint16_t wi
     return s;
 }
 
-/* A fresh session for a glass; any other glass makes a record that no calls could have made. */
+/* A fresh session for a glass, 0 or 1. Any other number is no glass: it makes a record that no calls could have made, which is 12 wherever a record is judged, and
+   which a good sync makes, without a word, a session for 16 bits. */
 #define XURBALENZ_GLASS_16 0 /* pictures of 16-bit words: xurbalenz_read_frame */
 #define XURBALENZ_GLASS_32 1 /* pictures of 32-bit words, XRGB8888: xurbalenz_read_frame_32 */
 static inline XurbalenzSession xurbalenz_open(uint8_t glass)

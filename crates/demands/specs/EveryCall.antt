@@ -14,6 +14,9 @@ use Rattle.panel.specs.Cabinet.{ReadSettingsCall, WriteSettingsCall, WriteFrame
 use Rattle.panel.specs.Capabilities.{ReadCapsCall, WriteCapsCall, ReadAckCapCall, WriteAckCapCall, ReadAckCall, WriteAckCall}
 use Rattle.panel.specs.Collector.{CollectCall}
 use Rattle.panel.specs.Short.{WriteShortCall}
+use Rattle.panel.specs.Tidy.{TidyFrameCall, TidyHeaderCall, TidyFlushCall}
+use Rattle.panel.specs.Differ.{NextTileCall}
+use Rattle.tile_diff.specs.Pictures.{TilesCounted}
 
 -- ---- request One, panel/src/collector.rt
 
@@ -68,10 +71,36 @@ pub record OneCapabilities : Type 0 where
       WriteAckCall version source share pad stream uncompressed compression compressed frame out o₁ k₁ n₁ →
       WriteAckCall version source share pad stream uncompressed compression compressed frame out o₂ k₂ n₂ → (n₁ ≡ n₂) × (k₁ ≡ k₂) × (o₁ ≡ o₂)
 
+-- ---- what other senders write, panel/src/filter.rt
+
+pub record OneFilter : Type 0 where
+  pub tidy-frame :
+      (sender w h mode : ℕ) (m : List ℕ) (list l₁ l₂ : List ℤ) (out o₁ o₂ t₁ t₂ : List ℕ) (n₁ n₂ : ℕ) →
+      TidyFrameCall sender w h mode m list l₁ out o₁ t₁ n₁ → TidyFrameCall sender w h mode m list l₂ out o₂ t₂ n₂ →
+      (n₁ ≡ n₂) × (t₁ ≡ t₂) × (l₁ ≡ l₂) × (o₁ ≡ o₂)
+  pub tidy-header :
+      (held h₁ h₂ block out o₁ o₂ : List ℕ) (k₁ k₂ n₁ n₂ : ℕ) → TidyHeaderCall held h₁ block out o₁ k₁ n₁ → TidyHeaderCall held h₂ block out o₂ k₂ n₂ →
+      (n₁ ≡ n₂) × (k₁ ≡ k₂) × (h₁ ≡ h₂) × (o₁ ≡ o₂)
+  pub tidy-flush :
+      (held h₁ h₂ out o₁ o₂ : List ℕ) (k₁ k₂ n₁ n₂ : ℕ) → TidyFlushCall held h₁ out o₁ k₁ n₁ → TidyFlushCall held h₂ out o₂ k₂ n₂ →
+      (n₁ ≡ n₂) × (k₁ ≡ k₂) × (h₁ ≡ h₂) × (o₁ ≡ o₂)
+
+-- ---- which tiles differ, panel/src/differ.rt: of either glass
+
+pub record OneDiffer : Type 0 where
+  pub count-tiles :
+      (w h : ℕ) (old new counts c₁ c₂ : List ℕ) (n₁ n₂ : ℕ) → TilesCounted w h old new counts c₁ n₁ → TilesCounted w h old new counts c₂ n₂ →
+      (n₁ ≡ n₂) × (c₁ ≡ c₂)
+  pub next-tile :
+      (w h : ℕ) (cs : List ℕ) (from t₁ t₂ x₁ x₂ y₁ y₂ k₁ k₂ n₁ n₂ : ℕ) → NextTileCall w h cs from t₁ x₁ y₁ k₁ n₁ → NextTileCall w h cs from t₂ x₂ y₂ k₂ n₂ →
+      (n₁ ≡ n₂) × (t₁ ≡ t₂) × (x₁ ≡ x₂) × (y₁ ≡ y₂) × (k₁ ≡ k₂)
+
 pub record EveryCall : Type 0 where
   pub one : OneCollector
   pub five : OneSettings
   pub eleven : OneShort
   pub twelve : OneCapabilities
+  pub filter : OneFilter
+  pub differ : OneDiffer
   -- xurbalenz_record_16, by which a program is linked to the record's size
   pub record-16 : (n₁ n₂ : ℕ) → n₁ ≡ 16 → n₂ ≡ 16 → n₁ ≡ n₂

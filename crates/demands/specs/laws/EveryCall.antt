@@ -4,7 +4,8 @@ use mathlib.Core.Path.{_≡_, sym, _∙_}
 use mathlib.Core.List.{List}
 use Rattle.panel.specs.Edge.{WriterCall}
 use Rattle.panel.specs.laws.Short.{short-once}
-use Rattle.demands.specs.EveryCall.{OneCollector, OneSettings, OneShort, OneCapabilities, EveryCall}
+use Rattle.panel.specs.laws.Tidy.{tidy-once, held-once}
+use Rattle.demands.specs.EveryCall.{OneCollector, OneSettings, OneShort, OneCapabilities, OneFilter, OneDiffer, EveryCall}
 use Rattle.demands.specs.laws.Edge.{write-call-once}
 
 one-collector : OneCollector
@@ -50,11 +51,27 @@ one-capabilities = record {
       write-call-once _ _ out o₁ o₂ k₁ k₂ n₁ n₂ x y;
 }
 
+one-filter : OneFilter
+one-filter = record {
+  tidy-frame = λ sender w h mode m list l₁ l₂ out o₁ o₂ t₁ t₂ n₁ n₂ x y. tidy-once sender w h mode m list l₁ l₂ out o₁ o₂ t₁ t₂ n₁ n₂ x y;
+  tidy-header = λ held h₁ h₂ block out o₁ o₂ k₁ k₂ n₁ n₂ x y. held-once _ _ _ held h₁ h₂ out o₁ o₂ k₁ k₂ n₁ n₂ x y;
+  tidy-flush = λ held h₁ h₂ out o₁ o₂ k₁ k₂ n₁ n₂ x y. held-once _ _ _ held h₁ h₂ out o₁ o₂ k₁ k₂ n₁ n₂ x y;
+}
+
+one-differ : OneDiffer
+one-differ = record {
+  count-tiles = λ w h old new counts c₁ c₂ n₁ n₂ x y. (x .number ∙ sym (y .number), x .left ∙ sym (y .left));
+  next-tile = λ w h cs from t₁ t₂ x₁ x₂ y₁ y₂ k₁ k₂ n₁ n₂ x y.
+      (x .said ∙ sym (y .said), x .tile-is ∙ sym (y .tile-is), x .column ∙ sym (y .column), x .row ∙ sym (y .row), x .count ∙ sym (y .count));
+}
+
 pub every-call : EveryCall
 every-call = record {
   one = one-collector;
   five = one-settings;
   eleven = one-short;
   twelve = one-capabilities;
+  filter = one-filter;
+  differ = one-differ;
   record-16 = λ n₁ n₂ x y. x ∙ sym y;
 }
