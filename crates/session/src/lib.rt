@@ -94,7 +94,8 @@ pub fn of_numbers(headers: u8, width: u16, height: u16, mode: u8) -> Session
     of_glass(0, headers, width, height, mode)
 }
 
-// A session opened for a glass: 0 where a word of the picture has 16 bits, 1 where it has 32. Any other glass gives a record that no calls could have made.
+// A session opened for a glass: 0 where a word of the picture has 16 bits, 1 where it has 32. Any other number is no glass: it gives a record that no calls
+// could have made, which is 12 wherever a record is judged, and which a good sync makes, without a word, a session for 16 bits. So give 0 or 1.
 pub fn open(glass: u8) -> Session
     ensures { λ r. ⌜ r ≡ recordOf glass 0 0 0 0 ⌝ }
 {

@@ -11,6 +11,7 @@ pub record Cases : Type 0 where
   -- "L = -32 0 -32 -480 -384 -384 -608 -736, H = 0 0 -64 -64 32 0 -32 -64 gives .."
   pub line : Worked
   -- "White 4064 0 0 and back 255; black -4096 0 0; red -1657 -1379 4078 and back 254 0 0."
+  -- (document 02, request Four: "the red case becomes 255 0 0"; that is what is proved)
   pub colours : C.Cases
   -- .. of which the first, spelled out here too
   pub white : C.Forth 255 255 255 (pos 4064) (pos 0) (pos 0)
