@@ -151,7 +151,8 @@ class Case {
 
 export function vectors() {
     let cases = 0, made = 0;
-    for (const file of readdirSync(path('bindings/vectors')).filter((name) => name.endsWith('.vec')).sort()) {
+    // those of plans, short frames and tidied codes are the other bindings' tests: the page makes no such call with recorded answers (the filter has a test of its own)
+    for (const file of readdirSync(path('bindings/vectors')).filter((name) => name.endsWith('.vec') && !/^(beyond_|request_eleven)/.test(name)).sort()) {
         let now = new Case();
         readFileSync(path(`bindings/vectors/${file}`), 'utf8').split('\n').forEach((line, i) => {
             if (line === '' || line.startsWith('#')) return;
