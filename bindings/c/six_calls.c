@@ -279,7 +279,8 @@ static void surplus(uint8_t mode)
         memcpy(bent + to, out + from, 19);
         to += 19;
         for (int k = 0; k < 3; k++) {
-            size_t length = number_at(out + from + 13 + 2 * k, 2), bits = 0, more;
+            size_t length = number_at(out + from + 13 + 2 * k, 2), more;
+            xurbalenz_size bits = 0;
             CHECK(xurbalenz_read_component(mode, out + code, length, y, XURBALENZ_LIST, &bits) == XURBALENZ_DONE);
             more = bits % 8 >= 5;
             count += more;

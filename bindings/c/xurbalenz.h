@@ -40,7 +40,7 @@
  * WHAT THE ARCHIVE NEEDS
  *  - Any x86-64 processor (SSE2 and nothing newer) and the System V calling convention, as on Linux; those for Arm: docs/landings/19-arm.md. On Linux it
  *    is position independent: programs and shared objects may hold it.
- *  - memcpy and memset, and nothing else, of a C library; on 32-bit Arm __aeabi_memcpy, __aeabi_memclr and their like and __aeabi_uldivmod, which every C
+ *  - memcpy and memset, and nothing else, of a C library; on 32-bit Arm __aeabi_memcpy, __aeabi_memclr and their like, __aeabi_uldivmod and __aeabi_uidiv, which every C
  *    library and libgcc (or compiler-rt) for it has.
  *  - 2,048 bytes of stack (XURBALENZ_STACK; 1,536 before 0.5.0), whatever the input: no function calls itself. Measured on x86-64 were 1,464 for a frame
  *    read, 1,545 for one written, 1,641 for a short one and 1,192 for one tidied; on Arm no call took more than 1,640 (bindings/c/stack.c). A dynamic linker
