@@ -2,6 +2,8 @@
 // number at a place, and writing bits with a pen. Document 02's request Ten is `word`, the same readings of 57 bits at once, and `wide`, a pen that puts four
 // bytes out at once.
 // Each contract is one equation with a definition of specs/Bits or a record of specs/Pen.
+#![tactic(auto)]
+
 ghost use Rattle.std.specs.Prelude.{◌≡◌, ◌+◌, ◌*◌, ◌<◌, ◌≤◌, length, get_or, drop, false};
 ghost use Rattle.bits.specs.Bits.{val, bits_of, num_bits, ones_of, num_of, gr_of};
 ghost use Rattle.bits.specs.Pen.{Ready, Put, Closed};
