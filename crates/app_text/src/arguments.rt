@@ -8,7 +8,7 @@ use std::rt::Env;
 
 // The arguments of one kind: where the last of them stands (of an option its first value), 0 where there is none; how many there are; whether the values of
 // the last option are all there.
-#[derive(Drop)]
+#[derive(Clone, Copy)]
 pub struct Found {
     pub at: usize,
     pub times: usize,

@@ -1,22 +1,13 @@
 // Reads a whole input, a file that an argument names or standard input, into a buffer, of which the first bytes are then what was read.
 ghost use Rattle.std.specs.Prelude.{◌≡◌, ◌≤◌, length};
-ghost use Rattle.std.specs.Io.{ReadsAtMost};
 ghost use Rattle.app_text.specs.First.{first_of};
 
-use std::fs::File;
+use crate::files::Source;
 use std::io::Read;
 use std::os::fd::AsRawFd;
-use std::rt::{HostRuntime, Stdin};
-
-// What is read from: standard input, or a file, which is closed where it is let go.
-#[derive(Drop)]
-pub enum Source {
-    Standard(Stdin),
-    Named(File),
-}
 
 // How many bytes were read, and whether they are the whole input.
-#[derive(Drop)]
+#[derive(Clone, Copy)]
 pub struct Loaded {
     pub n: usize,
     pub whole: bool,
@@ -41,28 +32,10 @@ pub fn open_input(rt: &HostRuntime, to: i32, name: &[u8], i: usize) -> Option<So
     }
 }
 
-// The descriptor of what is read from.
-fn descriptor(source: &Source) -> i32 {
-    match source {
-        Source::Standard(_) => 0,
-        Source::Named(file) => file.as_raw_fd(),
-    }
-}
-
-// One read: how many bytes came, at most so many as there is room for; 0 at the end.
-pub fn read_some(source: &mut Source, part: &mut [u8]) -> std::io::Result<usize>
-    ensures { ReadsAtMost result part.new }
-{
-    match source {
-        Source::Standard(stdin) => stdin.read(part),
-        Source::Named(file) => file.read(part),
-    }
-}
-
 // Whether the input ends here; if not, that is said: more follows, or it cannot be read.
 fn is_end(to: i32, name: &[u8], source: &mut Source, too_long: &[u8]) -> bool {
     let mut one = [0u8; 1];
-    match read_some(source, &mut one) {
+    match source.read(&mut one) {
         Ok(0) => true,
         Ok(_) => {
             crate::lines::say_why(to, name, too_long);
@@ -78,7 +51,7 @@ fn is_end(to: i32, name: &[u8], source: &mut Source, too_long: &[u8]) -> bool {
 fn load_from(to: i32, name: &[u8], source: &mut Source, data: &mut [u8], too_long: &[u8]) -> Loaded
     ensures { result.n ≤ length «data».new }
 {
-    let n = io::read_full(descriptor(source), data);
+    let n = io::read_full(source.as_raw_fd(), data);
     Loaded {
         n: n,
         whole: is_end(to, name, source, too_long),
