@@ -6,14 +6,14 @@ pub mod walk;
 pub mod write;
 
 // One entry of the container's capset: its flags, which nobody judges, and entropyBits, 1 (RLGR1) or 4 (RLGR3). One that is not there is 0 0.
-#[derive(Drop)]
+#[derive(Clone, Copy)]
 pub struct Entry {
     pub flags: u8,
     pub mode: u8,
 }
 
 // The fields of a container: captureFlags, how many entries there are, and the entries.
-#[derive(Drop)]
+#[derive(Clone, Copy)]
 pub struct Caps {
     pub flags: u32,
     pub n: u8,
@@ -22,7 +22,7 @@ pub struct Caps {
 }
 
 // The fields of a frame acknowledge message: the version, which is the upper twelve bits of pduType, and then in wire order.
-#[derive(Drop)]
+#[derive(Clone, Copy)]
 pub struct Ack {
     pub version: u16,
     pub source: u16,

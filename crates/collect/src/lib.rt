@@ -9,7 +9,7 @@ ghost use Rattle.collect.specs.laws.Code.{Turned};
 // head that waits, as one number; the refusal (0: none); what is gathered (the five numbers below); how many bytes of the head are there. All 0 when fresh.
 // Laid out as C does, for the edge.
 #[repr(C)]
-#[derive(Drop)]
+#[derive(Clone, Copy)]
 pub struct Collector {
     pub held: usize,
     pub end: usize,
@@ -20,7 +20,7 @@ pub struct Collector {
 }
 
 // What a call comes to: it waits for more; or the store's first bytes go to the header call, or to the frame call; or it refuses.
-#[derive(Drop)]
+#[derive(Clone, Copy)]
 pub enum Collected {
     More,
     Header(usize),
@@ -29,7 +29,7 @@ pub enum Collected {
 }
 
 // A call's answer: the record after it, how many bytes it took, and what it came to.
-#[derive(Drop)]
+#[derive(Clone, Copy)]
 pub struct Took {
     pub collector: Collector,
     pub taken: usize,

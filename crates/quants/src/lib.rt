@@ -7,7 +7,7 @@ ghost use Rattle.quants.specs.Quants.{quant_bytes, same, quant_for, sets_of, chr
 use bands::Quant;
 
 // The sets of a picture: luma's is for Y, chroma's for Cb and Cr.
-#[derive(Drop)]
+#[derive(Clone, Copy)]
 pub struct Quants {
     pub luma: Quant,
     pub chroma: Quant,

@@ -6,7 +6,7 @@ pub mod write;
 use quants::Quants;
 
 // What is kept: luma's and chroma's quantisers, and the mode, 1 (RLGR1) or 4 (RLGR3).
-#[derive(Drop)]
+#[derive(Clone, Copy)]
 pub struct Settings {
     pub quants: Quants,
     pub mode: u8,
