@@ -1,6 +1,8 @@
 // Saying what we can do: document 02, request Twelve (001, sections 2.2.1.1 to 2.2.1.1.1.1.1, 2.2.1.3 and 2.2.3.1). The client capability container
 // with its capset and entries, the frame acknowledge capability and the frame acknowledge message, read and written.
 // specs/Walk says how any layout is read, specs/Caps and specs/Ack have the tables.
+#![tactic(auto)]
+
 pub mod read;
 pub mod walk;
 pub mod write;

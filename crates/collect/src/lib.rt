@@ -1,5 +1,7 @@
 // Request One of document 02, "Frames as the card hands them over": the collector, which gathers the bytes of a network card in a lent store and hands on
 // whole header blocks and whole frames. The record is taken and given by value; what is handed on is the store's first bytes.
+#![tactic(auto)]
+
 ghost use Rattle.std.specs.Prelude.{◌≡◌, ℕ, ◌+◌, ◌≤◌, ◌<◌, ◌^◌, List, length, take, drop};
 ghost use Rattle.wire.specs.Le.{patch};
 ghost use Rattle.collect.specs.Collect.{fresh, gathering, head_fault, part_after, state, took, settled, head_done, between, refusal_of, made_waiting, may_end, made_gathering, collector_made, collector_fault, said, goes_on, walk, collect_of};

@@ -1,4 +1,6 @@
 // Quantiser sets as bytes (document 01, "Bands and the wavelet") and the two sets of a picture, luma's and chroma's (document 02, request Five).
+#![tactic(auto)]
+
 ghost use Rattle.std.specs.Prelude.{◌≡◌, ◌+◌, ◌*◌, ◌≤◌, ◌<◌, length, get_or};
 ghost use Rattle.wire.specs.Le.{patch};
 ghost use Rattle.bands.specs.Bands.{QuantGood};
