@@ -155,7 +155,11 @@ pub bounds-hi-j-2 : goal.bounds-hi-j-2
 bounds-hi-j-2 c = omega arith
 
 pub odd_along-z-requires-2 : goal.odd_along-z-requires-2
-odd_along-z-requires-2 c = (back_near w32 (c.requires.all_near.1.all _) tt, x_near (goal.at.odd_along-z-requires-2 c).At-loop-j, x_near (goal.at.odd_along-z-requires-2 c).At-loop-j)
+odd_along-z-requires-2 c = (
+  back_near w32 (c.requires.all_near.1.all _) tt,
+  x_near (goal.at.odd_along-z-requires-2 c).At-loop-j,
+  x_near (goal.at.odd_along-z-requires-2 c).At-loop-j,
+)
 
 pub overflow_mul-x-2 : goal.overflow_mul-x-2
 overflow_mul-x-2 c = omega arith

@@ -169,7 +169,11 @@ pub bounds-src-h-in-loop-c : goal.bounds-src-h-in-loop-c
 bounds-src-h-in-loop-c c = omega (arith, space (goal.at.bounds-src-h-in-loop-c c).Start)
 
 pub odd_down-v-requires : goal.odd_down-v-requires
-odd_down-v-requires c = (back_near w32 (c.requires.n_bound.4.all _) tt, back_near w32 (s_near (goal.at.odd_down-v-requires c).After-even-s) tt, back_near w32 (t_near (goal.at.odd_down-v-requires c).After-even-t) tt)
+odd_down-v-requires c = (
+  back_near w32 (c.requires.n_bound.4.all _) tt,
+  back_near w32 (s_near (goal.at.odd_down-v-requires c).After-even-s) tt,
+  back_near w32 (t_near (goal.at.odd_down-v-requires c).After-even-t) tt,
+)
 
 pub overflow_add-s : goal.overflow_add-s
 overflow_add-s c = omega (arith, space (goal.at.overflow_add-s c).Start)
