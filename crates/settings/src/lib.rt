@@ -1,5 +1,7 @@
 // Settings kept by the cabinet: document 02, request Five. The writer's quantisers and mode, read from records and written as records.
 // specs/Settings has the records and their order of faults, specs/Request 02's sentences over the calls.
+#![tactic(auto)]
+
 pub mod read;
 pub mod write;
 

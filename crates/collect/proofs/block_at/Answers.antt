@@ -11,7 +11,7 @@ open_here : (s : Start) → Open s.args.c (length s.args.store.now)
 open_here s = opened _ _ s.requires.0
 
 block_here : (s : Start) → Gathers s.args.c
-block_here s = gathers s.args.c (open_here s).well-formed s.requires.1.1
+block_here s = gathers s.args.c (open_here s).good s.requires.1.1
 
 pub overflow_sub-c : goal.overflow_sub-c
 overflow_sub-c c = omega (arith, (block_here (goal.at.overflow_sub-c c).Start).less)

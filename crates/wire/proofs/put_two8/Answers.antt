@@ -1,6 +1,5 @@
 -- Two patches, the second right behind the first, are one (`patch_next`).
 use mathlib.Core.Path.{refl}
-use Prim.Native.Nat.{◌-◌}
 use native.Mathlib.Omega.{arith}
 use Rattle.wire.specs.laws.Le.{patch_next}
 use Rattle.wire.proofs.put_two8.Goals as goal

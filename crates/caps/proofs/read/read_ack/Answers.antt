@@ -18,14 +18,14 @@ abbrev acked : After-finish-number → Ack
 acked c =
     record {
       version = c.next-kind.result.value / 16;
-      c.before.before.before.before.before.before.before.before.before = c.next-source.result.value;
-      c.before.before.before.before.before.before.before.before = c.next-share.result.value;
-      c.before.before.before.before.before.before.before = c.next-pad.result.value;
-      c.before.before.before.before.before.before = c.next-stream.result.value;
-      c.before.before.before.before.before = c.next-uncompressed.result.value;
-      c.before.before.before = c.next-compression.result.value;
-      c.before.before = c.next-compressed.result.value;
-      c.before = c.next-frame.result.value;
+      source = c.next-source.result.value;
+      share = c.next-share.result.value;
+      pad = c.next-pad.result.value;
+      stream = c.next-stream.result.value;
+      uncompressed = c.next-uncompressed.result.value;
+      compression = c.next-compression.result.value;
+      compressed = c.next-compressed.result.value;
+      frame = c.next-frame.result.value;
     }
 
 -- and that each fits its type

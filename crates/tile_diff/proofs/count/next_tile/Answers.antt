@@ -24,8 +24,9 @@ returns-then-n-gt0 c =
     let loop-test = c.loop-k-test in
     let if1 = c.if-n-gt0 in
     let count_at = c.count_at-n in
+    let Line-of = c.line_of in
     let l = c.loop-k in
-    next_found _ _ _ _ loop-test.true if1.true count_at.ensures c.Line-of.ensures ∙ l.invariant
+    next_found _ _ _ _ loop-test.true if1.true count_at.ensures Line-of.ensures ∙ l.invariant
 
 pub overflow_add-k : goal.overflow_add-k
 overflow_add-k c =

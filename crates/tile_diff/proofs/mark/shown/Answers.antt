@@ -38,9 +38,10 @@ returns-then-at_edge c =
     let tiles-over = c.tiles_over in
     let count_at = c.count_at in
     let if1 = c.if-count_at-eq0 in
+    let at_Edge = c.at_edge in
     let if2 = c.if-at_edge in
     case_no _ _ _ _ (ne_is (count-over s.counts.now s.width s.x s.y _ tiles-over.ensures.0 count_at.ensures) refl if1.false)
-    (case_yes _ _ _ _ (sym c.at_Edge.ensures ∙ if2.true) refl)
+    (case_yes _ _ _ _ (sym at_Edge.ensures ∙ if2.true) refl)
 
 pub returns-then-at_edge-2 : goal.returns-then-at_edge-2
 unfolding shown_at
@@ -49,11 +50,12 @@ returns-then-at_edge-2 c =
     let tiles-over = c.tiles_over in
     let count_at = c.count_at in
     let if1 = c.if-count_at-eq0 in
+    let at_Edge = c.at_edge in
     let if2 = c.if-at_edge in
     let at-edge2 = c.at_edge-2 in
     let if3 = c.if-at_edge-2 in
     case_no _ _ _ _ (ne_is (count-over s.counts.now s.width s.x s.y _ tiles-over.ensures.0 count_at.ensures) refl if1.false)
-    (case_no _ _ _ _ (sym c.at_Edge.ensures ∙ if2.false) (case_yes _ _ _ _ (sym at-edge2.ensures ∙ if3.true) refl))
+    (case_no _ _ _ _ (sym at_Edge.ensures ∙ if2.false) (case_yes _ _ _ _ (sym at-edge2.ensures ∙ if3.true) refl))
 
 pub returns : goal.returns
 unfolding shown_at
@@ -62,11 +64,12 @@ returns c =
     let tiles-over = c.tiles_over in
     let count_at = c.count_at in
     let if1 = c.if-count_at-eq0 in
+    let at_Edge = c.at_edge in
     let if2 = c.if-at_edge in
     let at-edge2 = c.at_edge-2 in
     let if3 = c.if-at_edge-2 in
     let dim2 = c.dim-2 in
     let le16-at = c.le16_at-word in
     case_no _ _ _ _ (ne_is (count-over s.counts.now s.width s.x s.y _ tiles-over.ensures.0 count_at.ensures) refl if1.false)
-    (case_no _ _ _ _ (sym c.at_Edge.ensures ∙ if2.false)
+    (case_no _ _ _ _ (sym at_Edge.ensures ∙ if2.false)
     (case_no _ _ _ _ (sym at-edge2.ensures ∙ if3.false) (dim2.ensures ∙ ap dimmed le16-at.ensures.0)))
