@@ -1,6 +1,8 @@
 // Document 01, "Bands and the wavelet" (001, 3.1.8.1.5, 3.1.8.1.6, 3.1.8.2.2, 3.1.8.2.3): quantiser sets, LL3's sums and scaling on the reader's way;
 // rounding and LL3's differences on the writer's; the range (9) for both. Bands are lent as parts of the work list.
 // Judging multiplies and stores nothing; summing and scaling judge nothing and answer nothing (02, request Eight).
+#![tactic(auto)]
+
 ghost use Rattle.std.specs.Prelude.{◌≡◌, ℕ, ◌+◌, ◌<◌, ◌≤◌, ◌^◌, pos, ◌+ℤ◌, ◌-ℤ◌, ◌*ℤ◌, length, get_or, take, drop};
 ghost use Rattle.std.specs.Int.Signed.{shr_z};
 ghost use Rattle.whole.specs.Row.{◌⇒◌∣◌};
@@ -12,7 +14,7 @@ ghost use Rattle.bands.specs.Rounding.{round_at, diff_at, rounded_by};
 ghost use Rattle.bands.specs.laws.Steps.{over_of, overs, limit_of, limit_at};
 
 // A quantiser set: ten values in the set's order.
-#[derive(Drop)]
+#[derive(Clone, Copy)]
 pub struct Quant {
     pub v: [u8; 10],
 }
@@ -44,7 +46,7 @@ pub fn quant_at(m: &[u8], at: usize) -> Quant
 }
 
 // A band: where in the set its quantiser stands, and where it ends in the list.
-#[derive(Drop)]
+#[derive(Clone, Copy)]
 struct Band {
     set: usize,
     end: usize,

@@ -12,14 +12,14 @@ pub mod wide;
 pub mod word;
 
 // What reading a number finds: the number and the place of the bit past it, or too few bits.
-#[derive(Drop)]
+#[derive(Clone, Copy)]
 pub enum Num {
     Got(usize, usize),
     Cut,
 }
 
 // The next byte's place, the bits that wait for it as a number, and how many they are.
-#[derive(Drop)]
+#[derive(Clone, Copy)]
 pub struct Pen {
     pub at: usize,
     pub acc: usize,

@@ -11,42 +11,42 @@ use crate::walk::{Step, Width, begin, finish, fixed, judge, next};
 use crate::{Ack, Caps, Entry};
 
 // What reading a container came to: its fields, or the number of the first fault.
-#[derive(Drop)]
+#[derive(Clone, Copy)]
 pub enum CapsReading {
     Taken(Caps),
     Refused(u8),
 }
 
 // The same of a frame acknowledge capability: its maxUnacknowledgedFrameCount.
-#[derive(Drop)]
+#[derive(Clone, Copy)]
 pub enum AckCapReading {
     Taken(u32),
     Refused(u8),
 }
 
 // The same of a frame acknowledge message.
-#[derive(Drop)]
+#[derive(Clone, Copy)]
 pub enum AckReading {
     Taken(Ack),
     Refused(u8),
 }
 
 // An entry, and where the walk stands behind it.
-#[derive(Drop)]
+#[derive(Clone, Copy)]
 struct Entered {
     entry: Entry,
     step: Step,
 }
 
 // How many entries a capset says it has, and where the walk stands in front of them.
-#[derive(Drop)]
+#[derive(Clone, Copy)]
 struct Counted {
     n: usize,
     step: Step,
 }
 
 // The entries, and where the walk stands behind them.
-#[derive(Drop)]
+#[derive(Clone, Copy)]
 struct Listed {
     n: u8,
     first: Entry,

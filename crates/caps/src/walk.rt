@@ -4,7 +4,7 @@ ghost use Rattle.caps.specs.Walk.{size, most};
 ghost use Rattle.caps.specs.Step.{number_at, stands, start, next_of, judge_of, fixed_of, finish_of};
 
 // A field has one, two or four bytes.
-#[derive(Drop)]
+#[derive(Clone, Copy)]
 pub enum Width {
     One,
     Two,
@@ -12,7 +12,7 @@ pub enum Width {
 }
 
 // Where the walk stands. After a fault it stays, and its number is 0.
-#[derive(Drop)]
+#[derive(Clone, Copy)]
 pub struct Step {
     pub fault: u8,
     pub at: usize,

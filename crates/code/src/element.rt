@@ -11,7 +11,7 @@ ghost use Rattle.code.specs.ReadList.{refusal_number, one_elem, two_elem, judge_
 use bits::Num;
 
 // Where a walk through a code stands: the place of the next bit, and the two running parameters.
-#[derive(Drop)]
+#[derive(Clone, Copy)]
 pub struct State {
     pub at: usize,
     pub kp: usize,
@@ -19,7 +19,7 @@ pub struct State {
 }
 
 // What the code of a list is made of: a full run of zeros, some zeros and a value, a value, or a pair. Values are folded.
-#[derive(Drop)]
+#[derive(Clone, Copy)]
 pub enum Item {
     Full,
     Run(usize, usize),
@@ -28,7 +28,7 @@ pub enum Item {
 }
 
 // Why an element is refused: 01's numbers 1, 9 and 10.
-#[derive(Drop)]
+#[derive(Clone, Copy)]
 pub enum Refusal {
     Cut,
     Range,
@@ -36,7 +36,7 @@ pub enum Refusal {
 }
 
 // One code element: zeros, one value after some zeros, two values, or a refusal; with the state past it. Values are folded.
-#[derive(Drop)]
+#[derive(Clone, Copy)]
 pub enum Element {
     Zeros(usize, State),
     One(usize, usize, State),

@@ -12,7 +12,7 @@ use crate::element::{Element, Refusal, State};
 use bits::Num;
 
 // What reading a component found: its list, and the code's length in bits; the code's length, but a tail behind it; or 01's number.
-#[derive(Drop)]
+#[derive(Clone, Copy)]
 pub enum Reading {
     Done(usize),
     Tail(usize),
@@ -42,7 +42,7 @@ pub fn reading_bits(r: Reading) -> usize
 }
 
 // What storing an element found: the next place and the state there, or a refusal.
-#[derive(Drop)]
+#[derive(Clone, Copy)]
 enum Placed {
     At(usize, State),
     No(Refusal),
@@ -77,7 +77,7 @@ fn place(list: &mut [i32], i: usize, e: Element) -> Placed
 }
 
 // What a turn by a word found: the next place and the state there, or that it takes the slow way.
-#[derive(Drop)]
+#[derive(Clone, Copy)]
 enum Quick {
     At(usize, State),
     Not,
@@ -250,7 +250,7 @@ fn quick_turn(s: &[u8], rlgr3: bool, c: State, list: &mut [i32], i: usize) -> Qu
 }
 
 // What going by words found: the list is full, and the code's length in bits; or the place and the state at which the slow way is due.
-#[derive(Drop)]
+#[derive(Clone, Copy)]
 enum Reach {
     Full(usize),
     Stuck(usize, State),
@@ -280,7 +280,7 @@ fn rush(s: &[u8], rlgr3: bool, from: State, list: &mut [i32], first: usize) -> R
 }
 
 // What filling a list found: the code's length in bits, or a refusal.
-#[derive(Drop)]
+#[derive(Clone, Copy)]
 enum Filled {
     Whole(usize),
     Bad(Refusal),

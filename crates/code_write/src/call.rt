@@ -11,7 +11,7 @@ use bits::Pen;
 use wire::Writing;
 
 // What measuring a component found: 01's number, and the size in bytes, 0 where it is refused.
-#[derive(Drop)]
+#[derive(Clone, Copy)]
 pub struct Sized {
     pub number: u8,
     pub size: usize,

@@ -13,7 +13,7 @@ use bits::Pen;
 use code::element::Item;
 
 // Where the writing of a list stands: the pen, the next place, and the two running parameters.
-#[derive(Drop)]
+#[derive(Clone, Copy)]
 struct Stand {
     pen: Pen,
     i: usize,

@@ -1,5 +1,7 @@
 // Request One of document 02, "Frames as the card hands them over": the collector, which gathers the bytes of a network card in a lent store and hands on
 // whole header blocks and whole frames. The record is taken and given by value; what is handed on is the store's first bytes.
+#![tactic(auto)]
+
 ghost use Rattle.std.specs.Prelude.{◌≡◌, ℕ, ◌+◌, ◌≤◌, ◌<◌, ◌^◌, List, length, take, drop};
 ghost use Rattle.wire.specs.Le.{patch};
 ghost use Rattle.collect.specs.Collect.{fresh, gathering, head_fault, part_after, state, took, settled, head_done, between, refusal_of, made_waiting, may_end, made_gathering, collector_made, collector_fault, said, goes_on, walk, collect_of};
@@ -9,7 +11,7 @@ ghost use Rattle.collect.specs.laws.Code.{Turned};
 // head that waits, as one number; the refusal (0: none); what is gathered (the five numbers below); how many bytes of the head are there. All 0 when fresh.
 // Laid out as C does, for the edge.
 #[repr(C)]
-#[derive(Drop)]
+#[derive(Clone, Copy)]
 pub struct Collector {
     pub held: usize,
     pub end: usize,
@@ -20,7 +22,7 @@ pub struct Collector {
 }
 
 // What a call comes to: it waits for more; or the store's first bytes go to the header call, or to the frame call; or it refuses.
-#[derive(Drop)]
+#[derive(Clone, Copy)]
 pub enum Collected {
     More,
     Header(usize),
@@ -29,7 +31,7 @@ pub enum Collected {
 }
 
 // A call's answer: the record after it, how many bytes it took, and what it came to.
-#[derive(Drop)]
+#[derive(Clone, Copy)]
 pub struct Took {
     pub collector: Collector,
     pub taken: usize,

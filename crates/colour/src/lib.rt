@@ -1,13 +1,15 @@
 // Document 01's "Colour", both ways: a pixel's three bytes to Y, Cb and Cr, and these back to three bytes and to the picture's word: 5-6-5,
 // or, on a glass of 32 bits (document 02, "A door with 32-bit glass"), the three bytes side by side.
 // All in 32 bits (document 02, "No 64-bit products on the small door panel"): on the way back a sample is split at 65,536, and with it its products.
+#![tactic(auto)]
+
 ghost use Rattle.std.specs.Prelude.{◌≡◌, pos, ◌+ℤ◌, ◌*ℤ◌};
 ghost use Rattle.whole.specs.laws.Near.{Near, Upto};
 ghost use Rattle.colour.specs.Colour.{clamp_byte, cut21, luma_of, cb_of, cr_of, rgb_of, pack565, pack888, word_of};
 ghost use Rattle.colour.specs.laws.Steps.{weighed, mix, joined, Small};
 
 // A pixel's three bytes.
-#[derive(Drop)]
+#[derive(Clone, Copy)]
 pub struct Rgb {
     pub r: u8,
     pub g: u8,
@@ -15,7 +17,7 @@ pub struct Rgb {
 }
 
 // A sample in two parts: 65,536 times the high one, and the low one more.
-#[derive(Drop)]
+#[derive(Clone, Copy)]
 struct Parts {
     high: i32,
     low: i32,

@@ -11,7 +11,7 @@ use frame_draw::tiles::Pass;
 use session::Session;
 
 // What reading a frame came to: how many tiles it has, or 01's number.
-#[derive(Drop)]
+#[derive(Clone, Copy)]
 pub enum FrameReading {
     Done(usize),
     Refused(u8),

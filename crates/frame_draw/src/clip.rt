@@ -7,7 +7,7 @@ ghost use Rattle.frame_draw.specs.Spans.{part_of, mask_of};
 ghost use Rattle.frame_draw.specs.Clips.{clip_in, clip_of, on_row, half_in, half_of, clip_at, with_clip, Clipped, SmallClip, Clips};
 
 // A rectangle against a tile: its words of the tile's row, on the picture's rows from one on to before another.
-#[derive(Drop)]
+#[derive(Clone, Copy)]
 pub struct Clip {
     pub mask: u64,
     pub top: usize,

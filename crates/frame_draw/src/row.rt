@@ -47,7 +47,7 @@ fn rect_holds(rects: &[u8], px: usize, py: usize, k: usize) -> bool
 // ---- a row
 
 // A pixel row of a tile: the channel's width, the tile's column, the row in the picture, and how many rectangles it is held against.
-#[derive(Drop)]
+#[derive(Clone, Copy)]
 pub struct Strip {
     pub w: usize,
     pub tx: usize,
@@ -87,7 +87,7 @@ pub fn row_mask(rects: &[u8], clips: &[i32], s: Strip) -> u64
 // ---- a tile
 
 // A tile in the channel: the channel's size, the tile's column and row, and how many rectangles it is held against.
-#[derive(Drop)]
+#[derive(Clone, Copy)]
 pub struct Spot {
     pub w: usize,
     pub h: usize,

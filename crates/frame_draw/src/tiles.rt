@@ -8,7 +8,7 @@ ghost use Rattle.frame_blocks.specs.Judged.{in_set, SetSound};
 ghost use Rattle.frame_draw.specs.Show.{Lists, Sampled, Ready, plane_of};
 
 // The numbers of a draw pass: the session's mode and size, and where in the message the tileset stands.
-#[derive(Drop)]
+#[derive(Clone, Copy)]
 pub struct Pass {
     pub mode: u8,
     pub w: usize,

@@ -1,5 +1,7 @@
 // The frame writer's fixed pieces (document 01, "Blocks" and "The frame writer"; 001, 2.2.2.3): everything of a frame but the component
 // codes. Blocks are opened with their lengths still 0, and "lengths are filled in afterwards inside the output".
+#![tactic(auto)]
+
 ghost use Rattle.std.specs.Prelude.{◌≡◌, ◌+◌, ◌*◌, ◌≤◌, ◌<◌, length};
 ghost use Rattle.wire.specs.Le.{patch};
 ghost use Rattle.frame_layout.specs.Bytes.{begin_of, region_of, props_of, end_of};

@@ -8,7 +8,7 @@ use code_write::call::Sized;
 use quants::Quants;
 
 // What the writer is asked, beside the pixels: size, mode, the frame's index, and the quantisers.
-#[derive(Drop)]
+#[derive(Clone, Copy)]
 pub struct Job {
     pub width: usize,
     pub height: usize,

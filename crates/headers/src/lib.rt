@@ -1,5 +1,7 @@
 // The header writer of document 01: "Header writer: size or mode 5, then 13 (47 bytes)", with the four blocks of "Blocks";
 // specs/laws/ReadBack says that the header calls take what it writes, from any record.
+#![tactic(auto)]
+
 ghost use Rattle.std.specs.Prelude.{◌≡◌, ◌+◌, ◌≤◌, ◌<◌, length, ◌++◌};
 ghost use Rattle.wire.specs.Le.{bytes16, bytes32, patch, written};
 ghost use Rattle.headers.specs.Headers.{sync_of, versions_of, channels_of, properties_of, context_of, headers_of, headers_fault, HeadersWritten};

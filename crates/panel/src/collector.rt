@@ -44,7 +44,7 @@ fn collected_size(a: Collected) -> usize
 }
 
 // 01's number, and the record to be stored.
-#[derive(Drop)]
+#[derive(Clone, Copy)]
 pub struct CollectorAnswer {
     pub number: u8,
     pub collector: Collector,

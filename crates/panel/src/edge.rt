@@ -92,7 +92,7 @@ pub extern "C" fn xurbalenz_version() -> u32
 }
 
 // What the header call has to hand over: 01's number, and the record to be stored.
-#[derive(Drop)]
+#[derive(Clone, Copy)]
 struct Handed {
     number: u8,
     session: Session,

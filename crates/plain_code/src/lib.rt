@@ -1,6 +1,8 @@
 // Document 02's request Nine, the component code of document 01 ("The component code", 001, 3.1.8.1.7) for an auditor: bit by bit, as the paper says it,
 // to be held beside it line by line. It calls no function of the product; what both mean is said once, by the definitions that the contracts name.
 // Bits past the end are read as zeros, and an element is judged once: did it end within the bytes?
+#![tactic(auto)]
+
 ghost use Rattle.std.specs.Prelude.{◌≡◌, ◌+◌, ◌*◌, ◌-◌, ◌/◌, ◌<◌, ◌≤◌, ◌^◌, min, false, length, get_or, drop, replicate, pos, ltb};
 ghost use Rattle.bits.specs.Bits.{val, bits_of, num_of, gr_of};
 ghost use Rattle.code.specs.Fold.{unfold_z};

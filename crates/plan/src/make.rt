@@ -5,7 +5,7 @@ ghost use Rattle.plan.specs.Plan.{Pictures, changed};
 ghost use Rattle.plan.specs.Made.{planned_number, planned_count, PlanMade};
 
 // What planning came to: how many numbers stand in the list that was lent, or 01's number.
-#[derive(Drop)]
+#[derive(Clone, Copy)]
 pub enum Planned {
     Listed(usize),
     Refused(u8),

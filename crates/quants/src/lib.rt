@@ -1,4 +1,6 @@
 // Quantiser sets as bytes (document 01, "Bands and the wavelet") and the two sets of a picture, luma's and chroma's (document 02, request Five).
+#![tactic(auto)]
+
 ghost use Rattle.std.specs.Prelude.{◌≡◌, ◌+◌, ◌*◌, ◌≤◌, ◌<◌, length, get_or};
 ghost use Rattle.wire.specs.Le.{patch};
 ghost use Rattle.bands.specs.Bands.{QuantGood};
@@ -7,7 +9,7 @@ ghost use Rattle.quants.specs.Quants.{quant_bytes, same, quant_for, sets_of, chr
 use bands::Quant;
 
 // The sets of a picture: luma's is for Y, chroma's for Cb and Cr.
-#[derive(Drop)]
+#[derive(Clone, Copy)]
 pub struct Quants {
     pub luma: Quant,
     pub chroma: Quant,

@@ -1,6 +1,8 @@
 // The session record and the header call of document 01: "What the panel takes and gives" (the record), "Order. Header call", and
 // "Blocks" (sync, versions, channels, context); 001, 2.2.2.2; and what document 02's requests Six and Thirteen keep in the record. It is
 // taken and given by value.
+#![tactic(auto)]
+
 ghost use Rattle.std.specs.Prelude.{◌≡◌, ◌+◌, ◌≤◌, ◌<◌, length};
 ghost use Rattle.session.specs.Header.{tiles_over, record_of, of_glass, of_numbers, stepped, right, size_good, counted, made, ready, due, size_of, sync_judge, versions_judge, channels_judge, properties_good, context_judge, et_of, sync_fault, versions_fault, channels_fault, context_fault, field_fault, head_judge, header_fault, kept_glass, record_after, header_number, header_record, header_reading};
 ghost use Rattle.session.specs.laws.Header.{Good};
@@ -9,7 +11,7 @@ ghost use Rattle.session.specs.laws.Header.{Good};
 // word of the picture has 16 bits, 1 where it has 32. All 0 when fresh, but for the glass. Laid out as C does, for the edge: 16 bytes with no hole
 // inside; the three behind the glass are never read.
 #[repr(C)]
-#[derive(Drop)]
+#[derive(Clone, Copy)]
 pub struct Session {
     pub headers: u8,
     pub mode: u8,
@@ -22,7 +24,7 @@ pub struct Session {
 }
 
 // What reading a header came to: the record after it, or 01's number.
-#[derive(Drop)]
+#[derive(Clone, Copy)]
 pub enum HeaderReading {
     Taken(Session),
     Refused(u8),

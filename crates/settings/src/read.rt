@@ -7,14 +7,14 @@ use bands::Quant;
 use quants::Quants;
 
 // What reading came to: 0 and the settings, or the number of the first fault, and then the settings are all 0.
-#[derive(Drop)]
+#[derive(Clone, Copy)]
 pub struct Reading {
     pub number: u8,
     pub settings: Settings,
 }
 
 // What the records so far have said: the version, 0 before it is read; whether there was a setting; and the last one, all 0 before the first.
-#[derive(Drop)]
+#[derive(Clone, Copy)]
 struct State {
     version: usize,
     any: bool,

@@ -14,7 +14,7 @@ ghost use Rattle.tidy.specs.Put.{Puts, head_with, tile_cut, AllWhole, Laid, clos
 use session::Session;
 
 // What passing a frame on came to: 01's number, how many bytes went on, and how many codes were changed.
-#[derive(Drop)]
+#[derive(Clone, Copy)]
 pub struct Tidied {
     pub number: u8,
     pub size: usize,
@@ -22,7 +22,7 @@ pub struct Tidied {
 }
 
 // Where writing has come to, and how many codes were changed on the way.
-#[derive(Drop)]
+#[derive(Clone, Copy)]
 pub struct Put {
     pub to: usize,
     pub cut: usize,

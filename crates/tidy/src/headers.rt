@@ -6,7 +6,7 @@ ghost use Rattle.tidy.specs.Headers.{kind_by, kind_of, is_sync, place_of, length
 ghost use Rattle.tidy.specs.Headers.{passed_on, store_after, flag_of, header_fault, none, GaveOn};
 
 // Whether blocks wait (behind a good sync), and which: 1 versions, 2 channels, 3 context, 0 none.
-#[derive(Drop)]
+#[derive(Clone, Copy)]
 pub struct Waiting {
     pub on: u8,
     pub first: u8,
@@ -14,7 +14,7 @@ pub struct Waiting {
 }
 
 // What giving a block came to: what waits then, 01's number, and how many bytes go on.
-#[derive(Drop)]
+#[derive(Clone, Copy)]
 pub struct Gave {
     pub waiting: Waiting,
     pub number: u8,

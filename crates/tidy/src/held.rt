@@ -7,7 +7,7 @@ ghost use Rattle.tidy.specs.Headers.{none, waiting_bytes, passed_on, waiting_aft
 use crate::headers::Waiting;
 
 // 01's number, and how many bytes go on.
-#[derive(Drop)]
+#[derive(Clone, Copy)]
 pub struct Passed {
     pub number: u8,
     pub size: usize,

@@ -13,14 +13,14 @@ use bits::Num;
 use code::element::{Element, State};
 
 // What storing an element found: the next place, the state there and the last value; or a refusal.
-#[derive(Drop)]
+#[derive(Clone, Copy)]
 pub enum Placed {
     At(usize, State, usize),
     No,
 }
 
 // What filling found: the code's length in bits and the last value; or a refusal.
-#[derive(Drop)]
+#[derive(Clone, Copy)]
 pub enum Filled {
     Whole(usize, usize),
     Bad,

@@ -5,7 +5,7 @@ ghost use Rattle.tile_diff.specs.Tiles.{words_of, not_same, line_of};
 ghost use Rattle.tile_diff.specs.Counts.{one_more, counted_if, row_counted, next_tile};
 
 // A line that is printed: a tile's column and row from 0, and the count of its differing words.
-#[derive(Drop)]
+#[derive(Clone, Copy)]
 pub struct Line {
     pub x: usize,
     pub y: usize,
@@ -13,7 +13,7 @@ pub struct Line {
 }
 
 // A tile that differs, by its number, with its line; or no more.
-#[derive(Drop)]
+#[derive(Clone, Copy)]
 pub enum Next {
     Tile(usize, Line),
     End,

@@ -8,7 +8,7 @@ ghost use Rattle.tile_diff.specs.Pictures.{tile_at, places_counted, lent_fault, 
 use crate::count::Next;
 
 // A tile that differs, with its line; n is 0 where there is none. The number is 01's.
-#[derive(Drop)]
+#[derive(Clone, Copy)]
 pub struct Found {
     pub number: u8,
     pub tile: usize,

@@ -3,14 +3,14 @@ ghost use Rattle.std.specs.Prelude.{◌≡◌};
 ghost use Rattle.tile_diff.specs.Pic.{pic_of, is_whole, sizes_judge, verdict_of};
 
 // What is known of a file: the size that its head says, and how many bytes were there. All 0 where there is no head.
-#[derive(Drop)]
+#[derive(Clone, Copy)]
 pub struct Pic {
     pub width: u16,
     pub height: u16,
     pub bytes: usize,
 }
 
-#[derive(Drop)]
+#[derive(Clone, Copy)]
 pub enum Verdict {
     Bad,
     Size,

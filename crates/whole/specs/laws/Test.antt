@@ -1,6 +1,6 @@
 -- Tests of signed numbers, as a branch leaves them, said of the numbers themselves.
 -- Assumes nothing.
-use Rattle.std.specs.Prelude.{◌≡◌, Bool, ◌<◌, ℤ}
+use Rattle.std.specs.Prelude.{◌≡◌, Bool, ℤ}
 use Rattle.std.proofs.Common.{subst, SFits, of_z, to_z, to_z-of_z}
 use Rattle.std.specs.Int.Signed.{lt_z}
 use Rattle.std.specs.Int.{Width}

@@ -1,0 +1,10 @@
+-- One `Calc`: the sum of two bounded numbers fits 32 bits.
+use mir.Syntax.{w32}
+use Rattle.whole.specs.Calc.{fits, val, arg, add}
+use Rattle.bands.proofs.plus.Goals as goal
+
+pub overflow_add-result : goal.overflow_add-result
+overflow_add-result c = fits (add (arg w32 c.requires.0 tt) (arg w32 c.requires.1 tt) tt)
+
+pub returns : goal.returns
+returns c = val (add (arg w32 c.requires.0 tt) (arg w32 c.requires.1 tt) tt)

@@ -1,0 +1,17 @@
+-- Eight bits or more are no clean tail (`tail_long`); fewer are one number, and it is 0 or not (`tail_got`).
+use Rattle.code.specs.laws.Read.{tail_long, tail_cut, tail_got}
+use native.Mathlib.Omega.{arith}
+use Rattle.code.proofs.read.clean_tail.Goals as goal
+
+pub returns-then-left-ge8 : goal.returns-then-left-ge8
+returns-then-left-ge8 c = tail_long c.args.s.now c.args.at c.requires.1 (omega arith)
+
+pub returns-in-Cut : goal.returns-in-Cut
+returns-in-Cut c =
+    tail_cut c.args.s.now c.args.at c.requires.1 c.number.result c.number.ensures c.in-Cut.is
+
+pub returns-in-Got : goal.returns-in-Got
+returns-in-Got c =
+    tail_got c.args.s.now c.args.at
+    c.requires.1 c.number.result _ _ (λ h. omega arith)
+    c.number.ensures c.in-Got.is

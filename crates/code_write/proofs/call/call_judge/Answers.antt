@@ -1,0 +1,17 @@
+-- `call_judge` meets its contract: each return is read off the row of `ask_fault`, the mode by what `is_mode` says.
+use mathlib.Core.Path.{refl, sym, ◌∙◌}
+use Rattle.whole.specs.laws.Row.{rows, passes, fails}
+use Rattle.code_write.specs.Write.{ask_fault}
+use Rattle.code_write.proofs.call.call_judge.Goals as goal
+
+pub returns-then-not-is_mode : goal.returns-then-not-is_mode
+unfolding ask_fault
+returns-then-not-is_mode c = fails _ _ _ _ (sym c.is_mode.ensures ∙ c.if-not-is_mode.true) refl
+
+pub returns-then-n-ne4096 : goal.returns-then-n-ne4096
+unfolding ask_fault
+returns-then-n-ne4096 c = passes _ _ _ _ (sym c.is_mode.ensures ∙ c.if-not-is_mode.false) (search rows)
+
+pub returns : goal.returns
+unfolding ask_fault
+returns c = passes _ _ _ _ (sym c.is_mode.ensures ∙ c.if-not-is_mode.false) (search rows)

@@ -1,0 +1,7 @@
+-- The whole list is the span of its places (`span_range`).
+use mathlib.Core.Path.{◌∙◌}
+use Rattle.code_write.specs.laws.Span.{span_range}
+use Rattle.code_write.proofs.call.in_range.Goals as goal
+
+pub returns : goal.returns
+returns c = c.within.ensures ∙ span_range _

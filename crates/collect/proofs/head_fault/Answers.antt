@@ -1,0 +1,38 @@
+-- `collect::head_fault` meets its contract: each return is a row of `head_fault`; the room that is left is judged in place of the sum.
+use Prim.Native.Nat.{◌+◌, ◌/◌, ◌%◌}
+use mathlib.Core.Path.{refl}
+use native.Mathlib.Omega.{arith}
+use borrow.Author.Tests.{le-leb, lt-leb}
+use Rattle.whole.specs.laws.Row.{rows, passes, fails}
+use Rattle.collect.specs.Collect.{head_fault}
+use Rattle.collect.proofs.head_fault.Goals as goal
+
+pub returns-then-kind-lt52416 : goal.returns-then-kind-lt52416
+unfolding head_fault
+returns-then-kind-lt52416 c = search rows
+
+pub returns-then-kind-gt52423 : goal.returns-then-kind-gt52423
+unfolding head_fault
+returns-then-kind-gt52423 c = search rows
+
+pub returns-then-size-lt6 : goal.returns-then-size-lt6
+unfolding head_fault
+returns-then-size-lt6 c = search rows
+
+pub returns-then-room-held : goal.returns-then-room-held
+unfolding head_fault
+returns-then-room-held c =
+    let s = c.args in
+    let kind = s.head % 65536 in
+    let size = s.head / 65536 in
+    passes _ _ _ _ (le-leb 0xCCC0 kind (omega arith)) (passes _ _ _ _ (le-leb kind 0xCCC7 (omega arith))
+    (passes _ _ _ _ (le-leb 6 size (omega arith)) (fails _ _ _ _ (lt-leb (s.held + size) s.room (omega arith)) refl)))
+
+pub returns : goal.returns
+unfolding head_fault
+returns c =
+    let s = c.args in
+    let kind = s.head % 65536 in
+    let size = s.head / 65536 in
+    passes _ _ _ _ (le-leb 0xCCC0 kind (omega arith)) (passes _ _ _ _ (le-leb kind 0xCCC7 (omega arith))
+    (passes _ _ _ _ (le-leb 6 size (omega arith)) (passes _ _ _ _ (le-leb (s.held + size) s.room (omega arith)) refl)))

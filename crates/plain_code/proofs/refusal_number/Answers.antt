@@ -1,0 +1,16 @@
+-- `refusal_number` meets its contract, by cases. Assumes nothing.
+use mathlib.Core.Path.{ap, sym}
+use Rattle.code.specs.ReadList.{refusal_number}
+use Rattle.plain_code.proofs.refusal_number.Goals as goal
+
+pub returns-in-Cut : goal.returns-in-Cut
+unfolding refusal_number
+returns-in-Cut c = sym (ap refusal_number c.in-Cut.is)
+
+pub returns-in-Range : goal.returns-in-Range
+unfolding refusal_number
+returns-in-Range c = sym (ap refusal_number c.in-Range.is)
+
+pub returns-in-Overrun : goal.returns-in-Overrun
+unfolding refusal_number
+returns-in-Overrun c = sym (ap refusal_number c.in-Overrun.is)

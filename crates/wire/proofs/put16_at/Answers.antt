@@ -1,0 +1,11 @@
+-- Two bytes at a place: the part lent comes back as the number's bytes, and the whole is patched with it (`patched`).
+use mathlib.Core.Path.{refl}
+use Rattle.wire.specs.laws.Le.{patched}
+use Rattle.wire.specs.Le.{bytes16}
+use Rattle.wire.proofs.put16_at.Goals as goal
+
+pub returns : goal.returns
+unfolding bytes16
+returns c =
+    let a = c.args in
+    patched a.out.now _ _ a.at 2 c.put16.ensures refl
