@@ -1,4 +1,4 @@
--- What the outside gave: which bytes a read gives, and which file a descriptor is, no contract of C's can say (the kit's `libc` and `os` promise nothing of
+-- What the outside gave: which bytes a read gives, and which file a descriptor is, no contract can say (the kit's `io` and `std` promise nothing of
 -- it). So both are words here that stay shut: nothing can be proved of them, and they come from two places only, the proofs of `files::open`
 -- (`as_opened`) and `files::read_at` (`as_read`), each of which makes the one call of which it speaks. Every other proof has them from there.
 use Rattle.std.specs.Prelude.{ℕ, List, ℤ, negsuc, Option}
