@@ -6,10 +6,10 @@ use Rattle.audit.proofs.run.Statement.{statement}
 use Rattle.audit.proofs.run.Tie as tie
 
 abbrev invariant_loop : tie.invariant_loop
-invariant_loop input₀ message₀ d₀ turns₀ input message d turns = length input ≡ length input₀
+invariant_loop rt input₀ message₀ d₀ turns₀ input message d turns = length input ≡ length input₀
 
 abbrev decreases_loop : tie.decreases_loop
-decreases_loop input₀ message₀ d₀ turns₀ input message d turns = turns
+decreases_loop rt input₀ message₀ d₀ turns₀ input message d turns = turns
 
 pub run_spec : {M : Type 1} → statement M
 run_spec =

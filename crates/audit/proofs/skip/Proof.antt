@@ -6,10 +6,10 @@ use Rattle.audit.proofs.skip.Statement.{statement}
 use Rattle.audit.proofs.skip.Tie as tie
 
 abbrev invariant_loop : tie.invariant_loop
-invariant_loop input₀ n from₀ left₀ input from left = length input ≡ length input₀
+invariant_loop rt input₀ n from₀ left₀ input from left = length input ≡ length input₀
 
 abbrev decreases_loop : tie.decreases_loop
-decreases_loop input₀ n from₀ left₀ input from left = left
+decreases_loop rt input₀ n from₀ left₀ input from left = left
 
 pub skip_spec : {M : Type 1} → statement M
 skip_spec =
