@@ -1,7 +1,7 @@
 -- Document 01, "Bands and the wavelet": what the writer makes of the wavelet's values.
 -- Assumes nothing.
 -- (01 is this project's scope document, 02 its change requests, 001 is MS-RDPRFX: README, "What 01 is".)
-use Rattle.std.specs.Prelude.{ℕ, zero, suc, ◌+◌, ◌-◌, ◌^◌, List, ◌++◌, ℤ, pos, ◌+ℤ◌, ◌-ℤ◌, take}
+use Rattle.std.specs.Prelude.{ℕ, zero, suc, ◌-◌, ◌^◌, List, ◌++◌, ℤ, pos, ◌+ℤ◌, ◌-ℤ◌, take}
 use Rattle.std.specs.Int.Signed.{shr_z}
 use Rattle.whole.specs.Tab.{at, table}
 use Rattle.bands.specs.Bands.{quant_at, ll3}

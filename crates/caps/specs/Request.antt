@@ -1,7 +1,7 @@
 -- 02's request Twelve over the calls, sentence by sentence: what a caller can rely on. `request_twelve` (specs/laws/Request) proves all of it.
 -- "Sessions and frames are unaffected": nothing of them is named in this crate, a reader lends no memory, a writer its output alone.
 -- (01 is this project's scope document, 02 its change requests, 001 is MS-RDPRFX: README, "What 01 is".)
-use Rattle.std.specs.Prelude.{ℕ, ◌+◌, ◌*◌, ◌%◌, ◌≤◌, ◌<◌, ◌≡◌, Bool, true, false, List, ◌∷◌, ◌++◌, ◌≢◌, eqb, length, take}
+use Rattle.std.specs.Prelude.{ℕ, ◌+◌, ◌*◌, ◌%◌, ◌≤◌, ◌<◌, ◌≡◌, Bool, true, List, ◌∷◌, ◌++◌, ◌≢◌, eqb, length, take}
 use Rattle.whole.specs.Row.{◌⇒◌∣◌}
 use Rattle.wire.specs.Le.{bytes16, bytes32}
 use Rattle.wire.specs.Wrote.{writing_number}

@@ -1,5 +1,5 @@
 -- Where the code's walk stands, step by step: what its functions promise.
-use Rattle.std.specs.Prelude.{ℕ, ◌+◌, Bool, List, leb, eqb, ltb, length, drop}
+use Rattle.std.specs.Prelude.{ℕ, ◌+◌, Bool, List, leb, eqb, length, drop}
 use Rattle.whole.specs.Row.{◌!◌⨾◌}
 use Rattle.wire.specs.Le.{byte_at, le16, le32}
 use Rattle.caps.specs.Walk.{size, Layout, Walked, Stopped, walk}

@@ -1,6 +1,6 @@
 -- 01's (p) cases of the component code, in one statement, proved of the definitions by computation.
 -- (01 is this project's scope document, 02 its change requests, 001 is MS-RDPRFX: README, "What 01 is".)
-use Rattle.std.specs.Prelude.{ℕ, ◌+◌, ◌≡◌, List, [], ◌∷◌, ℤ, pos, negsuc, length, replicate}
+use Rattle.std.specs.Prelude.{ℕ, ◌≡◌, List, [], ◌∷◌, ℤ, pos, negsuc, length, replicate}
 use Rattle.bits.specs.Bytes.{Written}
 use Rattle.code.specs.Fold.{unfold_z}
 use Rattle.code.specs.Read.{reading, read_fault, read_bits, read_into}

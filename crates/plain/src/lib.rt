@@ -1,6 +1,8 @@
 // Document 02's request Nine: a plain decoder for an auditor, from a component's code to a tile's pixels, as document 01 says it, to be held beside the
 // paper line by line: sums and scaling a place at a time, the wavelet by its indices, colour a pixel at a time in 64 bits. It calls no function of the
 // product; what both mean is said once, by the definitions that the contracts name, and specs/Same says that both give the same.
+#![tactic(auto)]
+
 ghost use Rattle.std.specs.Prelude.{◌≡◌, ℕ, ◌+◌, ◌*◌, ◌-◌, min, ◌<◌, ◌≤◌, ◌^◌, pos, ◌+ℤ◌, ◌*ℤ◌, length, drop};
 ghost use Rattle.whole.specs.laws.Near.{Near};
 ghost use Rattle.whole.specs.Tab.{at};

@@ -1,6 +1,8 @@
 // What other encoders' component codes are, by the sender that was named: FreeRDP's, with one byte 00 behind some, and those of MS-RDPRFX's own sample, with one value
 // too many and a byte 00. A component whose bytes mean a list for that sender is written as document 01's own code of that list; any other is kept byte for byte
 // (specs/Sent; specs/Request says what this makes true). 01's own bytes are read by the component reader; the 4,097 values by `longer`, whose elements are the filter's own.
+#![tactic(auto)]
+
 ghost use Rattle.std.specs.Prelude.{◌≡◌, ◌+◌, ◌≤◌, length};
 ghost use Rattle.wire.specs.Le.{patch};
 ghost use Rattle.tidy_code.specs.Sent.{is_sender, unclear, padded_meant, surplus_meant, others_meant, meant_by, list_meant, tidy_code, Answers, MeantRead};

@@ -1,6 +1,8 @@
 // One tile of document 01's frames, read: a component judged ("code, then LL3 sums and scaling"), its code to its coefficients and its 64 x 64
 // samples, and three lists of samples to the picture's words, of 16 or of 32 bits. Judging (the check pass) sums, scales and draws nothing; decoding (the drawing
 // pass) judges and answers nothing (document 02, request Eight).
+#![tactic(auto)]
+
 ghost use Rattle.std.specs.Prelude.{◌≡◌, ◌+◌, ◌*◌, ◌<◌, length};
 ghost use Rattle.bands.specs.Bands.{QuantGood};
 ghost use Rattle.tile_back.specs.Component.{component_fault, coefficients_of, samples_of, Checked};

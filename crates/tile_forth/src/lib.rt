@@ -1,5 +1,7 @@
 // A tile on the frame writer's way (document 01, "Colour": "The frame writer takes three bytes a pixel (R, G, B), all tiles row by row, edge tiles
 // filled by repeating the last column and row"): one component's samples, the wavelet forth, rounding and LL3's differences.
+#![tactic(auto)]
+
 ghost use Rattle.std.specs.Prelude.{◌≡◌, ◌+◌, ◌-◌, ◌*◌, ◌<◌, ◌≤◌, length};
 ghost use Rattle.whole.specs.laws.Near.{Near};
 ghost use Rattle.whole.specs.Tab.{table};

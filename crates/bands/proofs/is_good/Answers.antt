@@ -1,5 +1,5 @@
 -- Each turn keeps it, and at the end it is what is promised.
-use Prim.Native.Nat.{ℕ, ◌-◌}
+use Prim.Native.Nat.{ℕ}
 use mathlib.Core.Bool.{true}
 use mathlib.Core.Path.{◌≡◌, sym, refl, subst}
 use native.Mathlib.Omega.{arith}

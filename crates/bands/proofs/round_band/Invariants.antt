@@ -1,6 +1,6 @@
 -- Invariant (`Done`): the i places passed are rounded, the others are as they were; the measure is what is left.
-use Prim.Native.Nat.{ℕ, ◌≤◌, ◌-◌, ◌+◌, ◌^◌}
-use lib.IntN.{ℤ, ◌+ℤ◌}
+use Prim.Native.Nat.{ℕ, ◌≤◌, ◌-◌, ◌^◌}
+use lib.IntN.{◌+ℤ◌}
 use lib.Signed.{shr_z}
 use lib.ListN.{length}
 use Rattle.whole.specs.Tab.{at}

@@ -1,6 +1,6 @@
 -- `bands::scale_band` meets its contract. The loop's invariant: the places passed are scaled, the others are as they were. Assumes nothing.
 use Prim.Native.Nat.{ℕ, ◌-◌, ◌≤◌}
-use lib.IntN.{ℤ, ◌*ℤ◌}
+use lib.IntN.{◌*ℤ◌}
 use lib.ListN.{length}
 use Rattle.whole.specs.Tab.{at}
 use Rattle.bands.specs.laws.Part.{Done}

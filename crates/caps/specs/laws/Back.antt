@@ -1,6 +1,6 @@
 -- Every layout both ways: what is written is read back, and what is read is written again, byte for byte.
 -- Assumes nothing.
-use Rattle.std.specs.Prelude.{ℕ, zero, suc, ◌+◌, ◌*◌, ◌/◌, ◌%◌, ◌<◌, ◌≤◌, ◌≡◌, refl, Bool, true, false, List, [], ◌∷◌, ◌++◌, leb, eqb, length, drop}
+use Rattle.std.specs.Prelude.{ℕ, zero, suc, ◌+◌, ◌*◌, ◌/◌, ◌%◌, ◌<◌, ◌≤◌, ◌≡◌, refl, true, List, ◌++◌, leb, eqb}
 use Rattle.std.proofs.Common.{ap, sym, subst, ◌∙◌, append_assoc, ⊎_elim, arith, zero-add, eq-eqb, eqb-true, le-leb, leb-true}
 use Rattle.std.proofs.Math.Nat.{mod-add-div, add-mul-div_left, add-mul-mod_self_left}
 use Rattle.whole.specs.Row.{◌!◌⨾◌, ◌⇒◌∣◌}

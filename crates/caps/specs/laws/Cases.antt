@@ -7,7 +7,6 @@ use Rattle.wire.specs.Le.{bytes16, bytes32}
 use Rattle.wire.specs.Mode.{is_mode}
 use Rattle.caps.specs.Caps.{entry_of, two_entries, caps_with, entries_of, capset_of, block_of, caps_of, read_caps, two, GoodCaps}
 use Rattle.caps.specs.laws.ReadBack.{caps_back}
-use Rattle.caps.specs.declared.Entry.{Entry}
 use Rattle.caps.specs.declared.Caps.{Caps}
 use Rattle.caps.specs.declared.read.CapsReading.TheVariants.{Taken}
 

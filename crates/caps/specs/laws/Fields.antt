@@ -1,6 +1,6 @@
 -- Each layout at a field that is not what it should be: the fields before it are passed (`field_back`, `row_back`), and its row stops (`row_stops`).
 -- Assumes nothing.
-use Rattle.std.specs.Prelude.{ℕ, suc, ◌+◌, ◌*◌, ◌%◌, ◌≤◌, ◌<◌, ◌≡◌, refl, Bool, true, false, ◌≢◌, List, ◌∷◌, ◌++◌, leb, eqb}
+use Rattle.std.specs.Prelude.{ℕ, ◌+◌, ◌*◌, ◌%◌, ◌≤◌, ◌<◌, ◌≡◌, refl, Bool, true, false, ◌≢◌, List, ◌∷◌, ◌++◌, leb, eqb}
 use Rattle.std.proofs.Common.{ap, sym, ◌∙◌, arith, eq-eqb, ne_eqb, le-leb}
 use Rattle.whole.specs.Row.{◌!◌⨾◌, ◌⇒◌∣◌}
 use Rattle.whole.specs.laws.Row.{fails, case_no}
@@ -9,12 +9,11 @@ use Rattle.wire.specs.Mode.{is_mode}
 use Rattle.caps.specs.Walk.{spelled, Layout, gives, refuse, field, ◌then◌, Stopped, walk, ended}
 use Rattle.caps.specs.Caps.{Entries, entry, entry_of, no_entry, one_entry, two_entries, entries, capset, block, container, read_caps, GoodEntry}
 use Rattle.caps.specs.AckCap.{ack_cap, read_ack_cap}
-use Rattle.caps.specs.Ack.{ack, read_ack, GoodAck}
+use Rattle.caps.specs.Ack.{ack, read_ack}
 use Rattle.caps.specs.Request.{EntryRefuses, CapsetRefuses, BlockRefuses, ContainerRefuses, AckCapRefuses, AckRefuses}
 use Rattle.caps.specs.laws.Walk.{onward, walk_then, then_back, field_back, row_back}
 use Rattle.caps.specs.laws.Back.{entry_both}
 use Rattle.caps.specs.declared.Entry.{Entry}
-use Rattle.caps.specs.declared.Ack.{Ack}
 use Rattle.caps.specs.declared.walk.Width.TheVariants.{One, Two, Four}
 use Rattle.caps.specs.declared.read.CapsReading.TheVariants.{Taken, Refused}
 use Rattle.caps.specs.declared.read.AckCapReading.TheVariants.{Taken as TakenCap, Refused as RefusedCap}

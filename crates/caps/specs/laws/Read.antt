@@ -1,12 +1,11 @@
 -- Laws of the readers that branch: the entries, as many as are said.
 -- Assumes nothing.
-use Rattle.std.specs.Prelude.{ℕ, ◌+◌, ◌-◌, ◌≤◌, ◌<◌, ◌≡◌, refl, Bool, true, false, List, eqb}
+use Rattle.std.specs.Prelude.{ℕ, ◌≡◌, refl, List}
 use Rattle.std.proofs.Common.{ap, sym, ◌∙◌, eq-eqb, ne_eqb}
-use Rattle.whole.specs.Row.{◌⇒◌∣◌}
 use Rattle.whole.specs.laws.Row.{case_yes, case_no}
 use Rattle.caps.specs.Walk.{Layout, gives, ◌then◌}
 use Rattle.caps.specs.Step.{left}
-use Rattle.caps.specs.Caps.{entry, entries, Entries, absent, no_entry, one_entry, two_entries}
+use Rattle.caps.specs.Caps.{entry, entries, Entries, no_entry, one_entry, two_entries}
 use Rattle.caps.specs.laws.Step.{then_on}
 use Rattle.caps.specs.declared.walk.Step.{Step}
 use Rattle.caps.specs.declared.Entry.{Entry}

@@ -1,16 +1,16 @@
 -- Request Twelve's law over the definitions and over the calls: "Writing then reading gives the fields back, and any accepted bytes, written again from
 -- their fields, come out the same, flags that aren't judged included." And one answer and one content of lent memory for every input.
 -- Assumes nothing.
-use Rattle.std.specs.Prelude.{ℕ, zero, suc, ◌+◌, ◌*◌, ◌<◌, ◌≤◌, ◌≡◌, refl, true, false, List, [], ◌∷◌, length}
-use Rattle.std.proofs.Common.{ap, sym, subst₂, ◌∙◌, arith, eq-eqb, ne_eqb, le-leb}
+use Rattle.std.specs.Prelude.{ℕ, zero, suc, ◌<◌, ◌≤◌, ◌≡◌, refl, true, false, List, length}
+use Rattle.std.proofs.Common.{ap, sym, subst₂, ◌∙◌, arith, le-leb}
 use Rattle.whole.specs.Row.{◌⇒◌∣◌}
-use Rattle.whole.specs.laws.Row.{held, passes, case_yes, case_no, case_is, case_not}
+use Rattle.whole.specs.laws.Row.{held, passes}
 use Rattle.wire.specs.Le.{bytes16, bytes32}
 use Rattle.wire.specs.Wrote.{writing_number, Wrote}
 use Rattle.wire.specs.laws.Wrote.{answer_of, wrote_bytes, wrote_answer, wrote_once}
 use Rattle.wire.specs.declared.Writing.{Writing}
 use Rattle.wire.specs.declared.Writing.TheVariants.{Done}
-use Rattle.caps.specs.Walk.{Bytes, Layout, walk, ended, Both}
+use Rattle.caps.specs.Walk.{Bytes}
 use Rattle.caps.specs.Caps.{entries_over, entries_of, entries_in, capset_of, block_of, caps_with, container, read_caps, caps_of, modes_good, caps_fault}
 use Rattle.caps.specs.Caps.{GoodEntries, none, one, two, GoodCaps}
 use Rattle.caps.specs.AckCap.{ack_cap, read_ack_cap, ack_cap_of, ack_cap_fault, GoodAckCap}

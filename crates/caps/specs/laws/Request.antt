@@ -1,6 +1,6 @@
 -- All that specs/Request states is so.
 -- Assumes nothing.
-use Rattle.std.specs.Prelude.{ℕ, ◌+◌, ◌*◌, ◌<◌, ◌≡◌, refl, true, List, ◌∷◌, ◌++◌, leb, eqb, length, take}
+use Rattle.std.specs.Prelude.{ℕ, ◌+◌, ◌<◌, ◌≡◌, refl, true, List, ◌∷◌, ◌++◌, leb, eqb, length, take}
 use Rattle.std.proofs.Common.{ap, sym, ◌∙◌, arith, eq-eqb}
 use Rattle.std.proofs.lemmas.Bool.{lt-leb}
 use Rattle.whole.specs.Row.{◌!◌⨾◌}

@@ -4,13 +4,13 @@ use Rattle.std.specs.Prelude.{ℕ, zero, suc, ◌+◌, ◌-◌, ◌≤◌, ◌<�
 use Rattle.std.proofs.Math.Path.{refl, ap}
 use Rattle.std.proofs.Common.{sym, ◌∙◌, arith, add-zero, drop-drop}
 use Rattle.std.proofs.Math.Bool.{true, false}
-use borrow.Author.Tests.{le-leb, lt-leb, leb-true, leb-false, eq-eqb, ne_eqb, eqb-true}
+use borrow.Author.Tests.{le-leb, lt-leb, leb-true, leb-false, eq-eqb, ne_eqb}
 use Rattle.std.proofs.Math.Dec.{leb}
 use Rattle.std.proofs.Math.ListN.{length, length-drop}
-use Rattle.whole.specs.Row.{◌!◌⨾◌, ◌⇒◌∣◌}
+use Rattle.whole.specs.Row.{◌!◌⨾◌}
 use Rattle.whole.specs.laws.Row.{fails, passes}
 use Rattle.caps.specs.laws.Number.{byte_in, le16_in, le32_in}
-use Rattle.caps.specs.Walk.{size, most, number, Layout, gives, refuse, field, ◌then◌, Walked, Came, Stopped, walk, ended}
+use Rattle.caps.specs.Walk.{size, most, number, Layout, gives, refuse, field, ◌then◌, Stopped, walk, ended}
 use Rattle.caps.specs.laws.Walk.{onward, walk_then}
 use Rattle.caps.specs.Step.{number_at, stands, start, next_of, judge_of, fixed_of, finish_of, left}
 use Rattle.caps.specs.declared.walk.Width.{Width}

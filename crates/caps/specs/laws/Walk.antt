@@ -1,8 +1,8 @@
 -- Laws of the walk, for any layout: what one field comes to, both ways; a row; one layout behind another; the end of the message.
 -- Assumes nothing.
-use Rattle.std.specs.Prelude.{ℕ, suc, ◌+◌, ◌*◌, ◌<◌, ◌≤◌, ◌≡◌, Bool, true, false, leb, eqb, length, get_or, drop}
+use Rattle.std.specs.Prelude.{ℕ, suc, ◌+◌, ◌<◌, ◌≤◌, ◌≡◌, Bool, true, false, leb, eqb, length, get_or, drop}
 use Rattle.std.proofs.Math.Path.{refl, ap, ap₂}
-use Rattle.std.proofs.Common.{sym, subst, ◌∙◌, arith, add-one, le-leb, leb-true, eqb-true, get_or-drop, get_or-append-add}
+use Rattle.std.proofs.Common.{sym, subst, ◌∙◌, arith, le-leb, leb-true, eqb-true, get_or-drop, get_or-append-add}
 use mathlib.Core.List.{List, [], ◌∷◌, ◌++◌, append-nil}
 use Rattle.whole.specs.Row.{◌!◌⨾◌}
 use Rattle.whole.specs.laws.Row.{held, passes}

@@ -19,7 +19,7 @@ module _ (zs : List ℤ) (i : ℕ) (r : InRange (map fold_z zs)) where
 
   -- what the machine reads of a number in range is that number
   same : to_z w32 (of_z w32 (get_or zs i (pos 0))) ≡ get_or zs i (pos 0)
-  same = to_z-of_z (record { sfits = omega (arith, fold_mag (get_or zs i (pos 0)) small) })
+  same = to_z-of_z {w = w32} (record { sfits = omega (arith, fold_mag (get_or zs i (pos 0)) small) })
 
   pub read_mag : mag (to_z w32 (of_z w32 (get_or zs i (pos 0)))) ≤ 32767
   read_mag = rw same (fold_mag (get_or zs i (pos 0)) small)

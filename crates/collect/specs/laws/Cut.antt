@@ -6,7 +6,7 @@ use Rattle.std.proofs.Math.ListN.{get_or-append, get_or-eq_default}
 use Rattle.whole.specs.laws.Row.{case_yes, case_no}
 use Rattle.collect.specs.declared.Collected.{Collected}
 use Rattle.collect.specs.declared.Collected.TheVariants.{More, Header, Frame, Refused}
-use Rattle.collect.specs.Collect.{State, Step, HandOver, Part, state, step, took, byte, collector_made, collector_fault, goes_on, walk, collect_of}
+use Rattle.collect.specs.Collect.{State, Step, HandOver, Part, step, took, byte, collector_made, collector_fault, goes_on, walk, collect_of}
 use Rattle.collect.specs.Collect.{handed_on, parts_of, feed, handed}
 use Rattle.collect.specs.laws.Made.{by_case}
 use Rattle.collect.specs.laws.Byte.{Says, Right, byte_right}

@@ -6,7 +6,6 @@ use Rattle.std.proofs.lemmas.List.{length-replicate}
 use Rattle.wire.specs.Le.{patch}
 use Rattle.wire.specs.laws.Le.{patch_length}
 use Rattle.whole.specs.Row.{◌⇒◌∣◌}
-use Rattle.whole.specs.laws.Row.{held}
 use Rattle.collect.specs.declared.Collector.{Collector}
 use Rattle.collect.specs.declared.Collected.TheVariants.{More}
 use Rattle.collect.specs.Collect.{HandOver, in_frame, waiting, fresh, gathering, refusing, head_bytes, head_fault, part_after, state, step, took, settled}

@@ -1,5 +1,5 @@
 -- All that specs/Request states is so.
-use Rattle.std.specs.Prelude.{ℕ, zero, suc, ◌+◌, ◌≡◌, Bool, true, false, List, [], ◌++◌, leb, length, take}
+use Rattle.std.specs.Prelude.{ℕ, zero, suc, ◌≡◌, Bool, true, false, List, [], ◌++◌, leb, length, take}
 use Rattle.std.proofs.Common.{ap, sym, ◌∙◌, subst, zero-add, take_at}
 use Rattle.whole.specs.Row.{◌!◌⨾◌, ◌⨟◌}
 use Rattle.collect.specs.declared.Collector.{Collector}

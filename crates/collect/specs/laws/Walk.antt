@@ -1,5 +1,5 @@
 -- The walk over a call's bytes: it goes on where a part of the bytes leads, byte by byte or by as many bytes of a block as are there.
-use Rattle.std.specs.Prelude.{ℕ, ◌+◌, ◌-◌, ◌≤◌, ◌<◌, ◌≡◌, refl, Bool, true, false, List, [], ◌∷◌, ◌++◌, length, drop}
+use Rattle.std.specs.Prelude.{ℕ, ◌+◌, ◌≤◌, ◌<◌, ◌≡◌, refl, Bool, true, false, List, [], ◌∷◌, ◌++◌, length, drop}
 use Rattle.std.proofs.Common.{ap, ap₂, sym, ◌∙◌, true≢false, arith, drop_of_length-le, ne_eqb, lt-ltb}
 use Rattle.wire.specs.Le.{patch}
 use Rattle.wire.specs.laws.Le.{patch_next, patch_length}

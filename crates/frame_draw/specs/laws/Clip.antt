@@ -4,7 +4,7 @@ use Rattle.std.proofs.Common.{div-add-mod', ap, sym, ◌∙◌, subst, inl, inr,
 use Rattle.std.proofs.Math.Path.{subst⁻¹}
 use Rattle.std.specs.Int.Signed.{non_neg, nat_abs-le}
 use Rattle.std.specs.Int.{w32, w64}
-use Rattle.std.proofs.Math.IntN.{-ℤ-+ℤ_cancel}
+use Rattle.std.proofs.Math.IntN.{ -ℤ-+ℤ_cancel}
 use Rattle.whole.specs.Calc.{Calc, val, arg, lit, add, sub, cast}
 use Rattle.whole.specs.laws.Near.{Near}
 use Rattle.whole.specs.Tab.{at}

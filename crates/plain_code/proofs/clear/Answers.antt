@@ -1,7 +1,6 @@
 -- `clear` meets its contract: the places passed are 0. Assumes nothing.
 use mathlib.Core.Path.{refl, ◌∙◌}
 use native.Mathlib.Omega.{arith}
-use Prim.Native.Nat.{◌-◌}
 use lib.IntN.{pos}
 use Rattle.whole.specs.laws.Fill.{fill_more, fill_length, fill_all}
 use Rattle.plain_code.proofs.clear.Goals as goal

@@ -1,7 +1,7 @@
 -- What the loop keeps, and what falls with each turn.
 use mathlib.Core.Path.{◌≡◌}
 use mathlib.Core.List.{◌++◌}
-use Prim.Native.Nat.{◌≤◌, ◌-◌, ◌+◌}
+use Prim.Native.Nat.{◌≤◌, ◌-◌}
 use lib.ListN.{length, replicate, drop}
 use lib.IntN.{pos}
 use Rattle.plain_code.proofs.clear.Given as goal

@@ -1,7 +1,5 @@
 -- `read_code` meets its contract. The loop keeps `Going`: what is read and stored so far is the walk of the definition. Assumes nothing.
-use Prim.Native.Nat.{◌-◌}
 use mathlib.Core.Path.{refl, sym, ap, ◌∙◌}
-use mathlib.Core.Logic.{⊎_elim}
 use native.Mathlib.Omega.{arith}
 use lib.ListN.{length, length-set}
 use Rattle.bits.specs.Bits.{bits_of}
@@ -12,6 +10,7 @@ use Rattle.code.specs.laws.Filling.{filling_fine, filling_end, turn_bad}
 use Rattle.code.specs.laws.Read.{code_bad, code_done, code_tail}
 use Rattle.plain_code.specs.laws.Turn.{going_start, going_zeros, going_one, going_lone, going_two}
 use Rattle.plain_code.proofs.read_code.Goals as goal
+use Rattle.plain_code.proofs.read_code.Goals.{then-i-lt4095, else-i-lt4095}
 
 pub loop-i-init : goal.loop-i-init
 loop-i-init c =
@@ -236,13 +235,13 @@ loop-i-preserved c =
     let loop-test = c.loop-i-test in
     let loop = c.loop-i in
     let args = c.args in
-    ⊎_elim
-    (λ w. rw w.2 (going_two args.rlgr3 args.s.now loop.list loop.c loop.i loop.invariant loop-test.true _ _ _ _
-    (sym c.in-Two.is ∙ element.ensures) c.onward-i-in-Two.ensures _ (same_bits _ _ (record { sfits = unfolded2.type_inv }) unfolded2.ensures) _
-    (same_bits _ _ (record { sfits = w.1.ok }) w.1.ensures) w.0.taken).0)
-    (λ w. rw w.1 (going_lone args.rlgr3 args.s.now loop.list loop.c loop.i loop.invariant loop-test.true _ _ _ _
-    (sym c.in-Two.is ∙ element.ensures) c.onward-i-in-Two.ensures _ (same_bits _ _ (record { sfits = unfolded2.type_inv }) unfolded2.ensures) w.0.left).0)
-    c.if-i-lt4095.branch
+    elim c.if-i-lt4095.branch [
+      | then-i-lt4095 w ↦ rw w.list-is (going_two args.rlgr3 args.s.now loop.list loop.c loop.i loop.invariant loop-test.true _ _ _ _
+          (sym c.in-Two.is ∙ element.ensures) c.onward-i-in-Two.ensures _ (same_bits _ _ (record { sfits = unfolded2.type_inv }) unfolded2.ensures) _
+          (same_bits _ _ (record { sfits = w.unfolded-then-i-lt4095.type_inv }) w.unfolded-then-i-lt4095.ensures) w.if-i-lt4095.true).0
+      | else-i-lt4095 w ↦ rw w.list-is (going_lone args.rlgr3 args.s.now loop.list loop.c loop.i loop.invariant loop-test.true _ _ _ _
+          (sym c.in-Two.is ∙ element.ensures) c.onward-i-in-Two.ensures _ (same_bits _ _ (record { sfits = unfolded2.type_inv }) unfolded2.ensures) w.if-i-lt4095.false).0
+    ]
 
 pub clean_tail-requires : goal.clean_tail-requires
 clean_tail-requires c =

@@ -1,5 +1,5 @@
 -- The bits of a number counted by halving it: n times so far, and this is left (`Halved`); at the start, after a turn, at the end, and never above 64.
-use Rattle.std.specs.Prelude.{ℕ, ◌+◌, ◌/◌, ◌^◌, ◌≤◌, ◌<◌, ◌≡◌, refl}
+use Rattle.std.specs.Prelude.{ℕ, ◌+◌, ◌/◌, ◌^◌, ◌≤◌, ◌<◌, ◌≡◌}
 use Rattle.std.proofs.Common.{ap, ◌∙◌, arith}
 use Rattle.code.specs.Code.{size, size_f}
 use Rattle.code.specs.laws.Steps.{size_half, size_end, size_fit}

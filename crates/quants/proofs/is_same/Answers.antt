@@ -1,5 +1,4 @@
 -- `quants::is_same` meets its contract: the answer is that of what is left of both sets. The measure is what is left of ten. Assumes nothing.
-use Prim.Native.Nat.{◌-◌}
 use mathlib.Core.Path.{◌≡◌, refl}
 use native.Mathlib.Omega.{arith}
 use borrow.Author.Rules.{rules}

@@ -18,7 +18,7 @@ use Rattle.code.specs.laws.Fold.{fold_unfold, map_unfold}
 use Rattle.code.specs.Code.{code_of}
 use Rattle.code.specs.ReadList.{state_at, Walked, whole, bad, elem_of, walk, read_list}
 use Rattle.code.specs.Read.{clean}
-use Rattle.code.specs.Fill.{stored_of, Filling}
+use Rattle.code.specs.Fill.{Filling}
 use Rattle.code.specs.laws.Filling.{filling_start, filling_next, filling_bad}
 use Rattle.code.specs.laws.List.{taken}
 use Rattle.code.specs.declared.element.State.{State}

@@ -1,17 +1,16 @@
 -- Reading what some bytes mean: one law for each way out of each function, in plain variables.
-use Rattle.std.specs.Prelude.{ℕ, zero, suc, ◌+◌, ◌-◌, ◌%◌, ◌≤◌, ◌<◌, ◌≡◌, Bool, true, false, ltb, leb, eqb, ℤ, length, take, drop, get_or}
+use Rattle.std.specs.Prelude.{ℕ, zero, suc, ◌+◌, ◌-◌, ◌%◌, ◌≤◌, ◌<◌, ◌≡◌, Bool, true, false, eqb, ℤ, length, take, get_or}
 use Rattle.std.proofs.Math.Path.{refl}
 use Rattle.std.proofs.Common.{sym, ap, subst, ◌∙◌, arith}
-use mathlib.Core.List.{List, []}
+use mathlib.Core.List.{List}
 use borrow.Author.Tests.{le-leb, lt-leb, lt-ltb, le-ltb, eq-eqb, ne_eqb}
 use Rattle.std.proofs.Math.Seq.{take-length}
-use Rattle.whole.specs.Row.{◌!◌⨾◌}
 use Rattle.whole.specs.laws.Row.{passes, fails, case_yes, case_no}
 use Rattle.wire.specs.Mode.{is_mode}
 use Rattle.wire.specs.Le.{patch}
 use Rattle.bits.specs.Bits.{bits_of}
 use Rattle.code.specs.ReadList.{read_list}
-use Rattle.code.specs.Read.{shell_fault, read_fault, read_bits, decoded, reading_number, reading_bits, read_into, ComponentRead}
+use Rattle.code.specs.Read.{shell_fault, read_fault, read_bits, decoded, reading_number, reading_bits, ComponentRead}
 use Rattle.code.specs.laws.Read.{read_number, read-bits, into_decoded}
 use Rattle.code.specs.declared.read.Reading.{Reading}
 use Rattle.code_write.specs.Write.{bytes_of}

@@ -1,6 +1,6 @@
 -- What is promised of a tidied code, proved: what means a list is one of its two forms and nothing else (laws/Form), so that two lists share no form; and the
 -- code of the list meant is never longer than what came, since the sample's form is the code of one value more (`one_behind`).
-use Rattle.std.specs.Prelude.{ℕ, ◌+◌, ◌-◌, ◌*◌, ◌≤◌, ◌≡◌, refl, Bool, false, ◌⊎◌, List, [], ◌∷◌, ◌++◌, map, eqb, ℤ, length, replicate}
+use Rattle.std.specs.Prelude.{ℕ, ◌*◌, ◌≤◌, ◌≡◌, refl, Bool, false, ◌⊎◌, List, [], ◌∷◌, ◌++◌, map, eqb, ℤ, length, replicate}
 use Rattle.std.proofs.Common.{sym, ◌∙◌, inl, inr, arith, length-append}
 use Rattle.std.proofs.Math.Path.{ap, subst}
 use Rattle.whole.specs.Among.{Among, among}

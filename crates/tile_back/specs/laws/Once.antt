@@ -1,6 +1,6 @@
 -- The promise of a row of words leaves one list.
 -- Assumes nothing.
-use Rattle.std.specs.Prelude.{ℕ, ◌<◌, ◌≡◌, List, ℤ, length}
+use Rattle.std.specs.Prelude.{ℕ, ◌<◌, ◌≡◌, List, ℤ}
 use Rattle.std.proofs.Common.{sym, ◌∙◌, subst, ext_get_or}
 use Rattle.tile_back.specs.Word.{WordsRow}
 

@@ -1,5 +1,5 @@
 -- The row pass forth on plain lists: a row into its low and its high half, which stand in two bands of one list.
-use Rattle.std.specs.Prelude.{◌≡◌, refl, List, ◌≢◌, ℕ, ◌+◌, ◌*◌, ◌-◌, ◌<◌, ℤ, pos, length, set}
+use Rattle.std.specs.Prelude.{◌≡◌, refl, List, ◌≢◌, ℕ, ◌+◌, ◌*◌, ◌<◌, ℤ, pos, length, set}
 use Rattle.std.proofs.Common.{sym, ◌∙◌, ap, subst, not-suc-le-zero, arith, length-set, get_or-set_other, below_more}
 use Rattle.whole.specs.laws.Put.{put_new, put_old}
 use Rattle.whole.specs.Tab.{at}

@@ -39,18 +39,17 @@ fits : (c : After-finish-number) →
     × ((acked c).compression < 256)
     × ((acked c).compressed < 65536)
     × ((acked c).frame < 4294967296)
-fits c =
-    (
-      omega (arith, c.next-kind.ensures.1),
-      c.next-source.ensures.1,
-      c.next-share.ensures.1,
-      c.next-pad.ensures.1,
-      c.next-stream.ensures.1,
-      c.next-uncompressed.ensures.1,
-      c.next-compression.ensures.1,
-      c.next-compressed.ensures.1,
-      c.next-frame.ensures.1,
-    )
+fits c = (
+  omega (arith, c.next-kind.ensures.1),
+  c.next-source.ensures.1,
+  c.next-share.ensures.1,
+  c.next-pad.ensures.1,
+  c.next-stream.ensures.1,
+  c.next-uncompressed.ensures.1,
+  c.next-compression.ensures.1,
+  c.next-compressed.ensures.1,
+  c.next-frame.ensures.1,
+)
 
 walked : (c : After-finish-number) →
     let m = c.args.m.now in

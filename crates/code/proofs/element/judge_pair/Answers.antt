@@ -1,6 +1,5 @@
 -- One law for each way out, in the order of the tests: above g, a half too large, no place for the second, and the pair.
 use mathlib.Core.Path.{sym}
-use mathlib.Core.Logic.{⊎_elim}
 use native.Mathlib.Omega.{arith}
 use Rattle.code.specs.laws.Steps.{judge_above, judge_first, judge_second, judge_lone, judge-pair}
 use Rattle.code.proofs.element.judge_pair.Goals as goal

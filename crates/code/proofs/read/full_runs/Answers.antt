@@ -1,10 +1,8 @@
 -- Each turn keeps it, and at the end it is what is promised.
 use Prim.Native.Nat.{◌+◌, ◌-◌, ◌/◌}
 use mathlib.Core.Path.{◌≡◌}
-use mathlib.Core.Logic.{⊎_elim}
 use native.Mathlib.Omega.{arith}
 use borrow.Author.Rules.{rules}
-use borrow.Author.Tests.{ltb-true, ltb-false}
 use Rattle.bits.specs.laws.Gr.{shift_one}
 use Rattle.code.specs.laws.Quick.{leap_again, leap_done}
 use Rattle.code.proofs.read.full_runs.Goals as goal

@@ -1,5 +1,6 @@
 -- The list's code from a clean pen (`put_ready`), then the last byte (`finish_ready`): a patch of the component's bytes (`put_closed`).
 use native.Mathlib.Omega.{arith}
+use borrow.Author.Rules.{rules}
 use Rattle.code_write.specs.laws.Write.{range_folded, put_ready, finish_ready, put-end, put_closed}
 use Rattle.code_write.proofs.call.put_component.Goals as goal
 
@@ -30,6 +31,6 @@ returns c =
     let p = c.put_list-q in
     let f = c.finish in (
       put_closed a.mode a.list.now a.out.now a.at c.requires.2 p.new.out p.result p.ensures f.new.out f.result f.ensures
-          (λ i. omega (arith, c.type_inv.out i)) (λ i. omega (arith, c.type_inv.out i)),
+          (λ i. search rules) (λ i. omega (arith, c.type_inv.out i)),
       put-end a.mode a.list.now a.out.now a.at c.requires.2 p.new.out p.result p.ensures,
     )

@@ -26,7 +26,7 @@ loop-i-preserved c =
     let zs = c.args.list.now in
     let least = to_z w32 (of_z w32 a.least) in
     let most = to_z w32 (of_z w32 a.most) in
-    let e = from_read (get_or zs l.i (pos 0)) least most _ c.between-arg-1.given c.between.ensures in
+    let e = from_read (get_or zs l.i (pos 0)) least most _ (omega arith) c.between.ensures in
     ap (λ (b : Bool). b && all_from least most (take (a.to - (l.i + 1)) (drop (l.i + 1) zs))) c.both-good.ensures
     ∙ sym (span_next least most zs l.i a.to l.good _ c.loop-i-test.true c.requires e) ∙ l.invariant
 

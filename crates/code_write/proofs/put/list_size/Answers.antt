@@ -1,5 +1,4 @@
 -- Each turn keeps it, and at the end it is what is promised.
-use Prim.Native.Nat.{◌-◌}
 use native.Mathlib.Omega.{arith}
 use Rattle.code_write.specs.laws.Writing.{sizing_start, sizing_turn, sizing_few, sizing_next, sizing_end}
 use Rattle.code_write.proofs.put.list_size.Goals as goal

@@ -1,5 +1,4 @@
 -- Each turn keeps it, and at the end it is what is promised.
-use Prim.Native.Nat.{◌-◌}
 use mathlib.Core.Path.{◌∙◌}
 use native.Mathlib.Omega.{arith}
 use Rattle.code_write.specs.laws.Writing.{writing_start, writing_stands, writing_onward, writing_further, writing_end, writing_room}

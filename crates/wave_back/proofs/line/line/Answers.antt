@@ -13,9 +13,9 @@ use Rattle.wave_back.specs.laws.Line.{pair_put, line_is, odd_step, even_step, ev
 use Rattle.wave_back.proofs.line.line.Goals as goal
 use Rattle.wave_back.proofs.line.line.Goals.{After-even-y, At-loop-j}
 
-x_near : (s : At-loop-j) → Near 536870913 (to_z w32 s.loop-j.x)
+x_near : (s : At-loop-j) → Near 536870913 (to_z w32 s.loop-j.x-bits)
 x_near s =
-    let p = s.requires.1 in
+    let p = s.requires.all_near in
     subst (Near 536870913) (sym s.loop-j.invariant.3) (even_near _ _ s.loop-j.j (p.0.all _) (p.1.all _) (p.1.all _))
 
 y_is :
@@ -24,7 +24,7 @@ y_is :
     (at c.args.hi.now)
     (c.loop-j.j + 1)
 y_is c =
-    let p = c.requires.1 in
+    let p = c.requires.all_near in
     let hi = c.args.hi.now in
     let e : c.loop-j.j ≡ c.loop-j.j + 1 - 1 = omega arith in
     even_step _ _ (c.loop-j.j + 1) c.even-y.ensures (back w32 (p.0.all _) tt) (back w32 (p.1.all c.loop-j.j) tt ∙ ap (at hi) e)
@@ -32,7 +32,7 @@ y_is c =
 
 y_near : (c : After-even-y) → Near 536870913 c.even-y.result
 y_near c =
-    let p = c.requires.1 in
+    let p = c.requires.all_near in
     subst (Near 536870913) (sym (y_is c)) (even_near _ _ _ (p.0.all _) (p.1.all _) (p.1.all _))
 
 pub overflow_sub-last : goal.overflow_sub-last
@@ -48,7 +48,7 @@ pub bounds-hi-0-2 : goal.bounds-hi-0-2
 bounds-hi-0-2 c = omega arith
 
 pub even-x-requires : goal.even-x-requires
-even-x-requires c = let p = c.requires.1 in (back_near w32 (p.0.all _) tt, back_near w32 (p.1.all _) tt, back_near w32 (p.1.all _) tt)
+even-x-requires c = let p = c.requires.all_near in (back_near w32 (p.0.all _) tt, back_near w32 (p.1.all _) tt, back_near w32 (p.1.all _) tt)
 
 pub loop-j-init : goal.loop-j-init
 loop-j-init c = (
@@ -56,8 +56,8 @@ loop-j-init c = (
   omega arith,
   refl,
   back_ok w32 c.even-x.result c.even-x.type_inv
-      ∙ even_step _ _ 0 c.even-x.ensures (back w32 (c.requires.1.0.all 0) tt)
-      (back w32 (c.requires.1.1.all 0) tt) (back w32 (c.requires.1.1.all 0) tt),
+      ∙ even_step _ _ 0 c.even-x.ensures (back w32 (c.requires.all_near.0.all 0) tt)
+      (back w32 (c.requires.all_near.1.all 0) tt) (back w32 (c.requires.all_near.1.all 0) tt),
   record { evens = λ n h. absurd (not-suc-le-zero h); odds = λ n h. absurd (not-suc-le-zero h) },
 )
 
@@ -86,7 +86,7 @@ pub bounds-hi-j-in-loop-j : goal.bounds-hi-j-in-loop-j
 bounds-hi-j-in-loop-j c = omega arith
 
 pub even-y-requires : goal.even-y-requires
-even-y-requires c = let p = c.requires.1 in (back_near w32 (p.0.all _) tt, back_near w32 (p.1.all _) tt, back_near w32 (p.1.all _) tt)
+even-y-requires c = let p = c.requires.all_near in (back_near w32 (p.0.all _) tt, back_near w32 (p.1.all _) tt, back_near w32 (p.1.all _) tt)
 
 pub offset_bounds-hi-j-in-loop-j-2 : goal.offset_bounds-hi-j-in-loop-j-2
 offset_bounds-hi-j-in-loop-j-2 c = omega arith
@@ -96,7 +96,7 @@ bounds-hi-j-in-loop-j-2 c = omega arith
 
 pub odd_along-z-requires : goal.odd_along-z-requires
 odd_along-z-requires c = (
-  back_near w32 (c.requires.1.1.all _) tt,
+  back_near w32 (c.requires.all_near.1.all _) tt,
   x_near (goal.at.odd_along-z-requires c).At-loop-j,
   back_near w32 (y_near (goal.at.odd_along-z-requires c).After-even-y) tt,
 )
@@ -142,7 +142,7 @@ loop-j-preserved c =
           c.loop-j.invariant.3
           (back_ok w32 c.odd_along-z.result c.odd_along-z.type_inv
           ∙ odd_step row_avg (length lo) (at hi) (even_at (at lo) (at hi)) j c.odd_along-z.ensures
-          (back w32 (c.requires.1.1.all j) tt)
+          (back w32 (c.requires.all_near.1.all j) tt)
           c.loop-j.invariant.3
           (back_ok w32 c.even-y.result c.even-y.type_inv ∙ y_is (goal.at.loop-j-preserved c).After-even-y ∙ ap (even_at (at lo) (at hi)) e))
           c.loop-j.invariant.4,
@@ -155,7 +155,11 @@ pub bounds-hi-j-2 : goal.bounds-hi-j-2
 bounds-hi-j-2 c = omega arith
 
 pub odd_along-z-requires-2 : goal.odd_along-z-requires-2
-odd_along-z-requires-2 c = (back_near w32 (c.requires.1.1.all _) tt, x_near (goal.at.odd_along-z-requires-2 c).At-loop-j, x_near (goal.at.odd_along-z-requires-2 c).At-loop-j)
+odd_along-z-requires-2 c = (
+  back_near w32 (c.requires.all_near.1.all _) tt,
+  x_near (goal.at.odd_along-z-requires-2 c).At-loop-j,
+  x_near (goal.at.odd_along-z-requires-2 c).At-loop-j,
+)
 
 pub overflow_mul-x-2 : goal.overflow_mul-x-2
 overflow_mul-x-2 c = omega arith
@@ -191,7 +195,7 @@ returns c =
     pair_put _ _ c.loop-j.out j _ _ (omega arith) c.loop-j.invariant.3
     (back_ok w32 c.odd_along-z-2.result c.odd_along-z-2.type_inv
     ∙ odd_step row_avg (length lo) (at hi) (even_at (at lo) (at hi)) j c.odd_along-z-2.ensures
-    (back w32 (c.requires.1.1.all _) tt) c.loop-j.invariant.3
+    (back w32 (c.requires.all_near.1.all _) tt) c.loop-j.invariant.3
     (c.loop-j.invariant.3 ∙ ap (even_at (at lo) (at hi)) e))
     c.loop-j.invariant.4 in
     line_is row_avg (length lo) (at lo) (at hi) _ (simp length-set (omega arith)) (λ n h. w.evens n (omega arith)) (λ n h. w.odds n (omega arith))

@@ -83,14 +83,14 @@ line-requires c =
     let ph : length (take (r * n + n - r * n) (drop (r * n) c.args.hi.now)) ≡ r * n + n - r * n =
     part_length c.args.hi.now (r * n) (r * n + n) (omega arith) (omega (arith, room (goal.at.line-requires c).In-loop-r)) in
     let po : length (take (r * (2 * n) + 2 * n - r * (2 * n)) (drop (r * (2 * n)) c.loop-r.out)) ≡ r * (2 * n) + 2 * n - r * (2 * n) = part_length
-    c.loop-r.out (r * (2 * n)) (r * (2 * n) + 2 * n) (omega arith) (omega (arith, room (goal.at.line-requires c).In-loop-r)) in (
-      (omega arith, ph ∙ sym pl, omega arith),
-      (
+    c.loop-r.out (r * (2 * n)) (r * (2 * n) + 2 * n) (omega arith) (omega (arith, room (goal.at.line-requires c).In-loop-r)) in record {
+      in_bounds = (omega arith, ph ∙ sym pl, omega arith);
+      all_near = (
         part_near c.args.lo.now (r * n) (r * n + n - r * n) c.requires.5,
         part_near c.args.hi.now (r * n)
             (r * n + n - r * n) c.requires.6,
-      ),
-    )
+      );
+    }
 
 pub overflow_add-r : goal.overflow_add-r
 overflow_add-r c = omega arith
@@ -101,7 +101,7 @@ loop-r-smaller c = omega arith
 pub loop-r-preserved : goal.loop-r-preserved
 loop-r-preserved c = (
   omega arith,
-  omega (arith, c.out-1.given),
+  omega arith,
   turn c.args.n c.loop-r.r c.args.lo.now c.args.hi.now c.loop-r.out c.line.new.out
       c.loop-r-test.true c.requires.2 c.requires.3 (omega arith) c.line.ensures
       c.loop-r.invariant.2,

@@ -1,5 +1,4 @@
 -- Each turn keeps it, and at the end it is what is promised.
-use Prim.Native.Nat.{◌-◌}
 use mathlib.Core.Path.{refl}
 use native.Mathlib.Omega.{arith}
 use Rattle.wave_back.specs.laws.Column.{own, columns_are}
@@ -11,7 +10,7 @@ pub pair-requires : goal.pair-requires
 pair-requires c =
     let p = c.requires in
     let n = c.args.n in
-    ((p.1, omega arith, in_width n p.5 p.2, in_width n p.5 p.3, p.4), (omega arith, refl, omega arith, refl))
+    record { n_bound = (p.1, omega arith, in_width n p.5 p.2, in_width n p.5 p.3, p.4); r_lt_n = (omega arith, refl, omega arith, refl) }
 
 pub loop-r-init : goal.loop-r-init
 loop-r-init c =
@@ -31,7 +30,7 @@ pair-requires-in-loop-r c =
     let p = c.requires in
     let n = c.args.n in
     let l = c.loop-r.invariant in
-    ((p.1, omega arith, in_width n p.5 p.2, in_width n p.5 l.long, p.4), (omega arith, refl, omega arith, omega arith))
+    record { n_bound = (p.1, omega arith, in_width n p.5 p.2, in_width n p.5 l.long, p.4); r_lt_n = (omega arith, refl, omega arith, omega arith) }
 
 pub overflow_add-r-in-loop-r-2 : goal.overflow_add-r-in-loop-r-2
 overflow_add-r-in-loop-r-2 c = omega arith
@@ -55,7 +54,7 @@ pair-requires-2 c =
     let p = c.requires in
     let n = c.args.n in
     let l = c.loop-r.invariant in
-    ((p.1, omega arith, in_width n p.5 p.2, in_width n p.5 l.long, p.4), (omega arith, refl, omega arith, refl))
+    record { n_bound = (p.1, omega arith, in_width n p.5 p.2, in_width n p.5 l.long, p.4); r_lt_n = (omega arith, refl, omega arith, refl) }
 
 pub shape_of-dst : goal.shape_of-dst
 shape_of-dst c = omega (arith, c.pair-2.ensures.same, c.loop-r.invariant.long)

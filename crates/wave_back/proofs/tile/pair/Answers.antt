@@ -1,5 +1,4 @@
 -- Each turn keeps it, and at the end it is what is promised.
-use Prim.Native.Nat.{◌-◌}
 use mathlib.Core.Path.{◌≡◌, ◌∙◌, ap, sym, subst}
 use native.Mathlib.Omega.{arith}
 use lib.ListN.{length-set}
@@ -14,7 +13,7 @@ use Rattle.wave_back.proofs.tile.pair.Goals as goal
 use Rattle.wave_back.proofs.tile.pair.Goals.{After-even-s, After-even-t, Start}
 
 space : (s : Start) → Room s.args.n s.args.w s.args.r s.args.a s.args.z s.args.y
-space s = room _ _ _ _ _ _ s.requires.1.0 s.requires.1.1 s.requires.1.2 s.requires.1.3
+space s = room _ _ _ _ _ _ s.requires.r_lt_n.0 s.requires.r_lt_n.1 s.requires.r_lt_n.2 s.requires.r_lt_n.3
 
 s_is :
     (c : After-even-s) →
@@ -26,12 +25,12 @@ s_is c =
     let n = c.args.n in
     let w = c.args.w in
     let src = c.args.src.now in
-    even_step (low_col w (at src) k) (high_col n w (at src) k) c.args.r c.even-s.ensures (back w32 (c.requires.0.4.all _) tt)
-    (back w32 (c.requires.0.4.all _) tt ∙ ap (high_col n w (at src) k) c.requires.1.1) (back w32 (c.requires.0.4.all _) tt)
+    even_step (low_col w (at src) k) (high_col n w (at src) k) c.args.r c.even-s.ensures (back w32 (c.requires.n_bound.4.all _) tt)
+    (back w32 (c.requires.n_bound.4.all _) tt ∙ ap (high_col n w (at src) k) c.requires.r_lt_n.1) (back w32 (c.requires.n_bound.4.all _) tt)
 
 s_near : (c : After-even-s) → Near 536870913 c.even-s.result
 s_near c =
-    let p = c.requires.0.4 in subst (Near 536870913) (sym (s_is c)) (even_near _ _ _ (p.all _) (p.all _) (p.all _))
+    let p = c.requires.n_bound.4 in subst (Near 536870913) (sym (s_is c)) (even_near _ _ _ (p.all _) (p.all _) (p.all _))
 
 t_is :
     (c : After-even-t) →
@@ -45,12 +44,12 @@ t_is c =
     let n = c.args.n in
     let w = c.args.w in
     let src = c.args.src.now in
-    even_step (low_col w (at src) k) (high_col n w (at src) k) c.args.z c.even-t.ensures (back w32 (c.requires.0.4.all _) tt)
-    (back w32 (c.requires.0.4.all _) tt ∙ ap (high_col n w (at src) k) c.requires.1.3) (back w32 (c.requires.0.4.all _) tt)
+    even_step (low_col w (at src) k) (high_col n w (at src) k) c.args.z c.even-t.ensures (back w32 (c.requires.n_bound.4.all _) tt)
+    (back w32 (c.requires.n_bound.4.all _) tt ∙ ap (high_col n w (at src) k) c.requires.r_lt_n.3) (back w32 (c.requires.n_bound.4.all _) tt)
 
 t_near : (c : After-even-t) → Near 536870913 c.even-t.result
 t_near c =
-    let p = c.requires.0.4 in subst (Near 536870913) (sym (t_is c)) (even_near _ _ _ (p.all _) (p.all _) (p.all _))
+    let p = c.requires.n_bound.4 in subst (Near 536870913) (sym (t_is c)) (even_near _ _ _ (p.all _) (p.all _) (p.all _))
 
 pub overflow_mul-l : goal.overflow_mul-l
 overflow_mul-l c = omega (arith, space (goal.at.overflow_mul-l c).Start)
@@ -128,7 +127,7 @@ pub bounds-src-h : goal.bounds-src-h
 bounds-src-h c = omega (arith, space (goal.at.bounds-src-h c).Start)
 
 pub even-s-requires : goal.even-s-requires
-even-s-requires c = let p = c.requires.0.4 in (back_near w32 (p.all _) tt, back_near w32 (p.all _) tt, back_near w32 (p.all _) tt)
+even-s-requires c = let p = c.requires.n_bound.4 in (back_near w32 (p.all _) tt, back_near w32 (p.all _) tt, back_near w32 (p.all _) tt)
 
 pub overflow_add-m : goal.overflow_add-m
 overflow_add-m c = omega (arith, space (goal.at.overflow_add-m c).Start)
@@ -158,7 +157,7 @@ pub bounds-src-q : goal.bounds-src-q
 bounds-src-q c = omega (arith, space (goal.at.bounds-src-q c).Start)
 
 pub even-t-requires : goal.even-t-requires
-even-t-requires c = let p = c.requires.0.4 in (back_near w32 (p.all _) tt, back_near w32 (p.all _) tt, back_near w32 (p.all _) tt)
+even-t-requires c = let p = c.requires.n_bound.4 in (back_near w32 (p.all _) tt, back_near w32 (p.all _) tt, back_near w32 (p.all _) tt)
 
 pub overflow_add-h-in-loop-c-2 : goal.overflow_add-h-in-loop-c-2
 overflow_add-h-in-loop-c-2 c = omega (arith, space (goal.at.overflow_add-h-in-loop-c-2 c).Start)
@@ -170,7 +169,11 @@ pub bounds-src-h-in-loop-c : goal.bounds-src-h-in-loop-c
 bounds-src-h-in-loop-c c = omega (arith, space (goal.at.bounds-src-h-in-loop-c c).Start)
 
 pub odd_down-v-requires : goal.odd_down-v-requires
-odd_down-v-requires c = (back_near w32 (c.requires.0.4.all _) tt, back_near w32 (s_near (goal.at.odd_down-v-requires c).After-even-s) tt, back_near w32 (t_near (goal.at.odd_down-v-requires c).After-even-t) tt)
+odd_down-v-requires c = (
+  back_near w32 (c.requires.n_bound.4.all _) tt,
+  back_near w32 (s_near (goal.at.odd_down-v-requires c).After-even-s) tt,
+  back_near w32 (t_near (goal.at.odd_down-v-requires c).After-even-t) tt,
+)
 
 pub overflow_add-s : goal.overflow_add-s
 overflow_add-s c = omega (arith, space (goal.at.overflow_add-s c).Start)
@@ -206,13 +209,13 @@ loop-c-preserved c =
     back_ok w32 c.even-s.result c.even-s.type_inv
     ∙ s_is (goal.at.loop-c-preserved c).After-even-s in
     let v = back_ok w32 c.even-t.result c.even-t.type_inv ∙ t_is (goal.at.loop-c-preserved c).After-even-t ∙ ap
-    (even_at (low_col w (at src) k) (high_col n w (at src) k)) c.requires.1.2 in (
+    (even_at (low_col w (at src) k) (high_col n w (at src) k)) c.requires.r_lt_n.2 in (
       omega arith,
       two_put w _ _ _ _ k _ c.loop-c.dst _ _ (λ d. omega arith)
           (omega arith)
           (omega (arith, space (goal.at.loop-c-preserved c).Start)) (omega (arith, space (goal.at.loop-c-preserved c).Start)) u
           (back_ok w32 c.odd_down-v.result c.odd_down-v.type_inv
-          ∙ odd_step col_avg n (high_col n w (at src) k) _ c.args.r c.odd_down-v.ensures (back w32 (c.requires.0.4.all _) tt) u v)
+          ∙ odd_step col_avg n (high_col n w (at src) k) _ c.args.r c.odd_down-v.ensures (back w32 (c.requires.n_bound.4.all _) tt) u v)
           c.loop-c.invariant.1,
     )
 

@@ -1,5 +1,5 @@
 -- `wavelet::row_pass` meets its contract.
-use Prim.Native.Nat.{◌*◌, ◌-◌, ◌+◌}
+use Prim.Native.Nat.{◌*◌, ◌-◌}
 use mathlib.Core.Path.{◌≡◌, ◌∙◌, ap}
 use mathlib.Core.List.{List, ◌++◌}
 use native.Mathlib.Omega.{arith}

@@ -1,5 +1,4 @@
 -- `wavelet::tile_back` meets its contract.
-use Prim.Native.Nat.{◌≤◌}
 use mathlib.Core.Path.{◌∙◌, ap, sym, refl, subst}
 use lib.Dec.{lit≤}
 use Rattle.whole.specs.laws.Tab.{AllNear}

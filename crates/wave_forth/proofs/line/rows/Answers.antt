@@ -1,0 +1,70 @@
+-- Each turn keeps it, and at the end it is what is promised.
+use Prim.Native.Nat.{ℕ, ◌≤◌, ◌*◌, ◌+◌}
+use native.Mathlib.Omega.{arith}
+use Rattle.whole.specs.laws.Tab.{row_in}
+use Rattle.wave_forth.specs.laws.Row.{bands_start, bands_turn, bands_whole, row_apart}
+use Rattle.wave_forth.proofs.line.rows.Goals as goal
+use Rattle.wave_forth.proofs.line.rows.Goals.{After-row-arg-1}
+
+-- row r lies within
+pub record Within (n w r : ℕ) : Type 0 where
+  pub rows : r * w + w ≤ n * w
+  pub band : r * n + n ≤ n * n
+
+room : (c : After-row-arg-1) → Within c.args.n c.args.w c.loop-r.r
+room c = record { rows = row_in _ _ _ c.loop-r-test.true; band = row_in _ _ _ c.loop-r-test.true }
+
+pub loop-r-init : goal.loop-r-init
+loop-r-init c = (omega arith, bands_start _ _ _ _ _ _ _)
+
+pub overflow_mul-r : goal.overflow_mul-r
+overflow_mul-r c = omega (arith, room (goal.at.overflow_mul-r c).After-row-arg-1)
+
+pub overflow_add-s : goal.overflow_add-s
+overflow_add-s c = omega (arith, room (goal.at.overflow_add-s c).After-row-arg-1)
+
+pub overflow_mul-r-in-loop-r : goal.overflow_mul-r-in-loop-r
+overflow_mul-r-in-loop-r c = omega (arith, room (goal.at.overflow_mul-r-in-loop-r c).After-row-arg-1)
+
+pub overflow_add-l : goal.overflow_add-l
+overflow_add-l c = omega (arith, room (goal.at.overflow_add-l c).After-row-arg-1)
+
+pub overflow_mul-r-in-loop-r-2 : goal.overflow_mul-r-in-loop-r-2
+overflow_mul-r-in-loop-r-2 c = omega (arith, room (goal.at.overflow_mul-r-in-loop-r-2 c).After-row-arg-1)
+
+pub overflow_add-h : goal.overflow_add-h
+overflow_add-h c = omega (arith, room (goal.at.overflow_add-h c).After-row-arg-1)
+
+pub row-requires : goal.row-requires
+row-requires c =
+    let r = c.loop-r.r in record {
+      le_n = (
+        c.requires.le_n.0,
+        omega (arith, room (goal.at.row-requires c).After-row-arg-1),
+        c.requires.le_n.4,
+        omega (arith, room (goal.at.row-requires c).After-row-arg-1),
+        omega (arith, room (goal.at.row-requires c).After-row-arg-1),
+        omega arith,
+      );
+      apart = (row_apart c.args.n r c.args.l c.args.h c.loop-r-test.true c.requires.apart.0, c.requires.apart.1);
+    }
+
+pub overflow_add-r : goal.overflow_add-r
+overflow_add-r c = omega arith
+
+pub loop-r-smaller : goal.loop-r-smaller
+loop-r-smaller c = omega arith
+
+pub loop-r-preserved : goal.loop-r-preserved
+loop-r-preserved c =
+    let l = c.loop-r in (
+      omega arith,
+      bands_turn c.args.n l.r c.args.l c.args.h c.loop-r-test.true c.requires.apart.0 c.args.w c.args.s
+          c.args.src.now _ l.dst _ c.row.ensures l.invariant.1,
+    )
+
+pub shape_of-dst : goal.shape_of-dst
+shape_of-dst c = c.loop-r.invariant.1.same
+
+pub returns : goal.returns
+returns c = bands_whole (omega arith) c.loop-r.invariant.1
