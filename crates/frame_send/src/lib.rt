@@ -1,6 +1,8 @@
 // The frame writer of document 01 (last paragraph of "Colour", "Numbers the fitter sees", and what is left of output and work lists). A frame is measured before a byte
 // of the output is touched (`frame_write`), but where the output has room for the largest frame of so many tiles: no picture is refused with 9 or 6 (`bounds`), so
 // it is written at once, and each tile is made once.
+#![tactic(auto)]
+
 ghost use Rattle.std.specs.Prelude.{◌≡◌, ◌≤◌, leb, length};
 ghost use Rattle.wire.specs.Wrote.{Wrote};
 ghost use Rattle.frame_write.specs.FrameWrite.{FrameWritten};

@@ -1,5 +1,7 @@
 // The public edge: the calls of document 01 with its numbers ("Numbers the fitter sees"). An answer is an enum of the crate that the call comes from, and
 // definitions of that crate give 01's number and values for every case of it. Any input is answered: nothing here has a `requires`.
+#![tactic(auto)]
+
 ghost use Rattle.std.specs.Prelude.{◌≡◌};
 ghost use Rattle.session.specs.Header.{header_reading};
 ghost use Rattle.headers.specs.Headers.{HeadersWritten};

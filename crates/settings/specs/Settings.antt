@@ -2,7 +2,7 @@
 -- the kind fixes: kind 0, two bytes version, low first (first, once); kind 1, five quantiser bytes and one mode byte; kind 2, five luma, five chroma
 -- quantiser bytes and one mode byte."
 -- (01 is this project's scope document, 02 its change requests, 001 is MS-RDPRFX: README, "What 01 is".)
-use Rattle.std.specs.Prelude.{ℕ, zero, suc, ◌+◌, ◌≡◌, Bool, true, false, List, [], ◌∷◌, ◌++◌, eqb, leb, length, get_or, take, drop, replicate}
+use Rattle.std.specs.Prelude.{ℕ, zero, suc, ◌≡◌, Bool, true, false, List, [], ◌∷◌, ◌++◌, eqb, leb, length, get_or, take, drop, replicate}
 use Rattle.whole.specs.Row.{◌!◌⨾◌, ◌⇒◌∣◌, ◌⨟◌}
 use Rattle.wire.specs.Le.{le16, bytes16}
 use Rattle.wire.specs.Mode.{is_mode}

@@ -1,5 +1,7 @@
 // The short frame's writer (document 02, request Eleven): "The short frame's writer makes this check itself, after its own 5, 7 and 2; then 9, 6 and 13 as
 // before, over the listed tiles." It is the frame writer (`frame_send`) over a list of tiles that the checker (`plan`) accepts.
+#![tactic(auto)]
+
 ghost use Rattle.std.specs.Prelude.{◌≡◌, length};
 ghost use Rattle.whole.specs.Row.{◌⨟◌};
 ghost use Rattle.wire.specs.Wrote.{Wrote};

@@ -1,7 +1,7 @@
 -- "Headers put into 01's order": behind a good sync the next three header blocks wait until versions, channels and context are all there, and then go on in
 -- this order; if another block comes before that, what waits goes on as it came, and the block behind it. Nothing is lost and nothing is made up.
 -- (01 is this project's scope document, 02 its change requests, 001 is MS-RDPRFX: README, "What 01 is".)
-use Rattle.std.specs.Prelude.{ℕ, zero, suc, ◌+◌, ◌≡◌, Bool, true, false, List, [], ◌∷◌, ◌++◌, leb, eqb, length, take, drop}
+use Rattle.std.specs.Prelude.{ℕ, zero, suc, ◌≡◌, Bool, true, false, List, [], ◌∷◌, ◌++◌, leb, eqb, length, take, drop}
 use Rattle.whole.specs.Row.{◌!◌⨾◌, ◌⇒◌∣◌}
 use Rattle.wire.specs.Le.{le16, patch}
 use Rattle.wire.specs.Wrote.{length_said, out_left}

@@ -1,6 +1,6 @@
 -- What waits, held in 38 bytes that a caller lends: three numbers and the store.
 -- (01 is this project's scope document, 02 its change requests, 001 is MS-RDPRFX: README, "What 01 is".)
-use Rattle.std.specs.Prelude.{ℕ, ◌≡◌, List, [], ◌∷◌, eqb, length, drop, get_or}
+use Rattle.std.specs.Prelude.{ℕ, ◌≡◌, List, ◌∷◌, eqb, length, drop, get_or}
 use Rattle.whole.specs.Row.{◌!◌⨾◌}
 use Rattle.wire.specs.Wrote.{length_said, out_left}
 use Rattle.tidy.specs.declared.headers.Waiting.{Waiting}

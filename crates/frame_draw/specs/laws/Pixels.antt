@@ -1,8 +1,8 @@
 -- The picture after a tile, by coordinates: document 01, "A picture word is changed exactly if it lies in the channel, in some
 -- rectangle of the region, and in some listed tile"; "words past width x height are never changed".
 -- (01 is this project's scope document, 02 its change requests, 001 is MS-RDPRFX: README, "What 01 is".)
-use Prim.Native.Nat.{ℕ, suc, zero, ◌+◌, ◌*◌, ◌-◌, ◌/◌, ◌%◌, ◌≤◌, ◌<◌}
-use Rattle.std.specs.Prelude.{◌≡◌, Bool, false, List, ◌⊎◌, ◌≢◌, eqb, set}
+use Prim.Native.Nat.{ℕ, suc, zero, ◌+◌, ◌*◌, ◌/◌, ◌%◌, ◌≤◌, ◌<◌}
+use Rattle.std.specs.Prelude.{◌≡◌, Bool, false, List, ◌⊎◌, eqb, set}
 use Rattle.std.proofs.Math.Path.{refl, ap, sym, subst⁻¹}
 use Rattle.std.proofs.Common.{◌∙◌, subst, inl, inr, add-one, suc-mul, eq-or-lt_of_le, get_or-set_same, get_or-set_other, lt-ltb, ltb-true, eqb-true, eq-eqb}
 use Rattle.std.proofs.Math.Bool.{true, true≢false}

@@ -14,7 +14,6 @@ use Rattle.wire.specs.declared.Writing.TheVariants.{Done}
 use Rattle.session.specs.Header.{size_good}
 use Rattle.bands.specs.Bands.{good_to}
 use Rattle.quants.specs.Quants.{same}
-use Rattle.quants.specs.declared.Quants.{Quants}
 use Rattle.frame_pieces.specs.Parts.{pixels_good}
 use Rattle.frame_write.specs.Sets.{frame_over, good_sets, arg_fault_over, send_fault_over}
 use Rattle.frame_write.specs.laws.FrameWrite.{cleared}

@@ -1,16 +1,15 @@
 -- Where there is room for the largest frame, nothing has to be measured: no tile is refused (`tile_taken` of `bounds`), and the frame of any n tiles fits.
 use Rattle.std.specs.Prelude.{ℕ, ◌+◌, ◌*◌, ◌≤◌, ◌≡◌, refl, Bool, true, false, List, ℤ, length}
-use Rattle.std.proofs.Common.{sym, arith}
+use Rattle.std.proofs.Common.{arith}
 use Rattle.whole.specs.Row.{◌⇒◌∣◌}
 use Rattle.wire.specs.Le.{written}
 use Rattle.wire.specs.Wrote.{Wrote}
 use Rattle.wire.specs.declared.Writing.TheVariants.{Done}
 use Rattle.bits.specs.laws.Bytes.{Bytes}
-use Rattle.code_write.specs.declared.call.Sized.{Sized}
 use Rattle.frame_layout.specs.Bytes.{tiles_of}
 use Rattle.quants.specs.Quants.{same, chroma_index}
 use Rattle.quants.specs.declared.Quants.{Quants}
-use Rattle.frame_write.specs.Job.{tile_sent, stop_sent, stops_sent, frame_sent, fault_sent, sent_at, JobReady, JobSends, Sizes}
+use Rattle.frame_write.specs.Job.{tile_sent, stop_sent, stops_sent, frame_sent, fault_sent, sent_at, JobReady, JobSends}
 use Rattle.frame_write.specs.laws.Encode.{tile_small, stops_small, sizes_done}
 use Rattle.frame_write.specs.laws.FrameWrite.{send_done}
 use Rattle.frame_write.specs.laws.Stops.{none_stops}

@@ -27,7 +27,10 @@ returns-then-x-lt0 c = clamp_low c.args.x (test_l (pos 0) true c.ranges.x c.if-x
 pub overflow_cast-result : goal.overflow_cast-result
 overflow_cast-result c =
     let fits = c.ranges in
-    subst (λ (s : ℤ). T (non_neg s) × Fits w8 (nat_abs s)) (sym (to_z-of_z fits.x)) ((mid (goal.at.overflow_cast-result c).Else-x-gt255).0, (mid (goal.at.overflow_cast-result c).Else-x-gt255).1)
+    subst (λ (s : ℤ). T (non_neg s) × Fits w8 (nat_abs s)) (sym (to_z-of_z fits.x)) (
+      (mid (goal.at.overflow_cast-result c).Else-x-gt255).0,
+      (mid (goal.at.overflow_cast-result c).Else-x-gt255).1,
+    )
 
 pub returns-then-x-gt255 : goal.returns-then-x-gt255
 returns-then-x-gt255 c =

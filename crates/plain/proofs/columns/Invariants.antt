@@ -7,7 +7,8 @@ use Rattle.wave_back.specs.laws.Level.{level_from}
 use Rattle.plain.proofs.columns.Given as goal
 
 abbrev pub invariant-loop-k : goal.invariant-loop-k
-invariant-loop-k l = (l.k-end ≡ 2 * l.n * (2 * l.n)) × (l.k ≤ 2 * l.n * (2 * l.n)) × Done (at (level_from l.from l.n l.initial.dst)) (l.from + l.k) l.initial.dst l.dst
+invariant-loop-k l = (l.k-end ≡ 2 * l.n * (2 * l.n)) × (l.k ≤ 2 * l.n * (2 * l.n)) × Done (at (level_from l.from l.n l.initial.dst)) (l.from + l.k)
+    l.initial.dst l.dst
 
 abbrev pub decreases-loop-k : goal.decreases-loop-k
 decreases-loop-k l = 2 * l.n * (2 * l.n) - l.k

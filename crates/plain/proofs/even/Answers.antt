@@ -11,7 +11,8 @@ pub overflow_add-result-2 : goal.overflow_add-result-2
 overflow_add-result-2 c = fits (add (add (arg w32 c.requires.1 tt) (arg w32 c.requires.2 tt) tt) (lit w32 (pos 1) tt) tt)
 
 pub overflow_sub-result : goal.overflow_sub-result
-overflow_sub-result c = fits (sub (arg w32 c.requires.0 tt) (half (add (add (arg w32 c.requires.1 tt) (arg w32 c.requires.2 tt) tt) (lit w32 (pos 1) tt) tt) tt) tt)
+overflow_sub-result c = fits
+    (sub (arg w32 c.requires.0 tt) (half (add (add (arg w32 c.requires.1 tt) (arg w32 c.requires.2 tt) tt) (lit w32 (pos 1) tt) tt) tt) tt)
 
 pub returns : goal.returns
 returns c = val (sub (arg w32 c.requires.0 tt) (half (add (add (arg w32 c.requires.1 tt) (arg w32 c.requires.2 tt) tt) (lit w32 (pos 1) tt) tt) tt) tt)

@@ -77,8 +77,11 @@ bounds-src-h c =
 pub odd-requires : goal.odd-requires
 odd-requires c =
     let pre = c.requires in
-    let args = c.args in
-    (back_near w32 (pre.0.near_high (args.k / 2) (omega arith)) tt, back_near w32 (near_x ((goal.at.odd-requires c).Else-k-eq0)) tt, back_near w32 (near_y (goal.at.odd-requires c).After-even_at-y) tt)
+    let args = c.args in (
+      back_near w32 (pre.0.near_high (args.k / 2) (omega arith)) tt,
+      back_near w32 (near_x ((goal.at.odd-requires c).Else-k-eq0)) tt,
+      back_near w32 (near_y (goal.at.odd-requires c).After-even_at-y) tt,
+    )
 
 pub returns : goal.returns
 returns c =

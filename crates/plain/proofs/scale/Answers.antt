@@ -24,7 +24,13 @@ value : (c : After-scaled-v) → let a = c.args in
     to_z w32 (of_z w32 c.scaled-v.result) ≡ scale_at a.q.v (at a.work.now) c.loop-k.k
 value c =
     let e = ap (λ (n : ℕ). pos (2 ^ (n - 1))) c.quant.ensures.0 in
-    cc (back_ok w32 c.scaled-v.result c.scaled-v.type_inv, c.scaled-v.ensures, back w32 (near c.before.before.before.before) tt, here c.before.before.before.before, e)
+    cc (
+      back_ok w32 c.scaled-v.result c.scaled-v.type_inv,
+      c.scaled-v.ensures,
+      back w32 (near c.before.before.before.before) tt,
+      here c.before.before.before.before,
+      e,
+    )
 
 pub loop-k-init : goal.loop-k-init
 loop-k-init c = scale_start c.args.q.v c.args.work.now c.requires.0

@@ -240,7 +240,8 @@ loop-i-preserved c =
           (sym c.in-Two.is ∙ element.ensures) c.onward-i-in-Two.ensures _ (same_bits _ _ (record { sfits = unfolded2.type_inv }) unfolded2.ensures) _
           (same_bits _ _ (record { sfits = w.unfolded-then-i-lt4095.type_inv }) w.unfolded-then-i-lt4095.ensures) w.if-i-lt4095.true).0
       | else-i-lt4095 w ↦ rw w.list-is (going_lone args.rlgr3 args.s.now loop.list loop.c loop.i loop.invariant loop-test.true _ _ _ _
-          (sym c.in-Two.is ∙ element.ensures) c.onward-i-in-Two.ensures _ (same_bits _ _ (record { sfits = unfolded2.type_inv }) unfolded2.ensures) w.if-i-lt4095.false).0
+          (sym c.in-Two.is ∙ element.ensures) c.onward-i-in-Two.ensures _ (same_bits _ _ (record { sfits = unfolded2.type_inv }) unfolded2.ensures)
+          w.if-i-lt4095.false).0
     ]
 
 pub clean_tail-requires : goal.clean_tail-requires

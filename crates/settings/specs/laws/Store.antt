@@ -1,6 +1,6 @@
 -- A store of whole records walked: its version, good records behind it, and what a reader answers at their end or at a fault.
 -- Assumes nothing.
-use Rattle.std.specs.Prelude.{ℕ, suc, ◌+◌, ◌≤◌, ◌<◌, ◌≡◌, Bool, ◌⊎◌, List, [], ◌∷◌, ◌++◌, eqb, leb, length, get_or, take, drop}
+use Rattle.std.specs.Prelude.{ℕ, suc, ◌≤◌, ◌<◌, ◌≡◌, Bool, ◌⊎◌, List, [], ◌∷◌, ◌++◌, eqb, leb, length, get_or}
 use Rattle.std.proofs.Math.Path.{refl}
 use Rattle.std.proofs.Common.{ap, ap₂, sym, ◌∙◌, inl, inr, ⊎_elim, append_assoc, append-nil, arith, eq-eqb, ne_eqb, le-leb, eqb-true, length-append, take_at, drop_at}
 use Rattle.std.proofs.Math.Bool.{true, false}

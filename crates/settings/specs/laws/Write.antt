@@ -1,6 +1,6 @@
 -- Laws of the writer: what holds where it refuses nothing, its bytes as they are put, and their number.
 -- Assumes nothing.
-use Rattle.std.specs.Prelude.{ℕ, ◌+◌, ◌≤◌, ◌≡◌, refl, true, false, List, [], ◌∷◌, ◌++◌, length}
+use Rattle.std.specs.Prelude.{ℕ, ◌≤◌, ◌≡◌, refl, true, false, List, [], ◌∷◌, ◌++◌, length}
 use Rattle.std.proofs.Common.{ap, sym, ◌∙◌, append_assoc, arith, leb-true, length-append}
 use Rattle.whole.specs.laws.Row.{held, both, case_yes, case_no}
 use Rattle.wire.specs.Le.{bytes16, patch, written}

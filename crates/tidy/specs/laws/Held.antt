@@ -1,11 +1,10 @@
 -- What waits, held in 38 bytes: the three numbers and the store make them (`held_is`), so a call that changes nothing leaves them as they were.
 use Rattle.std.specs.Prelude.{ℕ, zero, suc, ◌+◌, ◌-◌, ◌≤◌, ◌≡◌, refl, List, [], ◌∷◌, ◌++◌, length, take, drop, set}
-use Rattle.std.proofs.Common.{sym, ap, ap₂, subst, ◌∙◌, append-nil, arith, eq-eqb, ne_eqb, length-drop, drop_of_length-le, drop_at, take_all, length-take-le}
+use Rattle.std.proofs.Common.{ap, ap₂, subst, ◌∙◌, append-nil, arith, eq-eqb, ne_eqb, length-drop, drop_of_length-le, drop_at, take_all, length-take-le}
 use Rattle.whole.specs.laws.Row.{passes, fails}
 use Rattle.wire.specs.Wrote.{length_said, out_left}
 use Rattle.tidy.specs.declared.headers.Waiting.{Waiting}
 use Rattle.tidy.specs.declared.headers.Gave.{Gave}
-use Rattle.tidy.specs.declared.held.Passed.{Passed}
 use Rattle.tidy.specs.Headers.{none, waiting_bytes, passed_on, waiting_after, store_after, header_fault, waiting_said, store_left, GaveOn}
 use Rattle.tidy.specs.Held.{waiting_in, store_in, held_of, held_fault, HeldGave}
 

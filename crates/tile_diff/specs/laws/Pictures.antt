@@ -6,7 +6,6 @@ use native.Mathlib.Omega.{arith}
 use Rattle.std.proofs.Math.ListN.{length, get_or, length-replicate}
 use Rattle.std.proofs.lemmas.List.{get_or-replicate}
 use Rattle.session.specs.Header.{tiles_over, size_good}
-use Rattle.whole.specs.Row.{◌!◌⨾◌}
 use Rattle.whole.specs.laws.Row.{held}
 use Rattle.tile_diff.specs.Tiles.{not_same, how_many, differs, lines_of, listed}
 use Rattle.tile_diff.specs.Counts.{counted_if}

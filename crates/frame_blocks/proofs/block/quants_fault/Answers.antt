@@ -2,7 +2,6 @@
 use mathlib.Core.Path.{ap, sym, ◌∙◌}
 use native.Mathlib.Omega.{arith}
 use native.Mathlib.Nat.{sub-zero, add-zero}
-use Prim.Native.Nat.{◌-◌}
 use Rattle.frame_layout.specs.Reader.{halves_fault}
 use Rattle.frame_blocks.specs.laws.Blocks.{quants_stop, quants_go_on, quants_end}
 use Rattle.frame_blocks.proofs.block.quants_fault.Goals as goal

@@ -1,5 +1,5 @@
 -- Each turn keeps it, and at the end it is what is promised.
-use Prim.Native.Nat.{◌+◌, ◌*◌, ◌-◌}
+use Prim.Native.Nat.{◌+◌, ◌*◌}
 use mathlib.Core.Path.{◌∙◌}
 use native.Mathlib.Omega.{arith}
 use Rattle.frame_draw.specs.laws.Draw.{row_room}

@@ -1,6 +1,6 @@
 -- `settings::read::read_settings` meets its contract: what is answered is the walk from where it stands.
 -- The measure is what is left of the store. Assumes nothing.
-use Prim.Native.Nat.{ℕ, ◌+◌, ◌-◌, ◌≤◌}
+use Prim.Native.Nat.{ℕ, ◌+◌, ◌≤◌}
 use mathlib.Core.Path.{sym, ap, ◌∙◌}
 use native.Mathlib.Omega.{arith}
 use lib.ListN.{length}

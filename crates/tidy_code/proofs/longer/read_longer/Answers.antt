@@ -37,4 +37,5 @@ returns-in-Bad c =
 pub returns-else-clean_tail : goal.returns-else-clean_tail
 returns-else-clean_tail c =
     let e = filled_whole _ _ _ c.fill.ensures c.in-Whole.at c.in-Whole.last c.in-Whole.is in
-    longer_tail c.args.rlgr3 c.args.s.now c.fill.new.list c.in-Whole.last c.in-Whole.at e _ _ (sym c.clean_tail.ensures ∙ c.if-clean_tail.false) c.refuse-in-Whole.ensures
+    longer_tail c.args.rlgr3 c.args.s.now c.fill.new.list c.in-Whole.last c.in-Whole.at e _ _ (sym c.clean_tail.ensures ∙ c.if-clean_tail.false)
+    c.refuse-in-Whole.ensures

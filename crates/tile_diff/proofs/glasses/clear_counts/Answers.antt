@@ -1,7 +1,7 @@
 -- Each turn keeps it, and at the end it is what is promised.
 use mathlib.Core.Path.{refl, ◌∙◌}
 use native.Mathlib.Omega.{arith}
-use Prim.Native.Nat.{ℕ, ◌-◌}
+use Prim.Native.Nat.{ℕ}
 use Rattle.whole.specs.laws.Fill.{fill_more, fill_length, fill_all}
 use Rattle.tile_diff.proofs.glasses.clear_counts.Goals as goal
 
