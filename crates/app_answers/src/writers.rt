@@ -65,7 +65,7 @@ pub fn headers_call(width: usize, height: usize, mode: u8, out: &mut [u8]) -> us
 }
 
 // What the frame writer is asked for, beside memory; `sets` where it is the one over luma's and chroma's quantisers, else they are luma's.
-#[derive(Drop)]
+#[derive(Clone, Copy)]
 pub struct Asked {
     pub width: usize,
     pub height: usize,

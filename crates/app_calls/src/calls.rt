@@ -8,7 +8,7 @@ ghost use Rattle.app_calls.specs.Calls.{header_left, heard, four_back, fits, Fra
 use session::Session;
 
 // The line of a frame call: a recording's; or a short one, with a comma in front of all but the first part; or words, with the call's count.
-#[derive(Drop)]
+#[derive(Clone, Copy)]
 pub enum Line {
     Recorded,
     Short(u64),
@@ -52,7 +52,7 @@ pub fn header_call(s: Session, message: &[u8]) -> Session
 }
 
 // A header call: 01's number, and the record after it.
-#[derive(Drop)]
+#[derive(Clone, Copy)]
 pub struct Heard {
     pub number: u8,
     pub session: Session,
@@ -70,7 +70,7 @@ fn read_one(s: Session, message: &[u8]) -> Heard
 }
 
 // Four header calls: 01's numbers, and the record after the last.
-#[derive(Drop)]
+#[derive(Clone, Copy)]
 pub struct Fourfold {
     pub one: u8,
     pub two: u8,
@@ -116,7 +116,7 @@ pub fn headers_back_call(s: Session, out: &[u8]) -> Session
 }
 
 // How long the work lists are that a call is lent.
-#[derive(Drop)]
+#[derive(Clone, Copy)]
 pub struct Lengths {
     pub one: usize,
     pub two: usize,

@@ -10,7 +10,7 @@ use session::Session;
 
 // What goes on from call to call: the session's record and the collector's, the place in the bytes that are given, the size that the last channels block gave,
 // and the calls so far.
-#[derive(Drop)]
+#[derive(Clone, Copy)]
 pub struct Desk {
     pub s: Session,
     pub c: Collector,

@@ -1,7 +1,15 @@
--- What the outside gave: which bytes a read gives, and which file a descriptor is, no contract of C's can say (the kit's `libc` and `os` promise nothing of
+-- What the outside gave: which bytes a read gives, and which file a descriptor is, no contract can say (the kit's `io` and `std` promise nothing of
 -- it). So both are words here that stay shut: nothing can be proved of them, and they come from two places only, the proofs of `files::open`
 -- (`as_opened`) and `files::read_at` (`as_read`), each of which makes the one call of which it speaks. Every other proof has them from there.
-use Rattle.std.specs.Prelude.{ℕ, List, ℤ}
+use Rattle.std.specs.Prelude.{ℕ, List, ℤ, negsuc, Option}
+use Rattle.std.specs.Prelude.{None, Some}
+use Rattle.std.specs.Fd.{file_raw_fd}
+use Rattle.std.specs.declared.fs.File.{File}
+
+-- the number of a file's descriptor; below 0 where the file could not be opened
+abbrev pub descriptor : Option File → ℤ
+descriptor None = negsuc 0
+descriptor (Some file) = file_raw_fd file
 
 -- so many bytes asked for, from a place on, of the file behind a descriptor, and those that came
 pub record Piece : Type 0 where

@@ -3,55 +3,77 @@
 // that cannot be opened, a read that fails and a file that has no places (a pipe) are files of which no more comes.
 ghost use Rattle.std.specs.Prelude.{◌≡◌, ◌+◌, ◌*◌, ◌≤◌, length};
 ghost use Rattle.app_text.specs.First.{first_of};
-ghost use Rattle.app_compare.specs.Outside.{Opened};
+ghost use Rattle.app_compare.specs.Outside.{Opened, descriptor};
 ghost use Rattle.app_compare.specs.Files.{ReadAt, HeadRead, EndRead, Looked, RowRead};
 ghost use Rattle.app_compare.specs.Files.{rows_whole, RowCounted, RowsCounted, after_rows, BothRead};
 ghost use Rattle.tile_diff.specs.laws.Request.{Sized};
 ghost use Rattle.tile_diff.specs.declared.pic.Verdict.TheVariants.{Tiles};
 
+use std::fs::File;
+use std::io::{Seek, SeekFrom};
+use std::os::fd::AsRawFd;
 use tile_diff::pic::{Pic, Verdict};
 
 // What two files give, and the first one's size.
-#[derive(Drop)]
+#[derive(Clone, Copy)]
 pub struct Seen {
     pub verdict: Verdict,
     pub width: u16,
     pub height: u16,
 }
 
-// The descriptor of the file of a name, below 0 where it cannot be opened.
-pub fn open(name: &[u8]) -> i32
-    ensures { Opened name.now result }
+// The file of a name, none where it cannot be opened.
+pub fn open(rt: &HostRuntime, name: &[u8]) -> Option<File>
+    ensures { Opened name.now (descriptor result) }
 {
-    os::open_read(name)
+    match app_text::files::open(rt, name) {
+        Ok(file) => Some(file),
+        Err(_) => None,
+    }
+}
+
+// So many bytes of an open file, from a place on, into a part that is lent: how many came. It has no places where it is a pipe.
+fn read_from(file: &File, place: usize, part: &mut [u8]) -> usize
+    ensures { result ≤ length part.new }
+{
+    let mut from = file;
+    let at = place as u64;
+    match from.seek(SeekFrom::Start(at)) {
+        Ok(found) => {
+            if found != at {
+                return 0;
+            }
+            io::read_full(file.as_raw_fd(), part)
+        }
+        Err(_) => 0,
+    }
 }
 
 // So many bytes of a file, from a place on, into a part that is lent: how many came.
-fn read_into(fd: i32, place: usize, part: &mut [u8]) -> usize
+fn read_into(file: &Option<File>, place: usize, part: &mut [u8]) -> usize
     requires { place ≤ 1099511627776 }
-    ensures { (result ≤ length part.new) × ReadAt fd place (length part.new) (first_of part.new result) }
+    ensures { (result ≤ length part.new) × ReadAt (descriptor file.now) place (length part.new) (first_of part.new result) }
 {
-    let at = place as i64;
-    if libc::lseek(fd, at, libc::SEEK_SET) != at {
-        return 0;
+    match file {
+        Some(open) => read_from(open, place, part),
+        None => 0,
     }
-    io::read_full(fd, part)
 }
 
 // The same into the start of a list.
-fn read_at(fd: i32, place: usize, size: usize, row: &mut [u8]) -> usize
+fn read_at(file: &Option<File>, place: usize, size: usize, row: &mut [u8]) -> usize
     requires { (place ≤ 1099511627776) × (size ≤ length row.old) }
-    ensures { ReadAt fd place size (first_of row.new result) }
+    ensures { ReadAt (descriptor file.now) place size (first_of row.new result) }
 {
-    read_into(fd, place, &mut row[0..size])
+    read_into(file, place, &mut row[0..size])
 }
 
 // What a file's head says: no size where it is cut or missing.
-fn head(fd: i32) -> Pic
-    ensures { HeadRead fd result }
+fn head(file: &Option<File>) -> Pic
+    ensures { HeadRead (descriptor file.now) result }
 {
     let mut bytes = [0u8; 4];
-    let n = read_into(fd, 0, &mut bytes);
+    let n = read_into(file, 0, &mut bytes);
     tile_diff::pic::pic_of(app_text::loading::first(&bytes, n))
 }
 
@@ -63,12 +85,12 @@ fn end_of(p: Pic) -> usize
 }
 
 // Where a file has the size that its head says, two bytes asked for at its end tell whether it is short, whole or too long.
-fn with_end(fd: i32, p: Pic) -> Pic
-    ensures { EndRead fd p result }
+fn with_end(file: &Option<File>, p: Pic) -> Pic
+    ensures { EndRead (descriptor file.now) p result }
 {
     let mut two = [0u8; 2];
     let end = end_of(p);
-    let n = read_into(fd, end, &mut two);
+    let n = read_into(file, end, &mut two);
     Pic {
         width: p.width,
         height: p.height,
@@ -77,12 +99,12 @@ fn with_end(fd: i32, p: Pic) -> Pic
 }
 
 // What is known of a file: its size, and whether it is whole.
-fn look(fd: i32) -> Pic
-    ensures { Looked fd result }
+fn look(file: &Option<File>) -> Pic
+    ensures { Looked (descriptor file.now) result }
 {
-    let p = head(fd);
+    let p = head(file);
     if session::is_size(p.width as usize, p.height as usize) {
-        return with_end(fd, p);
+        return with_end(file, p);
     }
     p
 }
@@ -95,11 +117,11 @@ fn place(width: u16, y: u16) -> usize
 }
 
 // Row y of a file of some width: how many of its bytes came.
-pub fn read_row(fd: i32, width: u16, y: u16, row: &mut [u8]) -> usize
+pub fn read_row(file: &Option<File>, width: u16, y: u16, row: &mut [u8]) -> usize
     requires { (width ≤ 4096) × (length row.old ≡ 8192) }
-    ensures { RowRead fd width y (first_of row.new result) }
+    ensures { RowRead (descriptor file.now) width y (first_of row.new result) }
 {
-    read_at(fd, place(width, y), 2 * (width as usize), row)
+    read_at(file, place(width, y), 2 * (width as usize), row)
 }
 
 // Are both rows whole, by their bytes?
@@ -114,9 +136,9 @@ fn are_rows(a: &[u8], b: &[u8], width: u16) -> bool
 }
 
 // Row y of each file, its differing words counted; whether both came whole.
-fn count_both(a: i32, b: i32, width: u16, y: u16, counts: &mut [u32]) -> bool
+fn count_both(a: &Option<File>, b: &Option<File>, width: u16, y: u16, counts: &mut [u32]) -> bool
     requires { width ≤ 4096 }
-    ensures { RowCounted a b width y counts.old counts.new result }
+    ensures { RowCounted (descriptor a.now) (descriptor b.now) width y counts.old counts.new result }
 {
     let mut first = [0u8; 8192];
     let mut second = [0u8; 8192];
@@ -129,9 +151,15 @@ fn count_both(a: i32, b: i32, width: u16, y: u16, counts: &mut [u32]) -> bool
 }
 
 // All rows of two files of one size; false where one came short all the same.
-fn count_through(a: i32, b: i32, width: u16, height: u16, counts: &mut [u32]) -> bool
+fn count_through(
+    a: &Option<File>,
+    b: &Option<File>,
+    width: u16,
+    height: u16,
+    counts: &mut [u32],
+) -> bool
     requires { width ≤ 4096 }
-    ensures { RowsCounted a b width height counts.old counts.new result }
+    ensures { RowsCounted (descriptor a.now) (descriptor b.now) width height counts.old counts.new result }
 {
     let mut y: u16 = 0;
     while y < height {
@@ -164,8 +192,8 @@ fn as_seen(v: Verdict, p: Pic) -> Seen
 }
 
 // Both files: each is judged by its head and its end first, so that "bad" goes before "size"; then the rows of two of one size are counted.
-pub fn read_both(a: i32, b: i32, counts: &mut [u32]) -> Seen
-    ensures { BothRead a b counts.old counts.new result × (result.verdict ≡ Tiles → Sized result.width result.height) }
+pub fn read_both(a: &Option<File>, b: &Option<File>, counts: &mut [u32]) -> Seen
+    ensures { BothRead (descriptor a.now) (descriptor b.now) counts.old counts.new result × (result.verdict ≡ Tiles → Sized result.width result.height) }
 {
     let p = look(a);
     let q = look(b);

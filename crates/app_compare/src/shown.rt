@@ -1,13 +1,16 @@
 // The picture for people as a BMP: the second picture dimmed, the differing tiles framed. Its rows go from below, so each is looked up in the file again.
 ghost use Rattle.std.specs.Prelude.{◌≤◌};
 
+use std::fs::File;
+use std::os::fd::AsRawFd;
+
 // The words of row y, marked, as the bytes of a row of the BMP, to the output: whether they could be written.
-fn write_row(out: i32, fd: i32, width: u16, height: u16, y: u16, counts: &[u32]) -> bool
+fn write_row(out: i32, file: &Option<File>, width: u16, height: u16, y: u16, counts: &[u32]) -> bool
     requires { width ≤ 4096 }
 {
     let mut row = [0u8; 8192];
     let mut words = [0u16; 4096];
-    let n = crate::files::read_row(fd, width, y, &mut row);
+    let n = crate::files::read_row(file, width, y, &mut row);
     tile_diff::mark::mark_row(
         app_text::loading::first(&row, n),
         width,
@@ -20,37 +23,41 @@ fn write_row(out: i32, fd: i32, width: u16, height: u16, y: u16, counts: &[u32])
     app_pictures::out::write_start(out, &row, app_pictures::bmp::row_size(width))
 }
 
-fn write_up(out: i32, fd: i32, width: u16, height: u16, counts: &[u32]) -> bool
+fn write_up(out: i32, file: &Option<File>, width: u16, height: u16, counts: &[u32]) -> bool
     requires { width ≤ 4096 }
 {
     let mut left = height;
     while 0 < left {
         left -= 1;
-        if !write_row(out, fd, width, height, left, counts) {
+        if !write_row(out, file, width, height, left, counts) {
             return false;
         }
     }
     true
 }
 
-fn write_bmp(out: i32, fd: i32, width: u16, height: u16, counts: &[u32]) -> bool
+fn write_bmp(out: i32, file: &Option<File>, width: u16, height: u16, counts: &[u32]) -> bool
     requires { width ≤ 4096 }
 {
     if app_pictures::out::write_bmp_head(out, width, height) {
-        return write_up(out, fd, width, height, counts);
+        return write_up(out, file, width, height, counts);
     }
     false
 }
 
 // The BMP of a second picture whose counts are known, to the file that argument i names.
-pub fn bmp_out(i: usize, fd: i32, width: u16, height: u16, counts: &[u32])
+pub fn bmp_out(
+    rt: &HostRuntime,
+    i: usize,
+    file: &Option<File>,
+    width: u16,
+    height: u16,
+    counts: &[u32],
+)
     requires { width ≤ 4096 }
     ensures { Unit }
 {
-    let out = app_pictures::out::open_output(i);
-    if out < 0 {
-        return;
+    if let Some(out) = app_pictures::out::open_output(rt, i) {
+        app_pictures::out::say_written(write_bmp(out.as_raw_fd(), file, width, height, counts));
     }
-    app_pictures::out::say_written(write_bmp(out, fd, width, height, counts));
-    libc::close(out);
 }

@@ -9,7 +9,7 @@ use tile_diff::count::{Line, Next};
 use tile_diff::pic::Verdict;
 
 // How many bytes there are now, and how many lines.
-#[derive(Drop)]
+#[derive(Clone, Copy)]
 struct Lines {
     at: usize,
     t: usize,

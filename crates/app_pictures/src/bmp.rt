@@ -5,7 +5,7 @@ ghost use Rattle.wire.specs.Le.{bytes16, bytes32, patch, written};
 ghost use Rattle.app_pictures.specs.Bmp.{row_size, packed16, packed32, file_head, info_head, info_rest, masks, head_of, row_of, put_words};
 
 // How a word says its colours: how many bits it has, and where red, green and blue are in it.
-#[derive(Drop)]
+#[derive(Clone, Copy)]
 pub struct Packing {
     pub bits: usize,
     pub red: usize,

@@ -3,7 +3,7 @@ ghost use Rattle.std.specs.Prelude.{◌≡◌, ◌-◌, ◌<◌};
 ghost use Rattle.app_pictures.specs.Ppm.{is_digit, is_blank, more_of, figure_at, after_of, skip_at, field_of, field_at, is_p6, blank_at, closed_of, head_of, size_fault, bytes_fault, sized_of, picture_of};
 
 // A number in text and the place behind it.
-#[derive(Drop)]
+#[derive(Clone, Copy)]
 pub struct Figure {
     pub value: usize,
     pub at: usize,
@@ -11,7 +11,7 @@ pub struct Figure {
 
 // What a head or a picture came to: width, height and the place of the first pixel, or which fault: 1 not P6, 2 no head, 3 a largest value other than 255,
 // 4 a size that is not allowed, 5 more than 2^20 pixels, 6 too few bytes, 7 too many.
-#[derive(Drop)]
+#[derive(Clone, Copy)]
 pub enum Head {
     Good(usize, usize, usize),
     Refused(u8),

@@ -1,5 +1,5 @@
 -- FNV-1a, 64 bits, over bytes, words and signed numbers: the hash that a recording gives of lent memory.
-use Rattle.std.specs.Prelude.{ℕ, ◌+◌, ◌-◌, ◌*◌, ◌/◌, ◌%◌, ◌^◌, List, [], ◌∷◌, ℤ, pos, negsuc, bit_xor}
+use Rattle.std.specs.Prelude.{ℕ, ◌-◌, ◌*◌, ◌/◌, ◌%◌, ◌^◌, List, [], ◌∷◌, ℤ, pos, negsuc, bit_xor}
 
 -- the hash of nothing
 abbrev pub basis : ℕ

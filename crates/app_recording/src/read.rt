@@ -1,23 +1,25 @@
 // The recording that `replay` reads from standard input: bytes and little-endian numbers of four bytes. No section of document 01 is made
 // true here. Where something is missing the input is no longer whole, and what is handed on then is judged by nobody. What reads comes from the outside,
 // of which no contract can speak.
-ghost use Rattle.std.specs.Prelude.{◌≡◌, ◌+◌, ◌*◌, min, true};
+ghost use Rattle.std.specs.Prelude.{◌≡◌, ◌+◌, ◌*◌, ◌≤◌, length, min, true};
+
+use std::io::Read;
 
 // Where the input stands: the next byte of the buffer, how many bytes it holds, and whether nothing was missing so far.
-#[derive(Drop)]
+#[derive(Clone, Copy)]
 pub struct In {
     pub at: usize,
     pub have: usize,
     pub whole: bool,
 }
 
-#[derive(Drop)]
+#[derive(Clone, Copy)]
 pub struct Byte {
     pub value: u8,
     pub from: In,
 }
 
-#[derive(Drop)]
+#[derive(Clone, Copy)]
 pub struct Figure {
     pub value: usize,
     pub from: In,
@@ -43,8 +45,18 @@ fn cut() -> In {
     }
 }
 
+// One read of standard input: how many bytes came, 0 at its end and where it cannot be read.
+fn read_on(rt: &HostRuntime, input: &mut [u8]) -> usize
+    ensures { result ≤ length input.new }
+{
+    match rt.stdin().read(input) {
+        Ok(n) => n,
+        Err(_) => 0,
+    }
+}
+
 // The next byte; at the end of the input 0, and the input is not whole.
-pub fn next(input: &mut [u8], c: In) -> Byte
+pub fn next(rt: &HostRuntime, input: &mut [u8], c: In) -> Byte
     ensures { Unit }
 {
     let at = c.at;
@@ -61,8 +73,7 @@ pub fn next(input: &mut [u8], c: In) -> Byte
             };
         }
     }
-    let got = libc::read(0, input);
-    let n = io::count(got, input);
+    let n = read_on(rt, input);
     if n == 0 {
         return Byte {
             value: 0,
@@ -93,13 +104,13 @@ fn joined(a: u8, b: u8, c: u8, d: u8) -> usize
 }
 
 // The next four bytes as a number.
-pub fn number(input: &mut [u8], c: In) -> Figure
+pub fn number(rt: &HostRuntime, input: &mut [u8], c: In) -> Figure
     ensures { Unit }
 {
-    let a = next(input, c);
-    let b = next(input, a.from);
-    let d = next(input, b.from);
-    let e = next(input, d.from);
+    let a = next(rt, input, c);
+    let b = next(rt, input, a.from);
+    let d = next(rt, input, b.from);
+    let e = next(rt, input, d.from);
     let from = e.from;
     Figure {
         value: joined(a.value, b.value, d.value, e.value),
@@ -108,14 +119,14 @@ pub fn number(input: &mut [u8], c: In) -> Figure
 }
 
 // Two, three and four numbers.
-#[derive(Drop)]
+#[derive(Clone, Copy)]
 pub struct Two {
     pub a: usize,
     pub b: usize,
     pub from: In,
 }
 
-#[derive(Drop)]
+#[derive(Clone, Copy)]
 pub struct Three {
     pub a: usize,
     pub b: usize,
@@ -123,7 +134,7 @@ pub struct Three {
     pub from: In,
 }
 
-#[derive(Drop)]
+#[derive(Clone, Copy)]
 pub struct Four {
     pub a: usize,
     pub b: usize,
@@ -132,11 +143,11 @@ pub struct Four {
     pub from: In,
 }
 
-pub fn take_two(input: &mut [u8], c: In) -> Two
+pub fn take_two(rt: &HostRuntime, input: &mut [u8], c: In) -> Two
     ensures { Unit }
 {
-    let x = number(input, c);
-    let y = number(input, x.from);
+    let x = number(rt, input, c);
+    let y = number(rt, input, x.from);
     let from = y.from;
     Two {
         a: x.value,
@@ -145,11 +156,11 @@ pub fn take_two(input: &mut [u8], c: In) -> Two
     }
 }
 
-pub fn take_three(input: &mut [u8], c: In) -> Three
+pub fn take_three(rt: &HostRuntime, input: &mut [u8], c: In) -> Three
     ensures { Unit }
 {
-    let x = take_two(input, c);
-    let y = number(input, x.from);
+    let x = take_two(rt, input, c);
+    let y = number(rt, input, x.from);
     let from = y.from;
     Three {
         a: x.a,
@@ -159,11 +170,11 @@ pub fn take_three(input: &mut [u8], c: In) -> Three
     }
 }
 
-pub fn take_four(input: &mut [u8], c: In) -> Four
+pub fn take_four(rt: &HostRuntime, input: &mut [u8], c: In) -> Four
     ensures { Unit }
 {
-    let x = take_two(input, c);
-    let y = take_two(input, x.from);
+    let x = take_two(rt, input, c);
+    let y = take_two(rt, input, x.from);
     let from = y.from;
     Four {
         a: x.a,
@@ -175,13 +186,13 @@ pub fn take_four(input: &mut [u8], c: In) -> Four
 }
 
 // The next bytes, as many as there is room for.
-pub fn take_bytes(input: &mut [u8], c: In, to: &mut [u8]) -> In
+pub fn take_bytes(rt: &HostRuntime, input: &mut [u8], c: In, to: &mut [u8]) -> In
     ensures { Unit }
 {
     let mut from = c;
     let mut i: usize = 0;
     while i < to.len() {
-        let b = next(input, from);
+        let b = next(rt, input, from);
         to[i] = b.value;
         from = b.from;
         i += 1;
@@ -190,27 +201,27 @@ pub fn take_bytes(input: &mut [u8], c: In, to: &mut [u8]) -> In
 }
 
 // The n bytes of a message; a message that is too long counts as cut.
-pub fn take_message(input: &mut [u8], c: In, message: &mut [u8], n: usize) -> In
+pub fn take_message(rt: &HostRuntime, input: &mut [u8], c: In, message: &mut [u8], n: usize) -> In
     ensures { Unit }
 {
     if message.len() < n {
         return cut();
     }
-    take_bytes(input, c, &mut message[0..n])
+    take_bytes(rt, input, c, &mut message[0..n])
 }
 
 // Ten bytes.
-#[derive(Drop)]
+#[derive(Clone, Copy)]
 pub struct Ten {
     pub v: [u8; 10],
     pub from: In,
 }
 
-pub fn take_ten(input: &mut [u8], c: In) -> Ten
+pub fn take_ten(rt: &HostRuntime, input: &mut [u8], c: In) -> Ten
     ensures { Unit }
 {
     let mut v = [0u8; 10];
-    let from = take_bytes(input, c, &mut v);
+    let from = take_bytes(rt, input, c, &mut v);
     Ten { v: v, from: from }
 }
 

@@ -4,7 +4,7 @@
 use app_recording::read::In;
 
 // A record in memory: its letter, 0 where there is no record more and '?' where it is cut or asks for too much, and the end of each part.
-#[derive(Drop)]
+#[derive(Clone, Copy)]
 pub struct Record {
     pub letter: u8,
     pub one: usize,
@@ -53,7 +53,7 @@ fn third_of(letter: u8) -> usize {
 }
 
 // Where a part ends in memory, and where the input stands behind it.
-#[derive(Drop)]
+#[derive(Clone, Copy)]
 struct Part {
     end: usize,
     from: In,
@@ -72,22 +72,36 @@ fn bytes_of(count: usize, unit: usize) -> usize {
 }
 
 // The n bytes from a place on; one that is too long counts as cut.
-fn take_at(input: &mut [u8], c: In, message: &mut [u8], at: usize, n: usize) -> In {
+fn take_at(
+    rt: &HostRuntime,
+    input: &mut [u8],
+    c: In,
+    message: &mut [u8],
+    at: usize,
+    n: usize,
+) -> In {
     let end = message.len();
     if end < at {
-        return app_recording::read::take_message(input, c, message, usize::MAX);
+        return app_recording::read::take_message(rt, input, c, message, usize::MAX);
     }
-    app_recording::read::take_message(input, c, &mut message[at..end], n)
+    app_recording::read::take_message(rt, input, c, &mut message[at..end], n)
 }
 
 // A part behind its count, or none.
-fn take_part(input: &mut [u8], c: In, message: &mut [u8], at: usize, unit: usize) -> Part {
+fn take_part(
+    rt: &HostRuntime,
+    input: &mut [u8],
+    c: In,
+    message: &mut [u8],
+    at: usize,
+    unit: usize,
+) -> Part {
     if unit == 0 {
         return Part { end: at, from: c };
     }
-    let f = app_recording::read::number(input, c);
+    let f = app_recording::read::number(rt, input, c);
     let n = bytes_of(f.value, unit);
-    let from = take_at(input, f.from, message, at, n);
+    let from = take_at(rt, input, f.from, message, at, n);
     Part {
         end: std::num::wrapping_add_usize(at, n),
         from: from,
@@ -95,7 +109,7 @@ fn take_part(input: &mut [u8], c: In, message: &mut [u8], at: usize, unit: usize
 }
 
 // A record, and where the input stands behind it.
-#[derive(Drop)]
+#[derive(Clone, Copy)]
 pub struct Came {
     pub record: Record,
     pub from: In,
@@ -115,11 +129,11 @@ fn none(letter: u8, from: In) -> Came {
 }
 
 // What stands behind a letter.
-fn take_parts(input: &mut [u8], c: In, message: &mut [u8], letter: u8) -> Came {
-    let head = app_recording::read::take_message(input, c, message, head_of(letter));
-    let a = take_part(input, head, message, 64, first_of(letter));
-    let b = take_part(input, a.from, message, a.end, second_of(letter));
-    let e = take_part(input, b.from, message, b.end, third_of(letter));
+fn take_parts(rt: &HostRuntime, input: &mut [u8], c: In, message: &mut [u8], letter: u8) -> Came {
+    let head = app_recording::read::take_message(rt, input, c, message, head_of(letter));
+    let a = take_part(rt, input, head, message, 64, first_of(letter));
+    let b = take_part(rt, input, a.from, message, a.end, second_of(letter));
+    let e = take_part(rt, input, b.from, message, b.end, third_of(letter));
     let from = e.from;
     if !from.whole {
         return none(b'?', from);
@@ -136,13 +150,13 @@ fn take_parts(input: &mut [u8], c: In, message: &mut [u8], letter: u8) -> Came {
 }
 
 // The next record. An end of the input between two records is the end.
-pub fn take(input: &mut [u8], c: In, message: &mut [u8]) -> Came {
-    let b = app_recording::read::next(input, c);
+pub fn take(rt: &HostRuntime, input: &mut [u8], c: In, message: &mut [u8]) -> Came {
+    let b = app_recording::read::next(rt, input, c);
     let from = b.from;
     if !from.whole {
         return none(0, from);
     }
-    take_parts(input, from, message, b.value)
+    take_parts(rt, input, from, message, b.value)
 }
 
 // The i-th number of a record, 0 where there is none.

@@ -11,7 +11,7 @@ use settings::Settings;
 use wire::Writing;
 
 // What it came to; the bytes of the short frame, those that a full frame of the new picture would have had in its place, and how many tiles the short one has.
-#[derive(Drop)]
+#[derive(Clone, Copy)]
 pub struct Both {
     pub made: Made,
     pub short: usize,

@@ -1,5 +1,7 @@
 // What `send` writes, made in lent memory from what it read: the headers and the frame of a picture, and of two pictures of one size the short frame of the second
 // behind them (02, request Eleven). specs/Stream says it as an equation over the bytes of the pictures. No customer links it.
+#![tactic(auto)]
+
 ghost use Rattle.std.specs.Prelude.{◌≡◌, ◌+◌, ◌-◌, ◌≤◌, ◌<◌, length, drop};
 ghost use Rattle.wire.specs.Wrote.{Wrote, writing_length};
 ghost use Rattle.app_pictures.specs.Ppm.{picture_of};
@@ -14,7 +16,7 @@ use settings::Settings;
 use wire::Writing;
 
 // What is to be made of a picture's pixels: by which settings, with which frame index, in which size.
-#[derive(Drop)]
+#[derive(Clone, Copy)]
 pub struct Task {
     pub settings: Settings,
     pub index: u32,
@@ -23,7 +25,7 @@ pub struct Task {
 }
 
 // What making a stream came to: the fault of a picture, 0 for none; 01's number; how many bytes of the output are the stream.
-#[derive(Drop)]
+#[derive(Clone, Copy)]
 pub struct Made {
     pub fault: u8,
     pub number: u8,

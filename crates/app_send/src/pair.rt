@@ -6,7 +6,7 @@ ghost use Rattle.app_send.specs.Pair.{no_pair, sized_pair, second_pair, heads_pa
 use app_pictures::ppm::Head;
 
 // The fault: that of the first picture or of the second, or 8 where their sizes differ; 0 for none.
-#[derive(Drop)]
+#[derive(Clone, Copy)]
 pub struct Pair {
     pub fault: u8,
     pub width: usize,

@@ -1,4 +1,6 @@
 // Settings for the programs (document 02, request Five): quantisers and mode from arguments, a settings file read (specs/Text), settings in words. No customer links it.
+#![tactic(auto)]
+
 ghost use Rattle.std.specs.Prelude.{◌≡◌};
 ghost use Rattle.app_text.specs.First.{first_of};
 ghost use Rattle.app_settings.specs.Text.{settings_in};
@@ -7,14 +9,15 @@ use app_text::lines::OUT;
 use bands::Quant;
 use settings::Settings;
 use settings::read::Reading;
+use std::rt::Env;
 
 // What stands for an argument that is no number.
 pub const NONE: usize = 4294967296;
 
 // The number that an argument is.
-pub fn number_of(i: usize) -> usize {
+pub fn number_of(rt: &impl Env, i: usize) -> usize {
     let mut text = [0u8; 16];
-    let n = os::arg(i, &mut text);
+    let n = app_text::arguments::argument(rt, i, &mut text);
     if n == 0 {
         return NONE;
     }
@@ -26,11 +29,11 @@ pub fn number_of(i: usize) -> usize {
 }
 
 // RLGR3, whose number in the stream is 4, without -m; else 1 is RLGR1, 3 is RLGR3, and 0 stands for none.
-pub fn mode_of(i: usize) -> u8 {
+pub fn mode_of(rt: &impl Env, i: usize) -> u8 {
     if i == 0 {
         return 4;
     }
-    match number_of(i) {
+    match number_of(rt, i) {
         1 => 1,
         3 => 4,
         _ => 0,
@@ -46,14 +49,14 @@ fn byte_of(n: usize) -> u8 {
 }
 
 // Ten quantisers, and whether all are numbers.
-#[derive(Drop)]
+#[derive(Clone, Copy)]
 pub struct Ten {
     pub q: Quant,
     pub good: bool,
 }
 
 // Those from argument i on; where there is none, those that are given.
-pub fn quantisers(i: usize, other: Quant) -> Ten {
+pub fn quantisers(rt: &impl Env, i: usize, other: Quant) -> Ten {
     if i == 0 {
         return Ten {
             q: other,
@@ -64,7 +67,7 @@ pub fn quantisers(i: usize, other: Quant) -> Ten {
     let mut good = true;
     let mut k: usize = 0;
     while k < 10 {
-        let n = number_of(std::num::wrapping_add_usize(i, k));
+        let n = number_of(rt, std::num::wrapping_add_usize(i, k));
         good = good && n < NONE;
         v[k] = byte_of(n);
         k += 1;
@@ -83,7 +86,7 @@ pub fn usual() -> Quant {
 }
 
 // What a settings file came to: how many bytes were read of it, whether they are all of it, and what a reader says of them.
-#[derive(Drop)]
+#[derive(Clone, Copy)]
 pub struct Kept {
     pub n: usize,
     pub whole: bool,
@@ -101,11 +104,11 @@ pub fn settings_in(whole: bool, bytes: &[u8]) -> Reading
 }
 
 // The settings of the file that argument i names, standard input where i is 0. Where there are none, one line says why.
-pub fn load(to: i32, name: &[u8], i: usize, data: &mut [u8]) -> Kept
+pub fn load(rt: &HostRuntime, to: i32, name: &[u8], i: usize, data: &mut [u8]) -> Kept
     ensures { result.reading ≡ settings_in result.whole (first_of «data».new result.n) }
 {
     let too_long = b"the settings file is longer than 4096 bytes";
-    let l = app_text::loading::load(to, name, i, data, too_long);
+    let l = app_text::loading::load(rt, to, name, i, data, too_long);
     let r = settings_in(l.whole, app_text::loading::first(data, l.n));
     if l.whole && r.number != 0 {
         app_text::lines::say_refusal(to, name, r.number);

@@ -4,8 +4,11 @@ ghost use Rattle.std.specs.Prelude.{◌≡◌, drop};
 ghost use Rattle.app_text.specs.First.{first_of};
 ghost use Rattle.app_stream.specs.Pieces.{Fills};
 
+use app_text::files::Source;
+use std::io::Read;
+
 // How many bytes the piece has that was read last, the place in it, and whether the input has ended.
-#[derive(Drop)]
+#[derive(Clone, Copy)]
 pub struct Piece {
     pub n: usize,
     pub at: usize,
@@ -24,17 +27,18 @@ pub fn start() -> Piece
 }
 
 // Reads at most so many bytes: how many came, 0 at the end of the input.
-fn read_piece(fd: i32, piece: &mut [u8], size: usize) -> usize {
+fn read_piece(source: &mut Source, piece: &mut [u8], size: usize) -> usize {
     if piece.len() < size {
         return 0;
     }
-    let part = &mut piece[0..size];
-    let got = libc::read(fd, part);
-    io::count(got, part)
+    match source.read(&mut piece[0..size]) {
+        Ok(n) => n,
+        Err(_) => 0,
+    }
 }
 
 // The next piece, where this one is at its end; what was passed over beyond it is passed over in the next.
-pub fn fill(p: Piece, fd: i32, size: usize, piece: &mut [u8]) -> Piece
+pub fn fill(p: Piece, source: &mut Source, size: usize, piece: &mut [u8]) -> Piece
     ensures { Fills p.at (first_of piece.old p.n) result.at (first_of piece.new result.n) result.last }
 {
     let end = app_text::loading::first(piece, p.n).len();
@@ -45,7 +49,7 @@ pub fn fill(p: Piece, fd: i32, size: usize, piece: &mut [u8]) -> Piece
             last: false,
         };
     }
-    let n = read_piece(fd, piece, size);
+    let n = read_piece(source, piece, size);
     Piece {
         n: n,
         at: p.at - end,

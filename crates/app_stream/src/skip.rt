@@ -8,7 +8,7 @@ use collect::Collector;
 
 // How many bytes of the present block are still to be passed over; the bytes of a head that waits, as one number; whether a frame goes on behind this block; how
 // many bytes of the head are there. All 0 where nothing is passed over.
-#[derive(Drop)]
+#[derive(Clone, Copy)]
 pub struct Skip {
     pub left: usize,
     pub head: usize,
@@ -17,7 +17,7 @@ pub struct Skip {
 }
 
 // The record after some bytes, and how many of them were passed over.
-#[derive(Drop)]
+#[derive(Clone, Copy)]
 pub struct Skipped {
     pub skip: Skip,
     pub taken: usize,

@@ -1,5 +1,7 @@
 // Text into lent memory, from a place on: bytes, and numbers in base 10 or 16 (specs/Words). What the programs write as their result is made so, by functions whose
 // text is an equation; only then it goes to the outside. No customer links it.
+#![tactic(auto)]
+
 pub mod saving;
 
 ghost use Rattle.std.specs.Prelude.{◌≡◌, ◌+◌, ◌≤◌, length};

@@ -1,6 +1,8 @@
 // Document 02's request Nine: the plain decoder and the product side by side on a recording (standard input), every component read and every tile
 // of its frames.
 // A record of the recording is a letter and little-endian numbers of four bytes, then bytes; what is no component read and no frame is passed over.
+#![tactic(auto)]
+
 mod both;
 mod tiles;
 
@@ -9,7 +11,7 @@ use app_recording::read::In;
 use app_text::lines::OUT;
 
 // What goes on from record to record: the input, what was compared, and whether it goes on.
-#[derive(Drop)]
+#[derive(Clone, Copy)]
 struct Desk {
     from: In,
     count: Count,
@@ -25,11 +27,11 @@ fn at_desk(c: In, count: Count) -> Desk {
 }
 
 // Numbers that nobody asks for.
-fn skip(input: &mut [u8], c: In, n: usize) -> In {
+fn skip(rt: &HostRuntime, input: &mut [u8], c: In, n: usize) -> In {
     let mut from = c;
     let mut left = n;
     while 0 < left && from.whole {
-        let f = app_recording::read::number(input, from);
+        let f = app_recording::read::number(rt, input, from);
         from = f.from;
         left -= 1;
     }
@@ -37,9 +39,9 @@ fn skip(input: &mut [u8], c: In, n: usize) -> In {
 }
 
 // A message that nobody asks for.
-fn pass(input: &mut [u8], c: In, message: &mut [u8]) -> In {
-    let f = app_recording::read::number(input, c);
-    app_recording::read::take_message(input, f.from, message, f.value)
+fn pass(rt: &HostRuntime, input: &mut [u8], c: In, message: &mut [u8]) -> In {
+    let f = app_recording::read::number(rt, input, c);
+    app_recording::read::take_message(rt, input, f.from, message, f.value)
 }
 
 // The component calls on the part of a list that is lent; a recording that asks for more than there is counts nothing.
@@ -64,9 +66,9 @@ fn component_on(c: Count, mode: usize, code: &[u8], n: usize) -> Count {
 }
 
 // 'C': mode, list length, bytes.
-fn component(d: Desk, input: &mut [u8], message: &mut [u8]) -> Desk {
-    let g = app_recording::read::take_three(input, d.from);
-    let from = app_recording::read::take_message(input, g.from, message, g.c);
+fn component(rt: &HostRuntime, d: Desk, input: &mut [u8], message: &mut [u8]) -> Desk {
+    let g = app_recording::read::take_three(rt, input, d.from);
+    let from = app_recording::read::take_message(rt, input, g.from, message, g.c);
     if !from.whole {
         return at_desk(from, d.count);
     }
@@ -75,9 +77,9 @@ fn component(d: Desk, input: &mut [u8], message: &mut [u8]) -> Desk {
 }
 
 // 'F': three list lengths, bytes.
-fn frame(d: Desk, input: &mut [u8], message: &mut [u8]) -> Desk {
-    let g = app_recording::read::take_four(input, d.from);
-    let from = app_recording::read::take_message(input, g.from, message, g.d);
+fn frame(rt: &HostRuntime, d: Desk, input: &mut [u8], message: &mut [u8]) -> Desk {
+    let g = app_recording::read::take_four(rt, input, d.from);
+    let from = app_recording::read::take_message(rt, input, g.from, message, g.d);
     if !from.whole {
         return at_desk(from, d.count);
     }
@@ -86,34 +88,34 @@ fn frame(d: Desk, input: &mut [u8], message: &mut [u8]) -> Desk {
 }
 
 // 'W': mode, room, and a list run by run.
-fn writer(d: Desk, input: &mut [u8]) -> Desk {
-    let g = app_recording::read::take_three(input, d.from);
-    let from = skip(input, g.from, g.c);
-    let last = skip(input, from, g.c);
+fn writer(rt: &HostRuntime, d: Desk, input: &mut [u8]) -> Desk {
+    let g = app_recording::read::take_three(rt, input, d.from);
+    let from = skip(rt, input, g.from, g.c);
+    let last = skip(rt, input, from, g.c);
     at_desk(last, d.count)
 }
 
 // 'Z': eight numbers, ten quantisers, bytes.
-fn frame_writer(d: Desk, input: &mut [u8], message: &mut [u8]) -> Desk {
-    let from = skip(input, d.from, 8);
-    let t = app_recording::read::take_ten(input, from);
-    let last = pass(input, t.from, message);
+fn frame_writer(rt: &HostRuntime, d: Desk, input: &mut [u8], message: &mut [u8]) -> Desk {
+    let from = skip(rt, input, d.from, 8);
+    let t = app_recording::read::take_ten(rt, input, from);
+    let last = pass(rt, input, t.from, message);
     at_desk(last, d.count)
 }
 
 // One record, by its letter.
-fn record(d: Desk, letter: u8, input: &mut [u8], message: &mut [u8]) -> Desk {
+fn record(rt: &HostRuntime, d: Desk, letter: u8, input: &mut [u8], message: &mut [u8]) -> Desk {
     match letter {
         b'N' | b'Y' => d,
-        b'D' => at_desk(skip(input, d.from, 1), d.count),
-        b'P' => at_desk(skip(input, d.from, 2), d.count),
-        b'G' => at_desk(skip(input, d.from, 3), d.count),
-        b'R' | b'X' => at_desk(skip(input, d.from, 4), d.count),
-        b'H' => at_desk(pass(input, d.from, message), d.count),
-        b'C' => component(d, input, message),
-        b'F' => frame(d, input, message),
-        b'W' => writer(d, input),
-        b'Z' => frame_writer(d, input, message),
+        b'D' => at_desk(skip(rt, input, d.from, 1), d.count),
+        b'P' => at_desk(skip(rt, input, d.from, 2), d.count),
+        b'G' => at_desk(skip(rt, input, d.from, 3), d.count),
+        b'R' | b'X' => at_desk(skip(rt, input, d.from, 4), d.count),
+        b'H' => at_desk(pass(rt, input, d.from, message), d.count),
+        b'C' => component(rt, d, input, message),
+        b'F' => frame(rt, d, input, message),
+        b'W' => writer(rt, d, input),
+        b'Z' => frame_writer(rt, d, input, message),
         _ => unknown(d),
     }
 }
@@ -137,17 +139,17 @@ fn stopped(d: Desk) -> Desk {
 }
 
 // An end of the input between two records is the end.
-fn step(d: Desk, input: &mut [u8], message: &mut [u8]) -> Desk {
-    let b = app_recording::read::next(input, d.from);
+fn step(rt: &HostRuntime, d: Desk, input: &mut [u8], message: &mut [u8]) -> Desk {
+    let b = app_recording::read::next(rt, input, d.from);
     let from = b.from;
     if !from.whole {
         return stopped(d);
     }
-    record(at_desk(from, d.count), b.value, input, message)
+    record(rt, at_desk(from, d.count), b.value, input, message)
 }
 
 // A proved loop ends, and nothing says that an input does: the turns are counted down from a number that no run uses up.
-fn run(input: &mut [u8], message: &mut [u8; 1048576]) -> Count {
+fn run(rt: &HostRuntime, input: &mut [u8], message: &mut [u8; 1048576]) -> Count {
     let mut d = at_desk(
         app_recording::read::start(),
         Count {
@@ -158,16 +160,16 @@ fn run(input: &mut [u8], message: &mut [u8; 1048576]) -> Count {
     );
     let mut turns = u64::MAX;
     while 0 < turns && d.go {
-        d = step(d, input, message);
+        d = step(rt, d, input, message);
         turns -= 1;
     }
     d.count
 }
 
-fn main() {
+fn main(rt: HostRuntime) {
     let mut input = [0u8; 65536];
     let mut message = [0u8; 1048576];
-    let c = run(&mut input, &mut message);
+    let c = run(&rt, &mut input, &mut message);
     app_text::lines::say_number(OUT, b"", c.components);
     app_text::lines::say_number(OUT, b" components, ", c.tiles);
     if c.differ == 0 {

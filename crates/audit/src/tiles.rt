@@ -5,7 +5,7 @@ ghost use Rattle.std.specs.Prelude.{◌<◌, ◌≤◌, length};
 use bands::Quant;
 
 // What was compared so far, and how much of it differed.
-#[derive(Drop)]
+#[derive(Clone, Copy)]
 pub struct Count {
     pub components: u64,
     pub tiles: u64,
@@ -96,7 +96,7 @@ fn tile_of(c: Count, m: &[u8], mode: u8, q: Sets, i: usize, j: usize, k: usize, 
 }
 
 // The three quantiser sets of a tile.
-#[derive(Drop)]
+#[derive(Clone, Copy)]
 struct Sets {
     y: Quant,
     cb: Quant,

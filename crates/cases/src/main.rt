@@ -1,5 +1,7 @@
 // Runs document 01's "Cases on both sides" through the calls of `panel`, and prints a line for each: those that are not marked (p), and those that are,
 // since running costs little; and the cases that document 02 adds. A case that comes out otherwise says so, and the gate compares the lines.
+#![tactic(auto)]
+
 use app_text::lines::OUT;
 use bands::Quant;
 use session::Session;
@@ -357,7 +359,8 @@ fn put(out: &mut [u8], at: usize, from: &[u8]) {
     if out.len() - at < from.len() {
         return;
     }
-    bytes::copy(from, &mut out[at..]);
+    let end = at + from.len();
+    out[at..end].copy_from_slice(from);
 }
 
 // The number for the first n bytes of a message.

@@ -3,15 +3,18 @@
 // column and row from 0 and the count of differing words, row by row; then "tiles t". Different sizes print only "size"; a file that is short, too long, of
 // a size that 01 refuses, or missing, prints only "bad", which goes before "size". With an argument the second picture, dimmed, the differing tiles framed,
 // goes to the file of that name as a 16-bit BMP. Memory: one row of each file and 2,048 counts.
+#![tactic(auto)]
+
+use std::rt::Env;
 
 // The number of the argument that names a picture, 0 for none.
-fn picture_argument() -> usize {
-    if os::arg_count() == 2 {
+fn picture_argument(rt: &impl Env) -> usize {
+    if app_text::arguments::count(rt) == 2 {
         return 1;
     }
     0
 }
 
-fn main() {
-    app_compare::compare(b"a.pic", b"b.pic", picture_argument());
+fn main(rt: HostRuntime) {
+    app_compare::compare(&rt, b"a.pic", b"b.pic", picture_argument(&rt));
 }

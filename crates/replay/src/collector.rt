@@ -6,7 +6,7 @@ use collect::Collector;
 use session::Session;
 
 // The collector's record, of the store's memory the bytes that are lent and those that are filled.
-#[derive(Drop)]
+#[derive(Clone, Copy)]
 pub struct Store {
     pub c: Collector,
     pub lent: usize,
@@ -143,7 +143,7 @@ fn pieces(
 }
 
 // The session's record and the collector's after a 'g', and whether there were lists, a store and a picture as asked for.
-#[derive(Drop)]
+#[derive(Clone, Copy)]
 pub struct Played {
     pub s: Session,
     pub c: Collector,

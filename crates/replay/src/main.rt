@@ -2,6 +2,8 @@
 // hash of the lent memory. A record of the recording is a letter and little-endian numbers of four bytes, then bytes (`taking`); lent lists hold 7 and lent
 // output A5. A record is read whole before its call is made: a call gets the record's memory and, of the memory that is lent, only what it needs
 // (`app_records`). The calls and their lines are in `app_calls` and `app_answers`; here is the loop.
+#![tactic(auto)]
+
 mod collector;
 mod records;
 
@@ -126,6 +128,7 @@ fn make(
 
 // A proved loop ends, and nothing says that an input does: the turns are counted down from a number that no run uses up.
 fn run(
+    rt: &HostRuntime,
     input: &mut [u8],
     message: &mut [u8],
     out: &mut [u8],
@@ -137,7 +140,7 @@ fn run(
     let mut d = crate::records::fresh();
     let mut turns = u64::MAX;
     while 0 < turns && d.go {
-        let came = app_records::taking::take(input, from, message);
+        let came = app_records::taking::take(rt, input, from, message);
         d = make(d, came.record, message, out, store, picture, wide);
         from = came.from;
         turns -= 1;
@@ -146,6 +149,7 @@ fn run(
 
 // The large ones come as arrays: their lengths are known without counting to a million.
 fn run_in(
+    rt: &HostRuntime,
     input: &mut [u8],
     message: &mut [u8; 1114112],
     out: &mut [u8; 1048576],
@@ -153,10 +157,10 @@ fn run_in(
     picture: &mut [u16; 1048576],
     wide: &mut [u32; 131072],
 ) {
-    run(input, message, out, store, picture, wide);
+    run(rt, input, message, out, store, picture, wide);
 }
 
-fn main() {
+fn main(rt: HostRuntime) {
     let mut input = [0u8; 65536];
     let mut message = [0u8; 1114112];
     let mut out = [0u8; 1048576];
@@ -164,6 +168,7 @@ fn main() {
     let mut picture = [0u16; 1048576];
     let mut wide = [0u32; 131072];
     run_in(
+        &rt,
         &mut input,
         &mut message,
         &mut out,

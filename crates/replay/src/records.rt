@@ -10,7 +10,7 @@ use session::Session;
 
 // The session's record and the collector's, the words of picture that are lent and whether they have 32 bits, the bytes last written, of the store's memory the
 // bytes that are lent and those that were filled, and whether it goes on.
-#[derive(Drop)]
+#[derive(Clone, Copy)]
 pub struct Desk {
     pub s: Session,
     pub c: Collector,

@@ -182,13 +182,14 @@ fn against_written(name: &[u8], printed: &[u8], list: &[i32], code: &mut [u8]) -
 
 // A code that answers 11, cut to the bits that the reader reports, against the decoded list.
 fn against_list(
+    rt: &HostRuntime,
     name: &[u8],
     list_name: &[u8],
     list: &[i32],
     code: &mut [u8],
     bits: usize,
 ) -> usize {
-    crate::stages::load(name, code);
+    crate::stages::load(rt, name, code);
     let n = cut(code, bits);
     let mut got = [0; 4096];
     let r = code::read::read_component(MODE, app_text::loading::first(code, n), &mut got);
@@ -215,12 +216,19 @@ fn answer(name: &[u8], printed: &[u8]) -> usize {
 }
 
 // A code's values against a list's.
-fn values(name: &[u8], list_name: &[u8], printed: &[u8], list: &[i32], code: &mut [u8]) -> usize {
+fn values(
+    rt: &HostRuntime,
+    name: &[u8],
+    list_name: &[u8],
+    printed: &[u8],
+    list: &[i32],
+    code: &mut [u8],
+) -> usize {
     let bits = answer(name, printed);
     if bits == 0 {
         return against_written(list_name, printed, list, code);
     }
-    against_list(name, list_name, list, code, bits)
+    against_list(rt, name, list_name, list, code, bits)
 }
 
 // The name of a code: that of its list, without "_list".
@@ -234,13 +242,14 @@ fn code_name(list_name: &[u8]) -> &[u8] {
 }
 
 // One code: what it answers as printed, then its values. It leaves a clean code of the same list, whose length in bytes is the answer.
-pub fn component(list_name: &[u8], code: &mut [u8]) -> usize {
+pub fn component(rt: &HostRuntime, list_name: &[u8], code: &mut [u8]) -> usize {
     let mut printed = [0u8; 1024];
     let mut list = [0; 4096];
     let name = code_name(list_name);
-    let n = crate::stages::load(name, &mut printed);
-    crate::stages::load_list(list_name, &mut list);
+    let n = crate::stages::load(rt, name, &mut printed);
+    crate::stages::load_list(rt, list_name, &mut list);
     values(
+        rt,
         name,
         list_name,
         app_text::loading::first(&printed, n),
@@ -250,8 +259,8 @@ pub fn component(list_name: &[u8], code: &mut [u8]) -> usize {
 }
 
 // The list of a clean code against 001's print of it, sixteen numbers a row.
-pub fn printed(name: &[u8], code: &[u8]) {
+pub fn printed(rt: &HostRuntime, name: &[u8], code: &[u8]) {
     let mut list = [0; 4096];
     code::read::read_component(MODE, code, &mut list);
-    crate::stages::printed(name, &list, 16);
+    crate::stages::printed(rt, name, &list, 16);
 }

@@ -4,6 +4,8 @@
 // differ are named by the places that 001 labels them with; docs/DECISIONS.md, 41, says what is wrong with them.
 // Files: data/NAME has the decoded values of the stage NAME, data/printed/NAME its printed rows; the words of a tile are two bytes for the 5-6-5 word and one
 // that is 0 where the text cannot be read; codes and the tileset are 001's bytes.
+#![tactic(auto)]
+
 mod code_stages;
 mod stages;
 mod wave_stages;
@@ -16,9 +18,9 @@ use bands::Quant;
 // ---- a component's numbers
 
 // The quantisers of the sample, by their place in its tileset.
-fn quantisers() -> Quant {
+fn quantisers(rt: &HostRuntime) -> Quant {
     let mut m = [0u8; 64];
-    crate::stages::load(b"4.2.4.1_tileset", &mut m);
+    crate::stages::load(rt, b"4.2.4.1_tileset", &mut m);
     bands::quant_at(&m, 22)
 }
 
@@ -103,7 +105,7 @@ fn fill_words(ys: &[i32], cbs: &[i32], crs: &[i32], out: &mut [u16])
 }
 
 // How many words of a file are those of a tile, and how many are not.
-#[derive(Drop)]
+#[derive(Clone, Copy)]
 struct Tally {
     same: usize,
     other: usize,
@@ -137,9 +139,9 @@ fn count_words(words: &[u16; 4096], data: &[u8; 12288]) -> Tally {
 }
 
 // The words against a file's.
-fn colours(name: &[u8], words: &[u16; 4096]) {
+fn colours(rt: &HostRuntime, name: &[u8], words: &[u16; 4096]) {
     let mut data = [0u8; 12288];
-    crate::stages::load(name, &mut data);
+    crate::stages::load(rt, name, &mut data);
     let t = count_words(words, &data);
     let same = t.same;
     let other = t.other;
@@ -150,35 +152,35 @@ fn colours(name: &[u8], words: &[u16; 4096]) {
 }
 
 // The tile's words against those of 01's integers, and against the text's, which differ: 001 gives reals, and 01's integers decide.
-fn picture(ys: &[i32], cbs: &[i32], crs: &[i32]) {
+fn picture(rt: &HostRuntime, ys: &[i32], cbs: &[i32], crs: &[i32]) {
     let mut out = [0u16; 4096];
     words(ys, cbs, crs, &mut out);
-    colours(b"4.2.4.4_round_words", &out);
-    colours(b"4.2.4.4_text_words", &out);
+    colours(rt, b"4.2.4.4_round_words", &out);
+    colours(rt, b"4.2.4.4_text_words", &out);
 }
 
 // The codes of 4.2.3.
-fn codes() {
+fn codes(rt: &HostRuntime) {
     let mut code = [0u8; 1024];
-    crate::code_stages::component(b"4.2.3_y_list", &mut code);
-    crate::code_stages::component(b"4.2.3_cb_list", &mut code);
-    crate::code_stages::component(b"4.2.3_cr_list", &mut code);
+    crate::code_stages::component(rt, b"4.2.3_y_list", &mut code);
+    crate::code_stages::component(rt, b"4.2.3_cb_list", &mut code);
+    crate::code_stages::component(rt, b"4.2.3_cr_list", &mut code);
 }
 
 // Y of 4.2.4, stage by stage.
-fn luma(q: Quant, ys: &mut [i32], tmp: &mut [i32]) {
-    luma_code(q, ys);
-    crate::wave_stages::shown_level(b'1', b'3', b'2', 8, ys, tmp);
-    crate::wave_stages::shown_level(b'2', b'2', b'1', 16, ys, tmp);
-    crate::wave_stages::shown_level(b'3', b'1', b'0', 32, ys, tmp);
-    crate::stages::decoded(b"4.2.4.3.4_y", ys);
+fn luma(rt: &HostRuntime, q: Quant, ys: &mut [i32], tmp: &mut [i32]) {
+    luma_code(rt, q, ys);
+    crate::wave_stages::shown_level(rt, b'1', b'3', b'2', 8, ys, tmp);
+    crate::wave_stages::shown_level(rt, b'2', b'2', b'1', 16, ys, tmp);
+    crate::wave_stages::shown_level(rt, b'3', b'1', b'0', 32, ys, tmp);
+    crate::stages::decoded(rt, b"4.2.4.3.4_y", ys);
 }
 
-fn luma_code(q: Quant, ys: &mut [i32]) {
+fn luma_code(rt: &HostRuntime, q: Quant, ys: &mut [i32]) {
     let mut code = [0u8; 1024];
-    let n = crate::code_stages::component(b"4.2.4.1_y_list", &mut code);
+    let n = crate::code_stages::component(rt, b"4.2.4.1_y_list", &mut code);
     let clean = app_text::loading::first(&code, n);
-    crate::code_stages::printed(b"printed/4.2.4.2.1_y_list", clean);
+    crate::code_stages::printed(rt, b"printed/4.2.4.2.1_y_list", clean);
     coefficients(q, clean, ys);
 }
 
@@ -204,24 +206,32 @@ fn printed_name(section: u8, letter: u8) -> [u8; 20] {
 }
 
 // Cb or Cr of 4.2.4, by its letter and the last digits of the sections that print its list and its samples.
-fn chroma(letter: u8, list: u8, stage: u8, q: Quant, work: &mut [i32], tmp: &mut [i32]) {
+fn chroma(
+    rt: &HostRuntime,
+    letter: u8,
+    list: u8,
+    stage: u8,
+    q: Quant,
+    work: &mut [i32],
+    tmp: &mut [i32],
+) {
     let mut code = [0u8; 1024];
-    let n = crate::code_stages::component(&list_name(letter), &mut code);
+    let n = crate::code_stages::component(rt, &list_name(letter), &mut code);
     let clean = app_text::loading::first(&code, n);
-    crate::code_stages::printed(&printed_list_name(list, letter), clean);
+    crate::code_stages::printed(rt, &printed_list_name(list, letter), clean);
     samples(q, clean, work, tmp);
-    crate::stages::stage(&printed_name(stage, letter), work);
+    crate::stages::stage(rt, &printed_name(stage, letter), work);
 }
 
-fn main() {
+fn main(rt: HostRuntime) {
     let mut ys = [0; 4096];
     let mut cbs = [0; 4096];
     let mut crs = [0; 4096];
     let mut tmp = [0; 4096];
-    codes();
-    let q = quantisers();
-    luma(q, &mut ys, &mut tmp);
-    chroma(b'b', b'2', b'5', q, &mut cbs, &mut tmp);
-    chroma(b'r', b'3', b'6', q, &mut crs, &mut tmp);
-    picture(&ys, &cbs, &crs);
+    codes(&rt);
+    let q = quantisers(&rt);
+    luma(&rt, q, &mut ys, &mut tmp);
+    chroma(&rt, b'b', b'2', b'5', q, &mut cbs, &mut tmp);
+    chroma(&rt, b'r', b'3', b'6', q, &mut crs, &mut tmp);
+    picture(&rt, &ys, &cbs, &crs);
 }

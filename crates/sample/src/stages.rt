@@ -7,21 +7,21 @@ ghost use Rattle.io.specs.Counts.{IsPrefixLen};
 ghost use Rattle.sample.specs.Compare.{part_of, number_of, value_at, Unpacked, Loaded, one_if, holds_at, agreeing, place_of, row_same, rows_same};
 
 use app_text::lines::OUT;
+use std::os::fd::AsRawFd;
 
 // ---- files
 
 // Reads a file of data/; the answer is the number of its bytes.
-pub fn load(name: &[u8], bytes: &mut [u8]) -> usize
+pub fn load(rt: &HostRuntime, name: &[u8], bytes: &mut [u8]) -> usize
     ensures { IsPrefixLen result bytes.new }
 {
-    let fd = os::open_read(name);
-    if fd < 0 {
-        os::fail(name);
-        return 0;
+    match app_text::files::open(rt, name) {
+        Ok(file) => io::read_full(file.as_raw_fd(), bytes),
+        Err(e) => {
+            app_text::files::say_failed(name, e);
+            0
+        }
     }
-    let n = io::read_full(fd, bytes);
-    libc::close(fd);
-    n
 }
 
 // The n numbers of a list from place a on, none where they are not all there.
@@ -79,11 +79,11 @@ fn unpack(bytes: &[u8; 8320], list: &mut [i32])
 }
 
 // A list of a file: its numbers, and how many they are.
-pub fn load_list(name: &[u8], list: &mut [i32]) -> usize
+pub fn load_list(rt: &HostRuntime, name: &[u8], list: &mut [i32]) -> usize
     ensures { Loaded list.old list.new result }
 {
     let mut bytes = [0u8; 8320];
-    let n = load(name, &mut bytes) / 2;
+    let n = load(rt, name, &mut bytes) / 2;
     unpack(&bytes, list);
     n
 }
@@ -187,9 +187,9 @@ fn plain(name: &[u8]) -> &[u8] {
 }
 
 // What was made against 001's print: how many of the rows that stand whole in its text, of w numbers each, are the same.
-pub fn printed(name: &[u8], got: &[i32], w: u8) {
+pub fn printed(rt: &HostRuntime, name: &[u8], got: &[i32], w: u8) {
     let mut list = [0; 4160];
-    let n = load_list(name, &mut list);
+    let n = load_list(rt, name, &mut list);
     let rows = part(&list, 0, n);
     app_text::lines::say(OUT, b"printed ");
     app_text::lines::say(OUT, plain(name));
@@ -209,9 +209,9 @@ pub fn say_agree(stage: &[u8], same: usize, all: usize) {
 }
 
 // What was made against the decoded values of a stage, of which there must be as many.
-pub fn decoded(name: &[u8], got: &[i32]) {
+pub fn decoded(rt: &HostRuntime, name: &[u8], got: &[i32]) {
     let mut list = [0; 4096];
-    let n = load_list(name, &mut list);
+    let n = load_list(rt, name, &mut list);
     say_agree(name, agree(got, part(&list, 0, n)), n);
     if got.len() != n {
         app_text::lines::say(OUT, b"  but not as many were made\n");
@@ -219,12 +219,12 @@ pub fn decoded(name: &[u8], got: &[i32]) {
 }
 
 // One stage: what was made against both.
-pub fn stage(name: &[u8], got: &[i32]) {
-    decoded(plain(name), got);
-    printed(name, got, 8);
+pub fn stage(rt: &HostRuntime, name: &[u8], got: &[i32]) {
+    decoded(rt, plain(name), got);
+    printed(rt, name, got, 8);
 }
 
 // A stage that is a part of a list.
-pub fn shown(name: &[u8], list: &[i32], a: usize, n: usize) {
-    stage(name, part(list, a, n));
+pub fn shown(rt: &HostRuntime, name: &[u8], list: &[i32], a: usize, n: usize) {
+    stage(rt, name, part(list, a, n));
 }

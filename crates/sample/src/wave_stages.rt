@@ -77,20 +77,28 @@ fn count(n: usize) -> usize
 }
 
 // The bands of a level; LL is shown where nothing was made before.
-fn bands(section: u8, digit: u8, n: usize, work: &[i32]) {
+fn bands(rt: &HostRuntime, section: u8, digit: u8, n: usize, work: &[i32]) {
     let k = count(n);
     let a = 4096 - 4 * k;
     if section == b'1' {
         crate::stages::shown(
+            rt,
             &band_name(section, b'1', b'L', b'L', digit),
             work,
             a + 3 * k,
             k,
         );
     }
-    crate::stages::shown(&band_name(section, b'2', b'H', b'L', digit), work, a, k);
-    crate::stages::shown(&band_name(section, b'3', b'L', b'H', digit), work, a + k, k);
+    crate::stages::shown(rt, &band_name(section, b'2', b'H', b'L', digit), work, a, k);
     crate::stages::shown(
+        rt,
+        &band_name(section, b'3', b'L', b'H', digit),
+        work,
+        a + k,
+        k,
+    );
+    crate::stages::shown(
+        rt,
         &band_name(section, b'4', b'H', b'H', digit),
         work,
         a + 2 * k,
@@ -99,16 +107,25 @@ fn bands(section: u8, digit: u8, n: usize, work: &[i32]) {
 }
 
 // A level, stage by stage: its bands, the two halves of its row pass, and the band that it makes, which has the next level's digit.
-pub fn shown_level(section: u8, digit: u8, next: u8, n: usize, work: &mut [i32], tmp: &mut [i32])
+pub fn shown_level(
+    rt: &HostRuntime,
+    section: u8,
+    digit: u8,
+    next: u8,
+    n: usize,
+    work: &mut [i32],
+    tmp: &mut [i32],
+)
     ensures { work.new ≡ levelled n (length tmp.old) work.old }
 {
     let k = count(n);
-    bands(section, digit, n, work);
+    bands(rt, section, digit, n, work);
     rows(work, tmp, n);
-    crate::stages::shown(&half_name(section, b'5', b'L', next), tmp, 0, 2 * k);
-    crate::stages::shown(&half_name(section, b'6', b'H', next), tmp, 2 * k, 2 * k);
+    crate::stages::shown(rt, &half_name(section, b'5', b'L', next), tmp, 0, 2 * k);
+    crate::stages::shown(rt, &half_name(section, b'6', b'H', next), tmp, 2 * k, 2 * k);
     level(work, tmp, n);
     crate::stages::shown(
+        rt,
         &band_name(section, b'7', b'L', b'L', next),
         work,
         4096 - 4 * k,

@@ -6,6 +6,8 @@
 // short frame of NEW (02, request Eleven), of the tiles that differ; at most 524,288 pixels each. The last line says
 // what it came to (on standard output with -o, else on standard error); where anything is wrong it says what, and nothing is written. What is written is an equation
 // over the bytes that were read: app_send.
+#![tactic(auto)]
+
 mod args;
 mod short;
 
@@ -19,7 +21,7 @@ use settings::read::Reading;
 // ---- the settings
 
 // The settings of the arguments, or those of the file that -s names.
-fn chosen(to: i32, o: Options, data: &mut [u8]) -> Kept {
+fn chosen(rt: &HostRuntime, to: i32, o: Options, data: &mut [u8]) -> Kept {
     if o.kept == 0 {
         let s = o.settings;
         let r = Reading {
@@ -32,13 +34,13 @@ fn chosen(to: i32, o: Options, data: &mut [u8]) -> Kept {
             reading: r,
         };
     }
-    app_settings::load(to, b"send", o.kept, data)
+    app_settings::load(rt, to, b"send", o.kept, data)
 }
 
 // ---- one picture
 
 // How many bytes were read, whether they are the whole input, and what was made of them.
-#[derive(Drop)]
+#[derive(Clone, Copy)]
 struct Came {
     n: usize,
     whole: bool,
@@ -46,9 +48,16 @@ struct Came {
 }
 
 // Reads a picture and makes its stream.
-fn load_and_make(to: i32, o: Options, s: Settings, data: &mut [u8], out: &mut [u8]) -> Came {
+fn load_and_make(
+    rt: &HostRuntime,
+    to: i32,
+    o: Options,
+    s: Settings,
+    data: &mut [u8],
+    out: &mut [u8],
+) -> Came {
     let long = b"the picture is too large: at most 1048576 pixels are taken";
-    let l = app_text::loading::load(to, b"send", o.file, data, long);
+    let l = app_text::loading::load(rt, to, b"send", o.file, data, long);
     if !l.whole {
         return Came {
             n: l.n,
@@ -84,12 +93,12 @@ pub fn is_good(to: i32, m: Made) -> bool {
 }
 
 // "send: done, 12345 bytes"
-fn one(to: i32, o: Options, s: Settings, data: &mut [u8], out: &mut [u8]) {
-    let c = load_and_make(to, o, s, data, out);
+fn one(rt: &HostRuntime, to: i32, o: Options, s: Settings, data: &mut [u8], out: &mut [u8]) {
+    let c = load_and_make(rt, to, o, s, data, out);
     let m = c.made;
     if is_good(to, m) {
         let size = m.size;
-        if app_words::saving::save(to, b"send", o.out, app_text::loading::first(out, size)) {
+        if app_words::saving::save(rt, to, b"send", o.out, app_text::loading::first(out, size)) {
             app_text::lines::say_number(to, b"send: done, ", size as u64);
             app_text::lines::say(to, b" bytes\n");
         }
@@ -98,34 +107,41 @@ fn one(to: i32, o: Options, s: Settings, data: &mut [u8], out: &mut [u8]) {
 
 // ---- the program
 
-fn run(to: i32, o: Options, s: Settings, data: &mut [u8], out: &mut [u8]) {
+fn run(rt: &HostRuntime, to: i32, o: Options, s: Settings, data: &mut [u8], out: &mut [u8]) {
     if o.old == 0 {
-        one(to, o, s, data, out);
+        one(rt, to, o, s, data, out);
         return;
     }
-    crate::short::two(to, o, s, data, out);
+    crate::short::two(rt, to, o, s, data, out);
 }
 
 // The two large ones come as arrays: their lengths are known without counting to a million. The pictures' has 1,024 bytes for the head of each of two.
-fn run_in(to: i32, o: Options, s: Settings, data: &mut [u8; 3147776], out: &mut [u8; 4194304]) {
-    run(to, o, s, data, out);
+fn run_in(
+    rt: &HostRuntime,
+    to: i32,
+    o: Options,
+    s: Settings,
+    data: &mut [u8; 3147776],
+    out: &mut [u8; 4194304],
+) {
+    run(rt, to, o, s, data, out);
 }
 
-fn start(to: i32, o: Options, s: Settings) {
+fn start(rt: &HostRuntime, to: i32, o: Options, s: Settings) {
     let mut data = [0u8; 3147776];
     let mut out = [0u8; 4194304];
-    run_in(to, o, s, &mut data, &mut out);
+    run_in(rt, to, o, s, &mut data, &mut out);
 }
 
-fn main() {
+fn main(rt: HostRuntime) {
     let mut kept = [0u8; 4096];
-    let o = crate::args::arguments();
+    let o = crate::args::arguments(&rt);
     if o.good {
         let to = app_words::saving::lines_to(o.out);
-        let r = chosen(to, o, &mut kept).reading;
+        let r = chosen(&rt, to, o, &mut kept).reading;
         let s = r.settings;
         if r.number == 0 {
-            start(to, o, s);
+            start(&rt, to, o, s);
         }
         return;
     }

@@ -4,18 +4,18 @@ use app_send::both::Both;
 use settings::Settings;
 
 // Both pictures, read into the two halves of a buffer: how many bytes of each, and whether both were read whole.
-#[derive(Drop)]
+#[derive(Clone, Copy)]
 struct Came {
     old: usize,
     new: usize,
     whole: bool,
 }
 
-fn load_both(to: i32, o: Options, data: &mut [u8]) -> Came {
+fn load_both(rt: &HostRuntime, to: i32, o: Options, data: &mut [u8]) -> Came {
     let end = data.len();
     let half = end / 2;
     let long = b"a picture is too large: at most 524288 pixels each are taken";
-    let a = app_text::loading::load(to, b"send", o.old, &mut data[0..half], long);
+    let a = app_text::loading::load(rt, to, b"send", o.old, &mut data[0..half], long);
     if !a.whole {
         return Came {
             old: 0,
@@ -23,7 +23,7 @@ fn load_both(to: i32, o: Options, data: &mut [u8]) -> Came {
             whole: false,
         };
     }
-    let b = app_text::loading::load(to, b"send", o.file, &mut data[half..end], long);
+    let b = app_text::loading::load(rt, to, b"send", o.file, &mut data[half..end], long);
     Came {
         old: a.n,
         new: b.n,
@@ -79,18 +79,28 @@ fn say_saved(to: i32, data: &[u8], c: Came, b: Both) {
     app_text::lines::say(to, b"\n");
 }
 
-fn send(to: i32, o: Options, s: Settings, c: Came, data: &[u8], picks: &[u32], out: &mut [u8]) {
+fn send(
+    rt: &HostRuntime,
+    to: i32,
+    o: Options,
+    s: Settings,
+    c: Came,
+    data: &[u8],
+    picks: &[u32],
+    out: &mut [u8],
+) {
     let b = make(s, o.index, c, data, picks, out);
     let m = b.made;
     if crate::is_good(to, m) {
         let size = m.size;
-        if app_words::saving::save(to, b"send", o.out, app_text::loading::first(out, size)) {
+        if app_words::saving::save(rt, to, b"send", o.out, app_text::loading::first(out, size)) {
             say_saved(to, data, c, b);
         }
     }
 }
 
 fn pick_and_send(
+    rt: &HostRuntime,
     to: i32,
     o: Options,
     s: Settings,
@@ -101,14 +111,14 @@ fn pick_and_send(
 ) {
     let n = changed(old_of(data, c), new_of(data, c), picks);
     if n <= picks.len() {
-        send(to, o, s, c, data, &picks[0..n], out);
+        send(rt, to, o, s, c, data, &picks[0..n], out);
     }
 }
 
-pub fn two(to: i32, o: Options, s: Settings, data: &mut [u8], out: &mut [u8]) {
+pub fn two(rt: &HostRuntime, to: i32, o: Options, s: Settings, data: &mut [u8], out: &mut [u8]) {
     let mut picks = [0u32; 2048];
-    let c = load_both(to, o, data);
+    let c = load_both(rt, to, o, data);
     if c.whole {
-        pick_and_send(to, o, s, c, data, &mut picks, out);
+        pick_and_send(rt, to, o, s, c, data, &mut picks, out);
     }
 }

@@ -2,13 +2,16 @@
 // The first prints the settings of FILE, or of standard input, in words. The second writes settings, to OUT or to standard output: -q are luma's quantisers and, without
 // -Q, chroma's too, in the order LL3, LH3, HL3, HH3, LH2, HL2, HH2, LH1, HL1, HH1; -m 3 is RLGR3 (so without -m), -m 1 RLGR1. The last line says what it came to: on
 // standard output where the result goes to OUT, else on standard error.
+#![tactic(auto)]
+
 use app_text::lines::ERR;
 use quants::Quants;
 use settings::Settings;
+use std::rt::Env;
 
 // What the arguments ask: the file's argument and the result's (0 none), whether settings are to be written, and which; whether the arguments are as the usage says,
 // each option at most once.
-#[derive(Drop)]
+#[derive(Clone, Copy)]
 struct Options {
     file: usize,
     out: usize,
@@ -17,19 +20,19 @@ struct Options {
     good: bool,
 }
 
-fn arguments() -> Options {
+fn arguments(rt: &impl Env) -> Options {
     let known = [b'm', 1, b'q', 10, b'Q', 10, b'o', 1, 0, 0, 0, 0, 0, 0, 0, 0];
-    let file = app_text::arguments::find(known, 0);
-    let m = app_text::arguments::find(known, b'm');
-    let q = app_text::arguments::find(known, b'q');
-    let c = app_text::arguments::find(known, b'Q');
-    let out = app_text::arguments::find(known, b'o');
-    let other = app_text::arguments::find(known, b'-');
+    let file = app_text::arguments::find(rt, known, 0);
+    let m = app_text::arguments::find(rt, known, b'm');
+    let q = app_text::arguments::find(rt, known, b'q');
+    let c = app_text::arguments::find(rt, known, b'Q');
+    let out = app_text::arguments::find(rt, known, b'o');
+    let other = app_text::arguments::find(rt, known, b'-');
     let once = file.times < 2 && m.times < 2 && q.times < 2 && c.times < 2 && out.times < 2;
-    let mode = app_settings::mode_of(m.at);
-    let luma = app_settings::quantisers(q.at, app_settings::usual());
+    let mode = app_settings::mode_of(rt, m.at);
+    let luma = app_settings::quantisers(rt, q.at, app_settings::usual());
     let first = luma.q;
-    let chroma = app_settings::quantisers(c.at, first);
+    let chroma = app_settings::quantisers(rt, c.at, first);
     let second = chroma.q;
     let both = Quants {
         luma: first,
@@ -55,16 +58,16 @@ fn arguments() -> Options {
 }
 
 // The result goes out, and the last line is said.
-fn finish(to: i32, out: usize, bytes: &[u8]) {
-    if app_words::saving::save(to, b"settings", out, bytes) {
+fn finish(rt: &HostRuntime, to: i32, out: usize, bytes: &[u8]) {
+    if app_words::saving::save(rt, to, b"settings", out, bytes) {
         app_text::lines::say_done(to, b"settings");
     }
 }
 
 // A file in words, on standard output; the last line is on standard error.
-fn print(file: usize) {
+fn print(rt: &HostRuntime, file: usize) {
     let mut data = [0u8; 4096];
-    let k = app_settings::load(ERR, b"settings", file, &mut data);
+    let k = app_settings::load(rt, ERR, b"settings", file, &mut data);
     let r = k.reading;
     let s = r.settings;
     if r.number == 0 {
@@ -73,7 +76,7 @@ fn print(file: usize) {
     }
 }
 
-fn write(to: i32, s: Settings, out: usize) {
+fn write(rt: &HostRuntime, to: i32, s: Settings, out: usize) {
     let mut bytes = [0u8; 15];
     let w = settings::write::write_settings(s, &mut bytes);
     let number = wire::writing_number(w);
@@ -82,14 +85,15 @@ fn write(to: i32, s: Settings, out: usize) {
         return;
     }
     finish(
+        rt,
         to,
         out,
         app_text::loading::first(&bytes, wire::writing_length(w)),
     );
 }
 
-fn main() {
-    let o = arguments();
+fn main(rt: HostRuntime) {
+    let o = arguments(&rt);
     if !o.good {
         app_text::lines::say(
             ERR,
@@ -99,8 +103,8 @@ fn main() {
     }
     let s = o.settings;
     if o.writes {
-        write(app_words::saving::lines_to(o.out), s, o.out);
+        write(&rt, app_words::saving::lines_to(o.out), s, o.out);
         return;
     }
-    print(o.file);
+    print(&rt, o.file);
 }

@@ -1,8 +1,9 @@
 // The options of the program `show`:  show [FILE] [-o OUT.bmp|OUT.png] [-p OUT.pic] [-c N] [-g 16|32]
+use std::rt::Env;
 
 // The arguments by their number, 0 for none; how many bytes are read at a time; the glass, 0 for words of 16 bits and 1 for words of 32; whether they are as
 // the usage says, each at most once.
-#[derive(Drop)]
+#[derive(Clone, Copy)]
 pub struct Options {
     pub file: usize,
     pub out: usize,
@@ -13,12 +14,12 @@ pub struct Options {
 }
 
 // The number that an argument is; what is given where there is none, 0 where it is no number from 1 to 65,536.
-fn number_of(i: usize, none: usize) -> usize {
+fn number_of(rt: &impl Env, i: usize, none: usize) -> usize {
     let mut text = [0u8; 16];
     if i == 0 {
         return none;
     }
-    let n = os::arg(i, &mut text);
+    let n = app_text::arguments::argument(rt, i, &mut text);
     let f = app_pictures::ppm::number(&text, 0);
     if f.at != n {
         return 0;
@@ -36,16 +37,16 @@ fn glass_of(bits: usize) -> u8 {
     0
 }
 
-pub fn arguments() -> Options {
+pub fn arguments(rt: &impl Env) -> Options {
     let known = [b'o', 1, b'p', 1, b'c', 1, b'g', 1, 0, 0, 0, 0, 0, 0, 0, 0];
-    let file = app_text::arguments::find(known, 0);
-    let out = app_text::arguments::find(known, b'o');
-    let pic = app_text::arguments::find(known, b'p');
-    let cut = app_text::arguments::find(known, b'c');
-    let glass = app_text::arguments::find(known, b'g');
-    let other = app_text::arguments::find(known, b'-');
-    let size = number_of(cut.at, 65536);
-    let bits = number_of(glass.at, 16);
+    let file = app_text::arguments::find(rt, known, 0);
+    let out = app_text::arguments::find(rt, known, b'o');
+    let pic = app_text::arguments::find(rt, known, b'p');
+    let cut = app_text::arguments::find(rt, known, b'c');
+    let glass = app_text::arguments::find(rt, known, b'g');
+    let other = app_text::arguments::find(rt, known, b'-');
+    let size = number_of(rt, cut.at, 65536);
+    let bits = number_of(rt, glass.at, 16);
     let once = file.times < 2 && out.times < 2 && pic.times < 2 && cut.times < 2 && glass.times < 2;
     Options {
         file: file.at,

@@ -5,6 +5,7 @@ ghost use Rattle.app_calls.specs.Given.{scene};
 ghost use Rattle.show.specs.Play.{frame_drawn, drawn, ShownTo};
 
 use app_calls::given::Desk;
+use app_text::files::Source;
 use collect::Collected;
 
 // A frame call, and its line.
@@ -47,7 +48,7 @@ fn draw(d: Desk, answer: Collected, store: &[u8], picture: &mut [u32])
 // The whole input. A proved loop ends, and nothing says that an input does: the turns are counted down from a number that no run uses up.
 pub fn run(
     d: Desk,
-    fd: i32,
+    source: &mut Source,
     size: usize,
     piece: &mut [u8],
     store: &mut [u8],
@@ -58,7 +59,7 @@ pub fn run(
     let mut t = crate::playing::begin(d);
     let mut turns = u64::MAX;
     while 0 < turns && t.go {
-        t = crate::playing::next(t, fd, size, piece, store);
+        t = crate::playing::next(t, source, size, piece, store);
         let e = t.d;
         let answer = t.answer;
         draw(e, answer, store, picture);

@@ -6,6 +6,8 @@
 // little-endian. The session is opened for a glass of 16 bits (5-6-5, a BMP of 16 bits a pixel), or with -g 32 for one of 32 (8-8-8, a BMP of 32); -p has words
 // of 16 bits only. The picture starts black, and has at most 1,920 x 1,080 words of 16 bits, or 1,048,576 of 32: a program has 8 MB of stack and no other
 // memory. The kit has no exit status: where nothing is written, a line on standard error says why.
+#![tactic(auto)]
+
 mod args;
 mod drawing;
 mod drawing_32;
@@ -18,9 +20,9 @@ ghost use Rattle.app_calls.specs.Given.{fresh_desk};
 
 use crate::args::Options;
 use app_calls::given::Desk;
+use app_text::files::Source;
 use app_text::lines::ERR;
 use collect::Collector;
-use libc::STDIN_FILENO;
 
 // What the collector is left with: a refusal, or bytes of a block or frame that is not whole.
 fn say_left(c: Collector) {
@@ -69,83 +71,101 @@ fn fresh(glass: u8) -> Desk
     app_calls::given::fresh(session::open(glass), collect::reset())
 }
 
-fn show(o: Options, fd: i32, piece: &mut [u8], store: &mut [u8], picture: &mut [u16]) {
-    let d = crate::drawing::run(fresh(0), fd, o.size, piece, store, picture);
+fn show(
+    rt: &HostRuntime,
+    o: Options,
+    source: &mut Source,
+    piece: &mut [u8],
+    store: &mut [u8],
+    picture: &mut [u16],
+) {
+    let d = crate::drawing::run(fresh(0), source, o.size, piece, store, picture);
     say_left(d.c);
     if is_whole(d, picture.len()) {
-        app_pictures::out::picture_out(o.out, picture, d.width, d.height);
-        app_pictures::out::pic_out(o.pic, picture, d.width, d.height);
+        app_pictures::out::picture_out(rt, o.out, picture, d.width, d.height);
+        app_pictures::out::pic_out(rt, o.pic, picture, d.width, d.height);
     }
 }
 
-fn show_32(o: Options, fd: i32, piece: &mut [u8], store: &mut [u8], picture: &mut [u32]) {
-    let d = crate::drawing_32::run(fresh(1), fd, o.size, piece, store, picture);
+fn show_32(
+    rt: &HostRuntime,
+    o: Options,
+    source: &mut Source,
+    piece: &mut [u8],
+    store: &mut [u8],
+    picture: &mut [u32],
+) {
+    let d = crate::drawing_32::run(fresh(1), source, o.size, piece, store, picture);
     say_left(d.c);
     if is_whole(d, picture.len()) {
-        app_pictures::out::picture_out_32(o.out, picture, d.width, d.height);
+        app_pictures::out::picture_out_32(rt, o.out, picture, d.width, d.height);
     }
 }
 
-// Opens the file that an argument names, or standard input: its descriptor, below 0 where that failed, which is said.
-fn open_input(i: usize) -> i32 {
+// Opens the file that an argument names, or standard input; none where that failed, which is said.
+fn open_input(rt: &HostRuntime, i: usize) -> Option<Source> {
     if i == 0 {
-        return STDIN_FILENO;
+        return Some(Source::Standard(rt.stdin()));
     }
     let mut path = io::buffer();
-    let n = os::arg(i, &mut path);
-    let fd = os::open_read(&path[..n]);
-    if fd < 0 {
-        os::fail(&path[..n]);
+    let n = app_text::arguments::argument(rt, i, &mut path);
+    match app_text::files::open(rt, &path[..n]) {
+        Ok(file) => Some(Source::Named(file)),
+        Err(e) => {
+            app_text::files::say_failed(&path[..n], e);
+            None
+        }
     }
-    fd
 }
 
 // The large ones come as arrays: their lengths are known without counting to a million.
 fn show_in(
+    rt: &HostRuntime,
     o: Options,
-    fd: i32,
+    source: &mut Source,
     piece: &mut [u8; 65536],
     store: &mut [u8; 3145728],
     picture: &mut [u16; 2073600],
 ) {
-    show(o, fd, piece, store, picture);
+    show(rt, o, source, piece, store, picture);
 }
 
 fn show_in_32(
+    rt: &HostRuntime,
     o: Options,
-    fd: i32,
+    source: &mut Source,
     piece: &mut [u8; 65536],
     store: &mut [u8; 3145728],
     picture: &mut [u32; 1048576],
 ) {
-    show_32(o, fd, piece, store, picture);
+    show_32(rt, o, source, piece, store, picture);
 }
 
-fn start(o: Options, fd: i32) {
+fn start(rt: &HostRuntime, o: Options, source: &mut Source) {
     let mut piece = [0u8; 65536];
     let mut store = [0u8; 3145728];
     let mut picture = [0u16; 2073600];
-    show_in(o, fd, &mut piece, &mut store, &mut picture);
+    show_in(rt, o, source, &mut piece, &mut store, &mut picture);
 }
 
-fn start_32(o: Options, fd: i32) {
+fn start_32(rt: &HostRuntime, o: Options, source: &mut Source) {
     let mut piece = [0u8; 65536];
     let mut store = [0u8; 3145728];
     let mut picture = [0u32; 1048576];
-    show_in_32(o, fd, &mut piece, &mut store, &mut picture);
+    show_in_32(rt, o, source, &mut piece, &mut store, &mut picture);
 }
 
 // On the one glass or the other.
-fn on_glass(o: Options, fd: i32) {
+fn on_glass(rt: &HostRuntime, o: Options, source: &mut Source) {
     if o.glass == 0 {
-        start(o, fd);
+        start(rt, o, source);
         return;
     }
-    start_32(o, fd);
+    start_32(rt, o, source);
 }
 
-fn main() {
-    let o = crate::args::arguments();
+fn main(rt: HostRuntime) {
+    let o = crate::args::arguments(&rt);
     if !o.good {
         app_text::lines::say(
             ERR,
@@ -160,9 +180,8 @@ fn main() {
         );
         return;
     }
-    let fd = open_input(o.file);
-    if 0 <= fd {
-        on_glass(o, fd);
-        libc::close(fd);
+    if let Some(source) = open_input(&rt, o.file) {
+        let mut from = source;
+        on_glass(&rt, o, &mut from);
     }
 }

@@ -7,11 +7,13 @@ ghost use Rattle.app_calls.specs.Given.{desk_part};
 ghost use Rattle.show.specs.Play.{foreign_of, behind_of, placed, anew_desk, settled_desk, Filled, Given, Handed};
 
 use app_calls::given::Desk;
+use app_text::files::Source;
 use app_text::lines::ERR;
 use collect::{Collected, Collector};
+use std::io::Read;
 
 // Where the desk stands, how many bytes the piece has that was read last, what the last hand-over came to, and whether it goes on.
-#[derive(Drop)]
+#[derive(Clone, Copy)]
 pub struct Turn {
     pub d: Desk,
     pub n: usize,
@@ -48,17 +50,18 @@ fn at_place(d: Desk, at: usize) -> Desk
 }
 
 // Reads at most so many bytes: how many came, 0 at the end of the input.
-fn read_piece(fd: i32, piece: &mut [u8], size: usize) -> usize {
+fn read_piece(source: &mut Source, piece: &mut [u8], size: usize) -> usize {
     if piece.len() < size {
         return 0;
     }
-    let part = &mut piece[0..size];
-    let got = libc::read(fd, part);
-    io::count(got, part)
+    match source.read(&mut piece[0..size]) {
+        Ok(n) => n,
+        Err(_) => 0,
+    }
 }
 
 // The next piece, where this one is at its end; what was passed over beyond it is passed over in the next.
-fn fill(t: Turn, fd: i32, size: usize, piece: &mut [u8]) -> Turn
+fn fill(t: Turn, source: &mut Source, size: usize, piece: &mut [u8]) -> Turn
     ensures { Filled t.d (first_of piece.old t.n) result.d (first_of piece.new result.n) }
 {
     let d = t.d;
@@ -66,7 +69,7 @@ fn fill(t: Turn, fd: i32, size: usize, piece: &mut [u8]) -> Turn
     if d.at < end {
         return t;
     }
-    let n = read_piece(fd, piece, size);
+    let n = read_piece(source, piece, size);
     Turn {
         d: at_place(d, d.at - end),
         n: n,
@@ -165,10 +168,10 @@ fn hand_over(t: Turn, bytes: &[u8], store: &mut [u8]) -> Turn
 }
 
 // The next hand-over, of what is left or of what is read.
-pub fn next(t: Turn, fd: i32, size: usize, piece: &mut [u8], store: &mut [u8]) -> Turn
+pub fn next(t: Turn, source: &mut Source, size: usize, piece: &mut [u8], store: &mut [u8]) -> Turn
     ensures { Handed t.d (first_of piece.old t.n) store.old (first_of piece.new result.n) store.new result.d result.answer }
 {
-    let a = fill(t, fd, size, piece);
+    let a = fill(t, source, size, piece);
     let bytes = app_calls::given::rest(app_text::loading::first(piece, a.n), a.d.at);
     hand_over(a, bytes, store)
 }

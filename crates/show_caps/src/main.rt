@@ -1,6 +1,8 @@
 // Prints a client capability container in words (document 02, request Twelve):  caps [FILE]
 // The container is the whole of FILE, or of standard input: captureFlags, then a line for each entry with its flags and its entropy code, on standard output. What is
 // no container is refused with 01's number; the longest has 49 bytes. The last line, on standard error, says what it came to.
+#![tactic(auto)]
+
 use app_text::lines::{ERR, OUT};
 use caps::read::CapsReading;
 use caps::{Caps, Entry};
@@ -72,15 +74,15 @@ fn file_of(count: usize) -> usize {
     0
 }
 
-fn main() {
+fn main(rt: HostRuntime) {
     let mut space = [0u8; 64];
-    let count = os::arg_count();
+    let count = app_text::arguments::count(&rt);
     if 2 < count {
         app_text::lines::say(ERR, b"usage: caps [FILE]\n");
         return;
     }
     let long = b"no container has more than 49 bytes";
-    let l = app_text::loading::load(ERR, b"caps", file_of(count), &mut space, long);
+    let l = app_text::loading::load(&rt, ERR, b"caps", file_of(count), &mut space, long);
     if l.whole {
         show(app_text::loading::first(&space, l.n));
     }

@@ -4,7 +4,7 @@ ghost use Rattle.std.specs.Prelude.{length, ◌≤◌, ◌≡◌};
 use app_text::lines::OUT;
 
 // What a record asks of the frame's call.
-#[derive(Drop)]
+#[derive(Clone, Copy)]
 pub struct Asked {
     pub sender: u8,
     pub width: u16,

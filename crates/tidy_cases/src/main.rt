@@ -1,12 +1,14 @@
 // Makes the calls of a recording (standard input) on the filter: codes ('K'), frames ('I', and 'J' on what was written last), header blocks ('U') and what
 // waits of them ('V'), and prints one line for each: the number and its values, a letter for the work list, a hash of the lent memory. A record is a letter and
 // little-endian numbers of four bytes, then bytes behind their count; 'N' starts a case. Lent lists hold 7 and lent output A5. No section of document 01 is made true here.
+#![tactic(auto)]
+
 mod calls;
 
 use app_recording::read::In;
 
 // What goes on from record to record: the input, how many bytes were written last, and whether it goes on.
-#[derive(Drop)]
+#[derive(Clone, Copy)]
 struct Desk {
     from: In,
     written: usize,
@@ -31,9 +33,9 @@ fn stopped(d: Desk) -> Desk {
 }
 
 // Six numbers: sender, width, height, mode, the work list's length and the room.
-fn asked(input: &mut [u8], c: In) -> Six {
-    let a = app_recording::read::take_four(input, c);
-    let b = app_recording::read::take_two(input, a.from);
+fn asked(rt: &HostRuntime, input: &mut [u8], c: In) -> Six {
+    let a = app_recording::read::take_four(rt, input, c);
+    let b = app_recording::read::take_two(rt, input, a.from);
     let from = b.from;
     Six {
         asked: crate::calls::Asked {
@@ -48,16 +50,16 @@ fn asked(input: &mut [u8], c: In) -> Six {
     }
 }
 
-#[derive(Drop)]
+#[derive(Clone, Copy)]
 struct Six {
     asked: crate::calls::Asked,
     from: In,
 }
 
 // 'K': sender, mode, bytes.
-fn code(d: Desk, input: &mut [u8], message: &mut [u8], out: &mut [u8]) -> Desk {
-    let g = app_recording::read::take_three(input, d.from);
-    let from = app_recording::read::take_message(input, g.from, message, g.c);
+fn code(rt: &HostRuntime, d: Desk, input: &mut [u8], message: &mut [u8], out: &mut [u8]) -> Desk {
+    let g = app_recording::read::take_three(rt, input, d.from);
+    let from = app_recording::read::take_message(rt, input, g.from, message, g.c);
     if !from.whole {
         return at_desk(from, d.written);
     }
@@ -72,10 +74,10 @@ fn code(d: Desk, input: &mut [u8], message: &mut [u8], out: &mut [u8]) -> Desk {
 }
 
 // 'I': the six, and bytes.
-fn frame(d: Desk, input: &mut [u8], message: &mut [u8], out: &mut [u8]) -> Desk {
-    let s = asked(input, d.from);
-    let n = app_recording::read::number(input, s.from);
-    let from = app_recording::read::take_message(input, n.from, message, n.value);
+fn frame(rt: &HostRuntime, d: Desk, input: &mut [u8], message: &mut [u8], out: &mut [u8]) -> Desk {
+    let s = asked(rt, input, d.from);
+    let n = app_recording::read::number(rt, input, s.from);
+    let from = app_recording::read::take_message(rt, input, n.from, message, n.value);
     if !from.whole {
         return at_desk(from, d.written);
     }
@@ -84,8 +86,8 @@ fn frame(d: Desk, input: &mut [u8], message: &mut [u8], out: &mut [u8]) -> Desk 
 }
 
 // 'J': the six, on what was written last, which is taken out of the output first.
-fn again(d: Desk, input: &mut [u8], message: &mut [u8], out: &mut [u8]) -> Desk {
-    let s = asked(input, d.from);
+fn again(rt: &HostRuntime, d: Desk, input: &mut [u8], message: &mut [u8], out: &mut [u8]) -> Desk {
+    let s = asked(rt, input, d.from);
     let from = s.from;
     if !from.whole {
         return at_desk(from, d.written);
@@ -96,9 +98,16 @@ fn again(d: Desk, input: &mut [u8], message: &mut [u8], out: &mut [u8]) -> Desk 
 }
 
 // 'U': room, bytes.
-fn header(d: Desk, input: &mut [u8], message: &mut [u8], held: &mut [u8], out: &mut [u8]) -> Desk {
-    let g = app_recording::read::take_two(input, d.from);
-    let from = app_recording::read::take_message(input, g.from, message, g.b);
+fn header(
+    rt: &HostRuntime,
+    d: Desk,
+    input: &mut [u8],
+    message: &mut [u8],
+    held: &mut [u8],
+    out: &mut [u8],
+) -> Desk {
+    let g = app_recording::read::take_two(rt, input, d.from);
+    let from = app_recording::read::take_message(rt, input, g.from, message, g.b);
     if !from.whole {
         return at_desk(from, d.written);
     }
@@ -107,8 +116,8 @@ fn header(d: Desk, input: &mut [u8], message: &mut [u8], held: &mut [u8], out: &
 }
 
 // 'V': room.
-fn flush(d: Desk, input: &mut [u8], held: &mut [u8], out: &mut [u8]) -> Desk {
-    let g = app_recording::read::number(input, d.from);
+fn flush(rt: &HostRuntime, d: Desk, input: &mut [u8], held: &mut [u8], out: &mut [u8]) -> Desk {
+    let g = app_recording::read::number(rt, input, d.from);
     let from = g.from;
     if !from.whole {
         return at_desk(from, d.written);
@@ -125,6 +134,7 @@ fn fresh(d: Desk, held: &mut [u8]) -> Desk {
 
 // One record, by its letter; the recording ends at one that is not known.
 fn record(
+    rt: &HostRuntime,
     d: Desk,
     letter: u8,
     input: &mut [u8],
@@ -134,11 +144,11 @@ fn record(
 ) -> Desk {
     match letter {
         b'N' => fresh(d, held),
-        b'K' => code(d, input, message, out),
-        b'I' => frame(d, input, message, out),
-        b'J' => again(d, input, message, out),
-        b'U' => header(d, input, message, held, out),
-        b'V' => flush(d, input, held, out),
+        b'K' => code(rt, d, input, message, out),
+        b'I' => frame(rt, d, input, message, out),
+        b'J' => again(rt, d, input, message, out),
+        b'U' => header(rt, d, input, message, held, out),
+        b'V' => flush(rt, d, input, held, out),
         _ => {
             app_text::lines::say(
                 app_text::lines::OUT,
@@ -150,29 +160,50 @@ fn record(
 }
 
 // An end of the input between two records is the end.
-fn step(d: Desk, input: &mut [u8], message: &mut [u8], held: &mut [u8], out: &mut [u8]) -> Desk {
-    let b = app_recording::read::next(input, d.from);
+fn step(
+    rt: &HostRuntime,
+    d: Desk,
+    input: &mut [u8],
+    message: &mut [u8],
+    held: &mut [u8],
+    out: &mut [u8],
+) -> Desk {
+    let b = app_recording::read::next(rt, input, d.from);
     let from = b.from;
     if !from.whole {
         return stopped(d);
     }
-    record(at_desk(from, d.written), b.value, input, message, held, out)
+    record(
+        rt,
+        at_desk(from, d.written),
+        b.value,
+        input,
+        message,
+        held,
+        out,
+    )
 }
 
 // A proved loop ends, and nothing says that an input does: the turns are counted down from a number that no run uses up.
-fn run(input: &mut [u8], message: &mut [u8; 65536], held: &mut [u8], out: &mut [u8; 65536]) {
+fn run(
+    rt: &HostRuntime,
+    input: &mut [u8],
+    message: &mut [u8; 65536],
+    held: &mut [u8],
+    out: &mut [u8; 65536],
+) {
     let mut d = at_desk(app_recording::read::start(), 0);
     let mut turns = u64::MAX;
     while 0 < turns && d.go {
-        d = step(d, input, message, held, out);
+        d = step(rt, d, input, message, held, out);
         turns -= 1;
     }
 }
 
-fn main() {
+fn main(rt: HostRuntime) {
     let mut input = [0u8; 65536];
     let mut message = [0u8; 65536];
     let mut held = [0u8; 38];
     let mut out = [0u8; 65536];
-    run(&mut input, &mut message, &mut held, &mut out);
+    run(&rt, &mut input, &mut message, &mut held, &mut out);
 }

@@ -2,16 +2,21 @@
 // The stream goes through the collector (document 02, request One). Header blocks go on in 01's order, frames as `tidy` leaves them, each as soon as it is whole; a
 // line on standard error says what was changed. A block or frame of more than 3,145,728 bytes goes on as it came, up to its end. From the first head that the
 // collector refuses for another reason on, every byte goes on as it came, that head included, and so do the bytes of a block or frame that is not whole at the end.
+#![tactic(auto)]
+
 mod passing;
 
 use crate::passing::Desk;
 use app_text::lines::ERR;
-use libc::STDIN_FILENO;
+use std::io::Read;
+use std::rt::Env;
 
 // Reads the next piece: how many bytes came, 0 at the end of the input.
-fn read_piece(piece: &mut [u8]) -> usize {
-    let got = libc::read(STDIN_FILENO, piece);
-    io::count(got, piece)
+fn read_piece(rt: &HostRuntime, piece: &mut [u8]) -> usize {
+    match rt.stdin().read(piece) {
+        Ok(n) => n,
+        Err(_) => 0,
+    }
 }
 
 // What was done, in one line.
@@ -27,6 +32,7 @@ fn say_all(d: Desk) {
 
 // The next piece of the input, passed on.
 fn turn(
+    rt: &HostRuntime,
     d: Desk,
     piece: &mut [u8],
     store: &mut [u8],
@@ -34,7 +40,7 @@ fn turn(
     list: &mut [i32],
     out: &mut [u8],
 ) -> Desk {
-    let n = read_piece(piece);
+    let n = read_piece(rt, piece);
     crate::passing::give(
         d,
         app_text::loading::first(piece, n),
@@ -47,6 +53,7 @@ fn turn(
 
 // The whole input. A proved loop ends, and nothing says that an input does: the turns are counted down from a number that no run uses up.
 fn run(
+    rt: &HostRuntime,
     sender: u8,
     piece: &mut [u8],
     store: &mut [u8],
@@ -57,7 +64,7 @@ fn run(
     let mut d = crate::passing::fresh(sender);
     let mut turns = u64::MAX;
     while 0 < turns && d.go {
-        d = turn(d, piece, store, held, list, out);
+        d = turn(rt, d, piece, store, held, list, out);
         turns -= 1;
     }
     say_all(crate::passing::finish(d, store, held, out));
@@ -65,6 +72,7 @@ fn run(
 
 // The large ones come as arrays: their lengths are known without counting to a million.
 fn run_in(
+    rt: &HostRuntime,
     sender: u8,
     piece: &mut [u8],
     store: &mut [u8; 3145728],
@@ -72,33 +80,33 @@ fn run_in(
     list: &mut [i32],
     out: &mut [u8; 3145792],
 ) {
-    run(sender, piece, store, held, list, out);
+    run(rt, sender, piece, store, held, list, out);
 }
 
 // Is argument i this word?
-fn is_word(i: usize, word: &[u8]) -> bool {
+fn is_word(rt: &impl Env, i: usize, word: &[u8]) -> bool {
     let mut text = [0u8; 16];
-    let n = os::arg(i, &mut text);
+    let n = app_text::arguments::argument(rt, i, &mut text);
     check::same(app_text::loading::first(&text, n), word)
 }
 
 // The sender's number by its name; 255 where there is none of that name.
-fn named() -> u8 {
-    if is_word(2, b"strict") {
+fn named(rt: &impl Env) -> u8 {
+    if is_word(rt, 2, b"strict") {
         return 0;
     }
-    if is_word(2, b"freerdp") {
+    if is_word(rt, 2, b"freerdp") {
         return 1;
     }
-    if is_word(2, b"sample") {
+    if is_word(rt, 2, b"sample") {
         return 2;
     }
     255
 }
 
 // The sender that the arguments name: strict where there are none, which is said; 255 where they are not as the usage says.
-fn sender_of() -> u8 {
-    let n = os::arg_count();
+fn sender_of(rt: &impl Env) -> u8 {
+    let n = app_text::arguments::count(rt);
     if n < 2 {
         app_text::lines::say(
             ERR,
@@ -106,14 +114,14 @@ fn sender_of() -> u8 {
         );
         return 0;
     }
-    if n == 3 && is_word(1, b"--sender") {
-        return named();
+    if n == 3 && is_word(rt, 1, b"--sender") {
+        return named(rt);
     }
     255
 }
 
-fn main() {
-    let sender = sender_of();
+fn main(rt: HostRuntime) {
+    let sender = sender_of(&rt);
     if sender == 255 {
         app_text::lines::say(
             ERR,
@@ -127,6 +135,6 @@ fn main() {
     let mut list = [0i32; 4096];
     let mut out = [0u8; 3145792];
     run_in(
-        sender, &mut piece, &mut store, &mut held, &mut list, &mut out,
+        &rt, sender, &mut piece, &mut store, &mut held, &mut list, &mut out,
     );
 }

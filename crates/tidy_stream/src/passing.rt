@@ -10,7 +10,7 @@ use tidy::headers::{Gave, Waiting};
 
 // What goes on from part to part: the sender's number; the session's record, the collector's, the headers that wait, what is passed over, the place in the bytes that
 // are given; how many frames went on and how many of them changed; whether all goes on as it came, whether it could be written, and whether more is to come.
-#[derive(Drop)]
+#[derive(Clone, Copy)]
 pub struct Desk {
     pub sender: u8,
     pub s: Session,

@@ -1,20 +1,20 @@
 -- What reads of two .pic files come to, step by step.
-use Rattle.std.specs.Prelude.{ℕ, zero, suc, ◌+◌, ◌*◌, ◌-◌, ◌≤◌, ◌<◌, refl, Bool, List, ◌++◌, ℤ, leb, eqb, length, get_or, take, drop}
+use Rattle.std.specs.Prelude.{ℕ, suc, ◌+◌, ◌*◌, ◌-◌, ◌≤◌, ◌<◌, refl, Bool, List, ◌++◌, ℤ, leb, eqb, length, take, drop}
 use Rattle.std.proofs.Math.Path.{◌≡◌, ap, sym}
 use Rattle.std.proofs.Common.{subst, ◌∙◌, arith, add-one, mul-le-mul, mul-le-mul_right, length-take, length-drop, length-append, take_all, get_or-take, drop-drop, length-take-le}
 use Rattle.std.proofs.Math.Bool.{true, false}
 use Rattle.std.proofs.lemmas.List.{take-append-le}
-use borrow.Author.Tests.{le-leb, lt-leb, leb-true, leb-false, eqb-true, eqb-false, eq-eqb, ne_eqb}
+use borrow.Author.Tests.{le-leb, leb-true, leb-false, eqb-true, eqb-false, eq-eqb, ne_eqb}
 use Rattle.wire.specs.Le.{le16}
 use Rattle.whole.specs.Row.{◌!◌⨾◌}
-use Rattle.whole.specs.laws.Row.{passes, fails, held}
+use Rattle.whole.specs.laws.Row.{passes, held}
 use Rattle.session.specs.Header.{size_good}
 use Rattle.tile_diff.specs.Tiles.{words_of, listed}
 use Rattle.tile_diff.specs.Text.{text_of, printed}
 use Rattle.tile_diff.specs.Pic.{pic_of, is_whole, sizes_judge, verdict_of}
 use Rattle.tile_diff.specs.Counts.{row_counted}
 use Rattle.tile_diff.specs.Request.{picture_of, row_of, rows_counted, no_counts}
-use Rattle.tile_diff.specs.laws.Request.{Sized, size_is, bytes_are, whole_is, both-are, few_tiles, counted_lines}
+use Rattle.tile_diff.specs.laws.Request.{Sized, size_is, bytes_are, whole_is, both-are, counted_lines}
 use Rattle.tile_diff.specs.declared.pic.Pic.{Pic}
 use Rattle.tile_diff.specs.declared.pic.Verdict.{Verdict}
 use Rattle.tile_diff.specs.declared.pic.Verdict.TheVariants.{Bad, Size, Tiles}

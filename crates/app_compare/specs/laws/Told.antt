@@ -1,5 +1,5 @@
 -- What follows from what is told, and two tellings together.
-use Rattle.std.specs.Prelude.{ℕ, ◌≡◌, List, [], ◌∷◌, ◌++◌, take, drop}
+use Rattle.std.specs.Prelude.{List, [], ◌∷◌, ◌++◌}
 use Rattle.app_compare.specs.Outside.{Piece, Gave}
 use Rattle.app_compare.specs.Told.{Files, Came, none, more, PartOf, Parts, Told}
 

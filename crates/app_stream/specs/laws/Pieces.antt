@@ -1,5 +1,5 @@
 -- Turn by turn: what is known after some turns (`Playing`), after one more (`play_next`), and where it stops.
-use Rattle.std.specs.Prelude.{ℕ, zero, suc, ◌+◌, ◌-◌, ◌≤◌, ◌<◌, ◌≡◌, refl, Bool, true, false, List, [], ◌∷◌, eqb, length, take, drop}
+use Rattle.std.specs.Prelude.{ℕ, zero, suc, ◌+◌, ◌-◌, ◌≤◌, ◌<◌, ◌≡◌, refl, true, false, List, [], ◌∷◌, eqb, length, take, drop}
 use Rattle.std.proofs.Common.{ap, sym, subst, ◌∙◌, true≢false, arith, le-leb, eqb-true, length-drop, take_all}
 use Rattle.whole.specs.laws.Row.{passes}
 use Rattle.app_text.specs.First.{first_of}

@@ -1,15 +1,15 @@
 -- Passing over: the returns of each function, the walk byte by byte, and that it does not matter how the bytes are cut.
-use Rattle.std.specs.Prelude.{ℕ, suc, ◌+◌, ◌≤◌, ◌<◌, ◌≡◌, Bool, List, [], ◌∷◌, ◌++◌, leb, ltb, length, get_or, drop}
+use Rattle.std.specs.Prelude.{ℕ, suc, ◌+◌, ◌≤◌, ◌<◌, ◌≡◌, Bool, List, [], ◌∷◌, ◌++◌, leb, length, get_or, drop}
 use Rattle.std.proofs.Math.Path.{refl, ap, sym}
-use Rattle.std.proofs.Common.{◌∙◌, add-one, arith, eq-eqb, ne_eqb, le-leb, drop_of_length-le, drop-cons}
+use Rattle.std.proofs.Common.{◌∙◌, add-one, eq-eqb, ne_eqb, drop_of_length-le, drop-cons}
 use Rattle.std.proofs.Math.Bool.{true, false}
 use Rattle.std.proofs.Math.Dec.{eqb}
 use Rattle.whole.specs.Row.{◌!◌⨾◌, ◌⇒◌∣◌}
 use Rattle.whole.specs.laws.Row.{fails, passes, case_yes, case_no}
-use Rattle.collect.specs.Collect.{in_frame, type_of, len_of, head_fault, part_after}
+use Rattle.collect.specs.Collect.{in_frame, part_after}
 use Rattle.app_stream.specs.declared.skip.Skip.{Skip}
 use Rattle.app_stream.specs.declared.skip.Skipped.{Skipped}
-use Rattle.app_stream.specs.Skip.{stays, own_fault, byte_over, goes, skip_from}
+use Rattle.app_stream.specs.Skip.{stays, byte_over, goes, skip_from}
 
 -- ---- does a frame go on?
 

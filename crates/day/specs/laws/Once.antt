@@ -161,8 +161,10 @@ module _ (s : State) (ls : List Asked) where
 
 pub can_be_made : (s : State) (ls : List Asked) → Made s ls
 can_be_made s [] = record { calls = []; end = s; day = no_call; are = refl }
-can_be_made s (ask_header m ∷ ls) = more_header s ls m (can_be_made _ ls)
-can_be_made s (ask_frame m y cb cr scratch ∷ ls) = more_frame s ls m y cb cr scratch (can_be_made _ ls)
+can_be_made s (ask_header m ∷ ls) = more_header s ls m (can_be_made (state (session_after (header_call s.session m)) s.word s.picture) ls)
+can_be_made s (ask_frame m y cb cr scratch ∷ ls) =
+    more_frame s ls m y cb cr scratch
+    (can_be_made (state s.session s.word (frame_call s.word s.session m s.picture y cb cr scratch).picture') ls)
 
 -- a program whose record and picture end so has had a day on which this was asked
 pub plays : (s t : State) (ls : List Asked) → t ≡ end_of s ls → (m : Made s ls) × (m.end ≡ t)

@@ -4,7 +4,7 @@
 -- entered only then (`frame_draw::paint::show` and `paint_32::show` ask for a frame without a fault); each component that it decodes is one of these
 -- (`tile_back::samples` asks that its number is 0), and decoding for drawing has no answer to give.
 -- (01 is this project's scope document, 02 its change requests, 001 is MS-RDPRFX: README, "What 01 is".)
-use Rattle.std.specs.Prelude.{ℕ, zero, suc, ◌+◌, ◌≤◌, ◌<◌, ◌≡◌, ◌⊎◌, ℤ, length}
+use Rattle.std.specs.Prelude.{ℕ, zero, suc, ◌+◌, ◌≤◌, ◌<◌, ◌≡◌, ℤ, length}
 use Rattle.std.proofs.Common.{sym, subst, ⊎_elim, arith}
 use mathlib.Core.List.Memᴰ
 use mathlib.Core.List.{List, Memᴰ}

@@ -14,8 +14,6 @@ use Rattle.caps.specs.Calls.{ReadCaps, ReadAckCap, ReadAck}
 use Rattle.caps.specs.Request.{read_number}
 use Rattle.caps.specs.laws.Refuse.{ack_among}
 use Rattle.caps.specs.laws.Request.{request_twelve}
-use Rattle.caps.specs.declared.Caps.{Caps}
-use Rattle.caps.specs.declared.Ack.{Ack}
 use Rattle.caps.specs.declared.read.CapsReading.{CapsReading}
 use Rattle.caps.specs.declared.read.CapsReading.TheVariants.{Taken, Refused}
 use Rattle.caps.specs.declared.read.AckCapReading.{AckCapReading}
@@ -23,7 +21,7 @@ use Rattle.caps.specs.declared.read.AckCapReading.TheVariants.{Taken as TakenCap
 use Rattle.caps.specs.declared.read.AckReading.{AckReading}
 use Rattle.caps.specs.declared.read.AckReading.TheVariants.{Taken as TakenAck, Refused as RefusedAck}
 use Rattle.panel.specs.Edge.{WriterCall}
-use Rattle.panel.specs.Capabilities.{entry_bytes, caps_from, numbers_of, ReadCapsCall, ReadAckCapCall, ReadAckCall}
+use Rattle.panel.specs.Capabilities.{caps_from, numbers_of, ReadCapsCall, ReadAckCapCall, ReadAckCall}
 
 -- ---- the answer that a number and fields are
 

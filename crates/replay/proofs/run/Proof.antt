@@ -4,7 +4,7 @@ use Rattle.replay.proofs.run.Statement.{statement}
 use Rattle.replay.proofs.run.Tie as tie
 
 abbrev invariant_loop : tie.invariant_loop
-invariant_loop input₀ message₀ out₀ store₀ picture₀ wide₀ from₀ d₀ turns₀ input message out store picture wide from d turns =
+invariant_loop rt input₀ message₀ out₀ store₀ picture₀ wide₀ from₀ d₀ turns₀ input message out store picture wide from d turns =
     (length input ≡ length input₀)
     × (length message ≡ length message₀)
     × (length out ≡ length out₀)
@@ -13,7 +13,7 @@ invariant_loop input₀ message₀ out₀ store₀ picture₀ wide₀ from₀ d�
     × (length wide ≡ length wide₀)
 
 abbrev decreases_loop : tie.decreases_loop
-decreases_loop input₀ message₀ out₀ store₀ picture₀ wide₀ from₀ d₀ turns₀ input message out store picture wide from d turns = turns
+decreases_loop rt input₀ message₀ out₀ store₀ picture₀ wide₀ from₀ d₀ turns₀ input message out store picture wide from d turns = turns
 
 sub_turns : tie.Need-overflow-sub-turns invariant_loop decreases_loop
 sub_turns c =

@@ -1,8 +1,8 @@
 -- The short frame and a full frame of the new picture leave the same picture: in the channel both show the new one, and past it both keep what was there.
 -- Assumes nothing.
-use Rattle.std.specs.Prelude.{ℕ, zero, suc, ◌+◌, ◌*◌, ◌/◌, ◌%◌, ◌≤◌, ◌<◌, ◌≡◌, refl, Bool, true, false, List, ltb, length, get_or, take}
-use Rattle.std.proofs.Common.{ap, sym, ◌∙◌, subst, arith, div-add-mod', div-lt_iff_lt-mul, mod-lt, ltb-true, ltb-false, ext_get_or}
-use Rattle.wire.specs.Wrote.{writing_number, writing_length}
+use Rattle.std.specs.Prelude.{ℕ, zero, suc, ◌*◌, ◌/◌, ◌%◌, ◌≤◌, ◌<◌, ◌≡◌, refl, Bool, true, false, List, ltb, length, get_or}
+use Rattle.std.proofs.Common.{sym, ◌∙◌, subst, arith, div-add-mod', div-lt_iff_lt-mul, mod-lt, ltb-true, ltb-false, ext_get_or}
+use Rattle.wire.specs.Wrote.{writing_number}
 use Rattle.quants.specs.declared.Quants.{Quants}
 use Rattle.frame.specs.declared.call.FrameReading.{FrameReading}
 use Rattle.frame_readback.specs.Own.{ShownOver}

@@ -1,6 +1,6 @@
 -- A frame of listed tiles, none of them twice, fits where a full frame of any picture does.
 -- Assumes nothing.
-use Rattle.std.specs.Prelude.{ℕ, zero, suc, ◌+◌, ◌*◌, ◌≤◌, ◌≡◌, refl, Bool, true, false, List, length, get_or}
+use Rattle.std.specs.Prelude.{ℕ, zero, suc, ◌+◌, ◌*◌, ◌≤◌, ◌≡◌, Bool, true, false, List, length, get_or}
 use Rattle.std.proofs.Common.{arith, length-append}
 use Rattle.whole.specs.Row.{◌⇒◌∣◌}
 use Rattle.bits.specs.laws.Bytes.{Bytes}

@@ -6,10 +6,10 @@ use Rattle.tidy_cases.proofs.run.Statement.{statement}
 use Rattle.tidy_cases.proofs.run.Tie as tie
 
 abbrev invariant_loop : tie.invariant_loop
-invariant_loop input₀ message₀ held₀ out₀ d₀ turns₀ input message held out d turns = (length input ≡ length input₀) × (length held ≡ length held₀)
+invariant_loop rt input₀ message₀ held₀ out₀ d₀ turns₀ input message held out d turns = (length input ≡ length input₀) × (length held ≡ length held₀)
 
 abbrev decreases_loop : tie.decreases_loop
-decreases_loop input₀ message₀ held₀ out₀ d₀ turns₀ input message held out d turns = turns
+decreases_loop rt input₀ message₀ held₀ out₀ d₀ turns₀ input message held out d turns = turns
 
 pub run_spec : {M : Type 1} → statement M
 run_spec =

@@ -4,7 +4,7 @@ use Rattle.tidy_stream.proofs.run.Statement.{statement}
 use Rattle.tidy_stream.proofs.run.Tie as tie
 
 abbrev invariant_loop : tie.invariant_loop
-invariant_loop sender piece₀ store₀ held₀ list₀ out₀ d₀ turns₀ piece store held list out d turns =
+invariant_loop rt sender piece₀ store₀ held₀ list₀ out₀ d₀ turns₀ piece store held list out d turns =
     (length piece ≡ length piece₀)
     × (length store ≡ length store₀)
     × (length held ≡ length held₀)
@@ -12,7 +12,7 @@ invariant_loop sender piece₀ store₀ held₀ list₀ out₀ d₀ turns₀ pie
     × (length out ≡ length out₀)
 
 abbrev decreases_loop : tie.decreases_loop
-decreases_loop sender piece₀ store₀ held₀ list₀ out₀ d₀ turns₀ piece store held list out d turns = turns
+decreases_loop rt sender piece₀ store₀ held₀ list₀ out₀ d₀ turns₀ piece store held list out d turns = turns
 
 loop_again : tie.Need-loop-preserved invariant_loop decreases_loop
 loop_again c = (search rules, search rules, search rules, search rules, search rules)

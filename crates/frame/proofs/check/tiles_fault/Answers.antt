@@ -1,7 +1,6 @@
 -- Each turn keeps it, and at the end it is what is promised.
 use mathlib.Core.Path.{refl, sym, ◌∙◌}
 use native.Mathlib.Omega.{arith}
-use Prim.Native.Nat.{◌-◌}
 use native.Mathlib.Nat.{sub-zero}
 use Rattle.whole.specs.laws.Row.{passes, fails, eq_is, ne_is}
 use Rattle.frame_layout.specs.Reader.{size_at}

@@ -1,5 +1,4 @@
 -- Each turn keeps it, and at the end it is what is promised.
-use Prim.Native.Nat.{◌-◌}
 use native.Mathlib.Omega.{arith}
 use borrow.Author.Tests.{lt-ltb, le-ltb}
 use Rattle.plan.specs.Plan.{below}

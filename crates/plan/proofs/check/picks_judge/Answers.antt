@@ -1,6 +1,5 @@
 -- `picks_judge` meets its contract: each return is read off the row of `picks_fault`, the tests by what the calls say.
 use mathlib.Core.Path.{refl, ap, sym, ◌∙◌}
-use borrow.Author.Tests.{not-false}
 use Rattle.whole.specs.laws.Row.{passes, fails}
 use Rattle.plan.specs.Plan.{below, picks_fault}
 use Rattle.plan.proofs.check.picks_judge.Goals as goal

@@ -1,6 +1,5 @@
 -- `pictures_judge` meets its contract: each return is read off the row of `pictures_fault`, the tests by what the calls say.
 use mathlib.Core.Path.{refl, sym, ◌∙◌}
-use borrow.Author.Tests.{not-false}
 use Rattle.whole.specs.laws.Row.{passes, fails}
 use Rattle.plan.specs.Plan.{pictures_fault}
 use Rattle.plan.specs.laws.Changed.{size_allowed}

@@ -1,6 +1,6 @@
 -- `make_plan` meets its contract: its three ways out, by what was judged on the way.
 use mathlib.Core.Path.{sym, ◌∙◌}
-use borrow.Author.Tests.{leb-true, not-false}
+use borrow.Author.Tests.{leb-true}
 use Rattle.plan.specs.laws.Changed.{pictures_are}
 use Rattle.plan.specs.laws.Made.{pictures_refused, room_refused, plan_done}
 use Rattle.plan.proofs.make.make_plan.Goals as goal

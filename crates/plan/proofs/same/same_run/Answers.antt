@@ -1,5 +1,4 @@
 -- Each turn keeps it, and at the end it is what is promised.
-use Prim.Native.Nat.{◌-◌}
 use mathlib.Core.Path.{◌≡◌, ap, ◌∙◌}
 use native.Mathlib.Omega.{arith}
 use Rattle.plan.specs.Runs.{same_run}

@@ -8,14 +8,14 @@ use Rattle.show.proofs.drawing_32.run.Statement.{statement}
 use Rattle.show.proofs.drawing_32.run.Tie as tie
 
 abbrev invariant_loop : tie.invariant_loop
-invariant_loop fd size piece₀ store₀ picture₀ t₀ turns₀ piece store picture t turns =
+invariant_loop source₀ size piece₀ store₀ picture₀ t₀ turns₀ source piece store picture t turns =
     (length piece ≡ length piece₀)
     × (length store ≡ length store₀)
     × (length picture ≡ length picture₀)
     × Shown 1 (scene t₀.d store₀ picture₀) (scene t.d store picture) (first_of piece t.n)
 
 abbrev decreases_loop : tie.decreases_loop
-decreases_loop fd size piece₀ store₀ picture₀ t₀ turns₀ piece store picture t turns = turns
+decreases_loop source₀ size piece₀ store₀ picture₀ t₀ turns₀ source piece store picture t turns = turns
 
 loop_holds : tie.Need-loop-init invariant_loop decreases_loop
 loop_holds c = (refl, refl, refl, shown_start 1 _ _ _ _ _ c.begin.ensures.1)

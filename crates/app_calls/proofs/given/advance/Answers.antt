@@ -1,0 +1,7 @@
+-- The definition, with the bytes that were taken passed.
+use Rattle.app_calls.specs.Given.{moved}
+use Rattle.app_calls.proofs.given.advance.Goals as goal
+
+pub returns : goal.returns
+unfolding moved
+returns c = rw c.wrapping_add_usize.ensures.value

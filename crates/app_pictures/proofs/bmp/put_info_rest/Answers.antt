@@ -1,0 +1,15 @@
+-- Its numbers, one behind the other (`patch_next`).
+use Rattle.std.proofs.Common.{refl, arith}
+use Rattle.wire.specs.Le.{bytes16, bytes32}
+use Rattle.wire.specs.laws.Le.{patch_next}
+use Rattle.app_pictures.specs.Bmp.{info_rest}
+use Rattle.app_pictures.proofs.bmp.put_info_rest.Goals as goal
+
+pub returns : goal.returns
+unfolding bytes16 bytes32 info_rest
+returns c =
+    let w1 = patch_next _ _ _ _ _ _ _ c.put32_at.ensures c.put32_at-2.ensures refl (omega arith) in
+    let w2 = patch_next _ _ _ _ _ _ _ w1 c.put32_at-3.ensures refl (omega arith) in
+    let w3 = patch_next _ _ _ _ _ _ _ w2 c.put32_at-4.ensures refl (omega arith) in
+    let w4 = patch_next _ _ _ _ _ _ _ w3 c.put32_at-5.ensures refl (omega arith) in
+    w4

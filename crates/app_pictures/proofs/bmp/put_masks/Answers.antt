@@ -1,0 +1,13 @@
+-- Three numbers, one behind the other (`patch_next`).
+use Rattle.std.proofs.Common.{refl, arith}
+use Rattle.wire.specs.Le.{bytes16, bytes32}
+use Rattle.wire.specs.laws.Le.{patch_next}
+use Rattle.app_pictures.specs.Bmp.{masks}
+use Rattle.app_pictures.proofs.bmp.put_masks.Goals as goal
+
+pub returns : goal.returns
+unfolding bytes16 bytes32 masks
+returns c =
+    let w1 = patch_next _ _ _ _ _ _ _ c.put32_at.ensures c.put32_at-2.ensures refl (omega arith) in
+    let w2 = patch_next _ _ _ _ _ _ _ w1 c.put32_at-3.ensures refl (omega arith) in
+    w2

@@ -1,0 +1,26 @@
+-- What is skipped from the place reached on is what is skipped in all (`skip_on`); the measure is what is left.
+use Rattle.std.proofs.Common.{sym, refl, ◌∙◌, arith}
+use Rattle.app_pictures.specs.Ppm.{skip_at}
+use Rattle.app_pictures.specs.laws.Ppm.{skip_end, skip_on, skip_none}
+use Rattle.app_pictures.proofs.ppm.skip.Goals as goal
+
+pub loop-at-init : goal.loop-at-init
+unfolding skip_at
+loop-at-init c = refl
+
+pub returns-then-state-eq0 : goal.returns-then-state-eq0
+returns-then-state-eq0 c =
+    skip_end _ _ _ _ c.loop-at-test.true c.after-state.ensures c.if-state-eq0.true ∙ sym c.loop-at.invariant
+
+pub overflow_add-at : goal.overflow_add-at
+overflow_add-at c = omega arith
+
+pub loop-at-smaller : goal.loop-at-smaller
+loop-at-smaller c = omega arith
+
+pub loop-at-preserved : goal.loop-at-preserved
+loop-at-preserved c =
+    c.loop-at.invariant ∙ skip_on _ _ _ _ c.loop-at-test.true c.after-state.ensures c.if-state-eq0.false
+
+pub returns : goal.returns
+returns c = skip_none _ _ _ c.loop-at-test.false ∙ sym c.loop-at.invariant

@@ -1,0 +1,10 @@
+-- What the loop keeps, and what falls with each turn.
+use Rattle.std.proofs.Common.{◌≡◌, ◌-◌, length}
+use Rattle.app_pictures.specs.Ppm.{skip_at, skip_from}
+use Rattle.app_pictures.proofs.ppm.skip.Given as goal
+
+abbrev pub invariant-loop-at : goal.invariant-loop-at
+invariant-loop-at l = skip_at l.m l.from ≡ skip_from l.m (length l.m - l.at) l.state l.at
+
+abbrev pub decreases-loop-at : goal.decreases-loop-at
+decreases-loop-at l = length l.m - l.at
