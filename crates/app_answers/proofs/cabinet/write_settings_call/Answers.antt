@@ -1,0 +1,7 @@
+-- Length and output are what the call inside says and leaves of A5.
+use Rattle.app_answers.specs.laws.Answers.{settings_said}
+use Rattle.app_answers.proofs.cabinet.write_settings_call.Goals as goal
+
+pub returns : goal.returns
+returns c =
+    settings_said _ _ _ _ _ _ c.fill_bytes.ensures c.write_settings-w.ensures c.writing_length-n.ensures

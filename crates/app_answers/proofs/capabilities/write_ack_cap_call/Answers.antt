@@ -1,0 +1,7 @@
+-- The output is what the call inside leaves of A5.
+use Rattle.app_answers.specs.laws.Answers.{ack_cap_made}
+use Rattle.app_answers.proofs.capabilities.write_ack_cap_call.Goals as goal
+
+pub returns : goal.returns
+returns c =
+    ack_cap_made _ c.args.out.now _ _ _ c.fill_bytes.ensures c.write_ack_cap-w.ensures
