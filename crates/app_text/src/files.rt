@@ -1,4 +1,5 @@
-// Files by their names, as the arguments give them: bytes, which std takes only where they are a text. A name that is none is that of a file that cannot be opened.
+// Files by their names, as the arguments give them: bytes, which std takes only where they are a text. A name that is none is that of a file
+// that cannot be opened.
 use std::fmt::InlineText;
 use std::fs::File;
 use std::io::{Error, ErrorKind, Read};

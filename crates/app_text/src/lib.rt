@@ -1,4 +1,5 @@
-// What the programs share: what they say (`lines`), their arguments (`arguments`), files by name (`files`), inputs read whole (`loading`). No customer links it.
+// What the programs share: what they say (`lines`), their arguments (`arguments`), files by their names (`files`), inputs read whole (`loading`).
+// No customer links it.
 #![tactic(auto)]
 
 pub mod arguments;

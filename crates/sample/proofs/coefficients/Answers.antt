@@ -13,5 +13,8 @@ pub component_fault-n-requires : goal.component_fault-n-requires
 component_fault-n-requires c = (c.if-work-ne4096.false, set (goal.at.component_fault-n-requires c).Else-not-is_good)
 
 pub coefficients-requires : goal.coefficients-requires
-coefficients-requires c =
-    (c.component_fault-n.auto.work ∙ c.if-work-ne4096.false, set (goal.at.coefficients-requires c).Else-not-is_good, sym c.if-n-ne0.false ∙ c.component_fault-n.ensures.number)
+coefficients-requires c = (
+  c.component_fault-n.auto.work ∙ c.if-work-ne4096.false,
+  set (goal.at.coefficients-requires c).Else-not-is_good,
+  sym c.if-n-ne0.false ∙ c.component_fault-n.ensures.number,
+)

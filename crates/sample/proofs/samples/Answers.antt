@@ -13,5 +13,9 @@ pub component_fault-n-requires : goal.component_fault-n-requires
 component_fault-n-requires c = (c.if-work-ne4096.false, set (goal.at.component_fault-n-requires c).Else-not-is_good)
 
 pub samples-requires : goal.samples-requires
-samples-requires c =
-    (c.component_fault-n.auto.work ∙ c.if-work-ne4096.false, c.if-tmp-ne4096.false, set (goal.at.samples-requires c).Else-not-is_good, sym c.if-n-ne0.false ∙ c.component_fault-n.ensures.number)
+samples-requires c = (
+  c.component_fault-n.auto.work ∙ c.if-work-ne4096.false,
+  c.if-tmp-ne4096.false,
+  set (goal.at.samples-requires c).Else-not-is_good,
+  sym c.if-n-ne0.false ∙ c.component_fault-n.ensures.number,
+)

@@ -30,11 +30,13 @@ overflow_mul-width c =
 pub returns-then-width-height-gt1048576 : goal.returns-then-width-height-gt1048576
 unfolding size_fault
 returns-then-width-height-gt1048576 c =
-    passes _ _ _ _ (le-leb _ _ c.if-width-lt1.false) (passes _ _ _ _ (le-leb _ _ c.if-width-gt4096.false) (passes _ _ _ _ (le-leb _ _ c.if-height-lt1.false) (passes _ _ _ _
+    passes _ _ _ _ (le-leb _ _ c.if-width-lt1.false)
+    (passes _ _ _ _ (le-leb _ _ c.if-width-gt4096.false) (passes _ _ _ _ (le-leb _ _ c.if-height-lt1.false) (passes _ _ _ _
     (le-leb _ _ c.if-height-gt2048.false) (fails _ _ _ _ (lt-leb _ _ c.if-width-height-gt1048576.true) refl))))
 
 pub returns : goal.returns
 unfolding size_fault
 returns c =
-    passes _ _ _ _ (le-leb _ _ c.if-width-lt1.false) (passes _ _ _ _ (le-leb _ _ c.if-width-gt4096.false) (passes _ _ _ _ (le-leb _ _ c.if-height-lt1.false) (passes _ _ _ _
+    passes _ _ _ _ (le-leb _ _ c.if-width-lt1.false)
+    (passes _ _ _ _ (le-leb _ _ c.if-width-gt4096.false) (passes _ _ _ _ (le-leb _ _ c.if-height-lt1.false) (passes _ _ _ _
     (le-leb _ _ c.if-height-gt2048.false) (passes _ _ _ _ (le-leb _ _ c.if-width-height-gt1048576.false) refl))))

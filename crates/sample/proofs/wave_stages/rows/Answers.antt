@@ -24,13 +24,25 @@ pub overflow_sub-a : goal.overflow_sub-a
 overflow_sub-a c = omega (arith, (is-ready (goal.at.overflow_sub-a c).Else-not-ready).square)
 
 pub slice_bounds-row_pass-count : goal.slice_bounds-row_pass-count
-slice_bounds-row_pass-count c = omega (arith, (is-ready (goal.at.slice_bounds-row_pass-count c).Else-not-ready).square, (is-ready (goal.at.slice_bounds-row_pass-count c).Else-not-ready).long)
+slice_bounds-row_pass-count c = omega (
+  arith,
+  (is-ready (goal.at.slice_bounds-row_pass-count c).Else-not-ready).square,
+  (is-ready (goal.at.slice_bounds-row_pass-count c).Else-not-ready).long,
+)
 
 pub slice_bounds-row_pass-start : goal.slice_bounds-row_pass-start
-slice_bounds-row_pass-start c = omega (arith, (is-ready (goal.at.slice_bounds-row_pass-start c).Else-not-ready).square, (is-ready (goal.at.slice_bounds-row_pass-start c).Else-not-ready).long)
+slice_bounds-row_pass-start c = omega (
+  arith,
+  (is-ready (goal.at.slice_bounds-row_pass-start c).Else-not-ready).square,
+  (is-ready (goal.at.slice_bounds-row_pass-start c).Else-not-ready).long,
+)
 
 pub slice_bounds-row_pass-end-2 : goal.slice_bounds-row_pass-end-2
-slice_bounds-row_pass-end-2 c = omega (arith, (is-ready (goal.at.slice_bounds-row_pass-end-2 c).Else-not-ready).square, (is-ready (goal.at.slice_bounds-row_pass-end-2 c).Else-not-ready).scratch)
+slice_bounds-row_pass-end-2 c = omega (
+  arith,
+  (is-ready (goal.at.slice_bounds-row_pass-end-2 c).Else-not-ready).square,
+  (is-ready (goal.at.slice_bounds-row_pass-end-2 c).Else-not-ready).scratch,
+)
 
 pub row_pass-requires : goal.row_pass-requires
 row_pass-requires c =

@@ -4,7 +4,8 @@ use Rattle.tidy_stream.proofs.passing.give.Given as goal
 
 abbrev pub invariant-loop-turns : goal.invariant-loop-turns
 invariant-loop-turns l =
-    (length l.store ≡ length l.initial.store) × (length l.held ≡ length l.initial.held) × (length l.list ≡ length l.initial.list) × (length l.out ≡ length l.initial.out)
+    (length l.store ≡ length l.initial.store) × (length l.held ≡ length l.initial.held) × (length l.list ≡ length l.initial.list) ×
+    (length l.out ≡ length l.initial.out)
 
 abbrev pub decreases-loop-turns : goal.decreases-loop-turns
 decreases-loop-turns l = l.turns
