@@ -7,8 +7,7 @@ use Rattle.whole.specs.laws.Row.{fails, passes}
 use Rattle.session.specs.declared.Session.{Session}
 use Rattle.session.specs.declared.HeaderReading.{HeaderReading}
 use Rattle.session.specs.Header.{header_reading, header_record}
-use Rattle.collect.specs.Collect.{HandOver, state, said, collect_of}
-use Rattle.collect.specs.declared.Collector.{Collector}
+use Rattle.collect.specs.Collect.{state, said, collect_of}
 use Rattle.collect.specs.declared.Collected.{Collected}
 use Rattle.collect.specs.declared.Collected.TheVariants.{More, Header, Frame, Refused}
 use Rattle.collect.specs.declared.Took.{Took}

@@ -1,5 +1,5 @@
 -- A short frame behind a stream: the stream stays, and what goes out is both.
-use Rattle.std.specs.Prelude.{ℕ, zero, suc, ◌+◌, ◌-◌, ◌≤◌, ◌≡◌, refl, Bool, true, false, List, ◌++◌, length, take, drop, eqb}
+use Rattle.std.specs.Prelude.{ℕ, zero, suc, ◌-◌, ◌≤◌, ◌≡◌, Bool, true, false, List, ◌++◌, length, take, drop}
 use Rattle.std.proofs.Common.{ap, sym, subst, ◌∙◌, arith, take_at, length-take-le, eq-eqb, ne_eqb}
 use Rattle.whole.specs.Row.{◌!◌⨾◌, ◌⨟◌}
 use Rattle.wire.specs.Wrote.{length_said, writing_length}

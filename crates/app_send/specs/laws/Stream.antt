@@ -3,7 +3,7 @@ use Rattle.std.specs.Prelude.{ℕ, zero, suc, ◌+◌, ◌-◌, ◌≤◌, ◌<�
 use Rattle.std.proofs.Common.{ap, sym, ◌∙◌, arith, length-append, length-drop, drop_of_length-le, take_at, take_all, le-leb, eq-eqb, ne_eqb}
 use Rattle.std.proofs.Math.Path.{subst}
 use mathlib.Core.List.{List, [], ◌∷◌, ◌++◌, append_assoc}
-use Rattle.whole.specs.Row.{◌!◌⨾◌, ◌⨟◌}
+use Rattle.whole.specs.Row.{◌⨟◌}
 use Rattle.whole.specs.laws.Row.{passes, fails, stops}
 use Rattle.wire.specs.Le.{bytes16, bytes32, written}
 use Rattle.wire.specs.Wrote.{Wrote, writing_number, writing_length, length_said, out_left}

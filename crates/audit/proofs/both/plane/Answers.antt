@@ -1,7 +1,6 @@
 -- `plane` meets its contract: where both numbers are 0, both lists are planes. Assumes nothing.
 use mathlib.Core.Path.{sym, ◌∙◌}
 use native.Mathlib.Omega.{arith}
-use borrow.Author.Tests.{not-false}
 use Rattle.bands.specs.Bands.{QuantGood}
 use Rattle.bands.specs.laws.Band.{good_set}
 use Rattle.audit.specs.laws.Planes.{ours_plane, plain_plane}

@@ -1,5 +1,4 @@
 -- `rows_same_32` is safe and ends. The row keeps its length.
-use Prim.Native.Nat.{◌-◌}
 use mathlib.Core.Path.{refl}
 use native.Mathlib.Omega.{arith}
 use Rattle.audit.proofs.both.rows_same_32.Goals as goal

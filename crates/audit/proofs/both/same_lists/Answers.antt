@@ -1,5 +1,4 @@
 -- `same_lists` is safe and ends: both have the same length.
-use Prim.Native.Nat.{◌-◌}
 use native.Mathlib.Omega.{arith}
 use Rattle.audit.proofs.both.same_lists.Goals as goal
 

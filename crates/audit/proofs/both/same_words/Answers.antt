@@ -1,5 +1,4 @@
 -- `same_words` is safe and ends: both have the same length.
-use Prim.Native.Nat.{◌-◌}
 use native.Mathlib.Omega.{arith}
 use Rattle.audit.proofs.both.same_words.Goals as goal
 

@@ -1,5 +1,4 @@
 -- `same_words_32` is safe and ends: both have the same length.
-use Prim.Native.Nat.{◌-◌}
 use native.Mathlib.Omega.{arith}
 use Rattle.audit.proofs.both.same_words_32.Goals as goal
 

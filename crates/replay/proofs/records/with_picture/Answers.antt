@@ -1,0 +1,13 @@
+-- Each return is one case of `picture_desk`.
+use Rattle.std.proofs.Common.{refl, eq-eqb, ne_eqb}
+use Rattle.whole.specs.laws.Row.{case_yes, case_no}
+use Rattle.replay.specs.Desk.{picture_desk}
+use Rattle.replay.proofs.records.with_picture.Goals as goal
+
+pub returns-then-n-eq18446744073709551615 : goal.returns-then-n-eq18446744073709551615
+unfolding picture_desk
+returns-then-n-eq18446744073709551615 c = case_yes _ _ _ _ (eq-eqb _ _ c.if-n-eq18446744073709551615.true) c.bad.ensures
+
+pub returns : goal.returns
+unfolding picture_desk
+returns c = case_no _ _ _ _ (ne_eqb _ _ c.if-n-eq18446744073709551615.false) refl

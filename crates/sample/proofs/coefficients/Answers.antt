@@ -1,0 +1,17 @@
+-- `sample::coefficients` meets its contract: the list and the set were judged before, and the component before it is decoded.
+use mathlib.Core.Path.{sym, ◌∙◌}
+use Rattle.bands.specs.Bands.{QuantGood}
+use Rattle.bands.specs.laws.Band.{good_set}
+use Rattle.sample.proofs.coefficients.Goals as goal
+use Rattle.sample.proofs.coefficients.Goals.{Else-not-is_good}
+
+-- the set is good where the test was passed
+set : (e : Else-not-is_good) → QuantGood e.args.q.v
+set e = good_set _ (sym e.is_good.ensures ∙ e.if-not-is_good.false)
+
+pub component_fault-n-requires : goal.component_fault-n-requires
+component_fault-n-requires c = (c.if-work-ne4096.false, set (goal.at.component_fault-n-requires c).Else-not-is_good)
+
+pub coefficients-requires : goal.coefficients-requires
+coefficients-requires c =
+    (c.component_fault-n.auto.work ∙ c.if-work-ne4096.false, set (goal.at.coefficients-requires c).Else-not-is_good, sym c.if-n-ne0.false ∙ c.component_fault-n.ensures.number)
