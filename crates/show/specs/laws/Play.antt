@@ -121,8 +121,15 @@ module _ (word : ℕ) (s : Scene) where
       → Shown word s (scene d store pic) piece
       → Filled d piece e piece'
       → Shown word s (scene e store pic) piece'
-  filled_on d _ piece _ store pic p same = p
-  filled_on d _ piece _ store pic p (next new h) = read (scene d store pic) piece new p h
+  filled_on d e piece piece' store pic p f = go piece e piece' p f
+    where
+      go :
+          (piece : List ℕ) (e : Desk) (piece' : List ℕ)
+          → Shown word s (scene d store pic) piece
+          → Filled d piece e piece'
+          → Shown word s (scene e store pic) piece'
+      go piece _ _ p same = p
+      go piece _ _ p (next new h) = read (scene d store pic) piece new p h
 
   settled_on :
       (e : Desk) (piece store pic : List ℕ) → Shown word s (scene e store pic) piece → Shown word s (scene (settled_desk e) store pic) piece

@@ -1,5 +1,5 @@
 -- The list keeps its length, and has a place for each number; the measure is the numbers that are left.
-use Rattle.std.proofs.Common.{◌-◌, refl, arith, length-set}
+use Rattle.std.proofs.Common.{refl, arith, length-set}
 use Rattle.app_records.proofs.told.put_picks.Goals as goal
 
 pub loop-i-init : goal.loop-i-init

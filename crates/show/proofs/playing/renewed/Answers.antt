@@ -1,0 +1,7 @@
+-- The definition, with the collector reset, behind the block.
+use Rattle.show.specs.Play.{anew_desk}
+use Rattle.show.proofs.playing.renewed.Goals as goal
+
+pub returns : goal.returns
+unfolding anew_desk
+returns c = rw (c.wrapping_add_usize.ensures.value, c.behind.ensures, c.reset.ensures)
