@@ -4,7 +4,6 @@ ghost use Rattle.std.specs.Prelude.{◌≡◌, drop};
 ghost use Rattle.app_text.specs.First.{first_of};
 ghost use Rattle.app_stream.specs.Pieces.{Fills};
 
-use app_text::files::Source;
 use std::io::Read;
 
 // How many bytes the piece has that was read last, the place in it, and whether the input has ended.
@@ -27,7 +26,7 @@ pub fn start() -> Piece
 }
 
 // Reads at most so many bytes: how many came, 0 at the end of the input.
-fn read_piece(source: &mut Source, piece: &mut [u8], size: usize) -> usize {
+fn read_piece(source: &mut impl Read, piece: &mut [u8], size: usize) -> usize {
     if piece.len() < size {
         return 0;
     }
@@ -38,7 +37,7 @@ fn read_piece(source: &mut Source, piece: &mut [u8], size: usize) -> usize {
 }
 
 // The next piece, where this one is at its end; what was passed over beyond it is passed over in the next.
-pub fn fill(p: Piece, source: &mut Source, size: usize, piece: &mut [u8]) -> Piece
+pub fn fill(p: Piece, source: &mut impl Read, size: usize, piece: &mut [u8]) -> Piece
     ensures { Fills p.at (first_of piece.old p.n) result.at (first_of piece.new result.n) result.last }
 {
     let end = app_text::loading::first(piece, p.n).len();

@@ -1,7 +1,5 @@
 -- One answer of every call that a request brought: each promise names each number and each list at exit by what came in, so two that meet it are equal.
-use Rattle.std.specs.Prelude.{ℕ, ◌≡◌, List}
 use Rattle.std.proofs.Common.{sym, ◌∙◌}
-use Rattle.panel.specs.Edge.{WriterCall}
 use Rattle.panel.specs.laws.Short.{short_once}
 use Rattle.panel.specs.laws.Tidy.{tidy_once, held_once}
 use Rattle.demands.specs.EveryCall.{OneCollector, OneSettings, OneShort, OneCapabilities, OneFilter, OneDiffer, EveryCall}

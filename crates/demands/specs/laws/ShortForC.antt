@@ -1,9 +1,8 @@
 -- Request Eleven over the calls for C: each of them is one of the panel's (`as_short`, `as_sets`, `as_frame`), so `as_the_full` of its page holds of it.
 use Rattle.std.specs.Prelude.{ℕ, ◌≡◌, refl, List, length, take}
-use Rattle.std.proofs.Common.{ap, ap₂, sym, ◌∙◌, subst}
+use Rattle.std.proofs.Common.{ap, ap₂, sym, ◌∙◌}
 use Rattle.wire.specs.Wrote.{writing_number, writing_length}
-use Rattle.quants.specs.declared.Quants.{Quants}
-use Rattle.short_readback.specs.Request.{ReadOn, FullFrame, sent_full, sent_short}
+use Rattle.short_readback.specs.Request.{ReadOn, FullFrame}
 use Rattle.short_readback.specs.laws.Request.{request_eleven_frames}
 use Rattle.panel.specs.Short.{sets_for}
 use Rattle.calls.specs.Calls.{CReadFrame, as_frame, CWriteFrameSets, CWriteShort}

@@ -1,4 +1,5 @@
 -- One law for each way out: a code that is not 01's (`padded_no`), one with four bits or more free (`padded_few`), and the form itself (`padded_is`).
+use native.Mathlib.Omega.{arith}
 use Rattle.tidy_code.specs.laws.Read.{padded_no, padded_few, padded_is}
 use Rattle.tidy_code.proofs.read_padded.Goals as goal
 
@@ -7,14 +8,14 @@ returns-then-reading_bits-ge5 c =
     let a = c.args in
     let p = c.read_component-a in
     padded_is a.mode a.w.now a.list.now _ p.result c.requires p.ensures c.reading_number.result c.reading_number.ensures
-    c.if-reading_number-eq0.true c.reading_bits.result c.reading_bits.ensures c.if-reading_bits-ge5.true
+    c.if-reading_number-eq0.true c.reading_bits.result c.reading_bits.ensures (omega arith)
 
 pub returns-then-reading_number-eq0 : goal.returns-then-reading_number-eq0
 returns-then-reading_number-eq0 c =
     let a = c.args in
     let p = c.read_component-a in
     padded_few a.mode a.w.now a.list.now _ p.result c.requires p.ensures c.reading_number.result c.reading_number.ensures
-    c.if-reading_number-eq0.true c.reading_bits.result c.reading_bits.ensures _ _ c.if-reading_bits-ge5.false c.refuse.ensures
+    c.if-reading_number-eq0.true c.reading_bits.result c.reading_bits.ensures _ _ (omega arith) c.refuse.ensures
 
 pub returns : goal.returns
 returns c =

@@ -4,8 +4,8 @@ use Rattle.app_stream.specs.laws.Pieces.{fills_same, fills_next}
 use Rattle.app_stream.proofs.pieces.fill.Goals as goal
 
 pub returns-then-p-end : goal.returns-then-p-end
-returns-then-p-end c = fills_same _ _ _ _ c.first-end.ensures refl c.if-p-end.true
+returns-then-p-end g c = fills_same _ _ _ _ c.first-end.ensures refl c.if-p-end.true
 
 pub returns : goal.returns
-returns c =
+returns g c =
     fills_next _ _ _ _ _ _ c.first-end.ensures refl c.if-p-end.false

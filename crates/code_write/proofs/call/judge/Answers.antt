@@ -25,7 +25,7 @@ returns-then-is_slight c =
     let zs = c.args.list.now in
     let s = slight_is zs (called a.mode (length zs) (sym c.if-fault-ne0.false ∙ j.ensures)).long (sym c.is_slight.ensures ∙ c.if-is_slight.true) in
     judge_fine a.mode zs a.room j.result j.ensures c.if-fault-ne0.false
-    (slight_fine zs s a.mode) (omega (arith, slight_few zs s a.mode, c.if-room-ge64964.true))
+    (slight_fine zs s a.mode) (omega (arith, slight_few zs s a.mode))
 
 pub measure_component-measured-requires : goal.measure_component-measured-requires
 measure_component-measured-requires c =

@@ -46,7 +46,7 @@ returns-then-message_fault-eq0 c =
     let a = c.args in
     let p = c.put_frame-p.ensures in
     let t = tested_yes a.sender a.s a.m.now (sym c.is_due.ensures ∙ c.if-is_due.true) c.message_fault.result _ c.message_fault.ensures
-    (front_there _ a.out.now _ c.put_frame-p.result.to p.left p.behind) c.if-message_fault-eq0.true in
+    (front_there _ a.out.now _ c.put_frame-p.result.to p.left p.behind) (omega arith) in
     pass_tidied a.sender a.s a.m.now a.out.now _ _ t p
 
 pub keep-requires : goal.keep-requires
@@ -67,7 +67,7 @@ returns-then-is_due c =
     let a = c.args in
     let p = c.put_frame-p.ensures in
     let t = tested_no a.sender a.s a.m.now (sym c.is_due.ensures ∙ c.if-is_due.true) c.message_fault.result _ c.message_fault.ensures
-    (front_there _ a.out.now _ c.put_frame-p.result.to p.left p.behind) c.if-message_fault-eq0.false in
+    (front_there _ a.out.now _ c.put_frame-p.result.to p.left p.behind) (omega arith) in
     let l = frame_shorter a.sender a.s.mode a.m.now (due_laid a.sender a.s a.m.now (sym c.is_due.ensures ∙ c.if-is_due.true)) in
     pass_back a.sender a.s a.m.now a.out.now _ _ _ _ t p.left l c.keep.ensures
 
