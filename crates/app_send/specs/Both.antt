@@ -1,4 +1,5 @@
--- Two pictures of one size: the stream of the old one, and behind it the short frame of the new one. 02, request Eleven: "The short frame's writer makes this check
+-- Two pictures of one size: the stream of the old one, and behind it the short frame of the new one. 02, request Eleven: "The short frame's writer makes this
+-- check
 -- itself, after its own 5, 7 and 2; then 9, 6 and 13 as before, over the listed tiles."
 -- (01 is this project's scope document, 02 its change requests: README, "What 01 is".)
 use Rattle.std.specs.Prelude.{ℕ, ◌+◌, ◌-◌, ◌≡◌, List, [], ◌++◌, length, take, drop, eqb}

@@ -1,5 +1,6 @@
 -- A program that goes by the pieces that its input gives, one after the other. What it does at a turn, with a place in a piece, is a function of its state; the
--- next piece is read only where the place is at the end of the one before; and it goes on until the input has ended, which a piece without bytes says. A program
+-- next piece is read only where the place is at the end of the one before; and it goes on until the input has ended, which a piece without bytes says. A
+-- program
 -- that reads nothing, that leaves bytes of a piece out, or that stops before the end, does not meet it.
 use Rattle.std.specs.Prelude.{ℕ, ◌+◌, ◌-◌, ◌≤◌, ◌<◌, ◌≡◌, Bool, true, List, [], ◌∷◌, length}
 
@@ -32,7 +33,8 @@ module _ {S : Type 0} (at : S → ℕ) (turn : ℕ → List ℕ → S → S) (s 
         → length (latest ps) ≤ at t
         → Played (turn (at t - length (latest ps)) new t) (new ∷ ps) (n + 1)
 
--- where it may stop: the input has ended; or for a reason of the program's own; or after 2^64 - 1 turns, which no run uses up (a proved loop ends, and nothing says
+-- where it may stop: the input has ended; or for a reason of the program's own; or after 2^64 - 1 turns, which no run uses up (a proved loop ends, and nothing
+-- says
 -- that an input does)
 pub data Ends (why : Type 0) (pieces : List (List ℕ)) (turns : ℕ) : Type 0 where
   all : (ps : List (List ℕ)) → pieces ≡ [] ∷ ps → Ends why pieces turns

@@ -1,6 +1,8 @@
--- What is longer than the collector's store, passed over by its lengths. 02, One: "judged, in this order: type not CCC0 to CCC7 is 3, blockLen under 6 is 4, the
+-- What is longer than the collector's store, passed over by its lengths. 02, One: "judged, in this order: type not CCC0 to CCC7 is 3, blockLen under 6 is 4,
+-- the
 -- frame's earlier blocks plus blockLen over the store is 13"; "a collector .. that gathers one header block, or one frame from its begin block through its end
--- block". So what a head refused with 13 belongs to ends where the collector would hand it on: at the block's end, or at the end of the frame's end block. A head
+-- block". So what a head refused with 13 belongs to ends where the collector would hand it on: at the block's end, or at the end of the frame's end block. A
+-- head
 -- inside that has a fault of its own, 3 or 4, has no length that could be gone by: it is what the collector says of it.
 -- (01 is this project's scope document, 02 its change requests, 001 is MS-RDPRFX: README, "What 01 is".)
 use Rattle.std.specs.Prelude.{ℕ, ◌+◌, ◌-◌, ◌*◌, ◌/◌, Bool, true, false, List, [], ◌∷◌, ltb, eqb}

@@ -1,4 +1,5 @@
--- Document 02, request Eleven, over the calls for C: "If the glass shows what a full frame of the old picture gives, then the short frame leaves it showing what
+-- Document 02, request Eleven, over the calls for C: "If the glass shows what a full frame of the old picture gives, then the short frame leaves it showing
+-- what
 -- a full frame of the new one would give, with the same quantisers, mode and session", said of xurbalenz_write_frame_short, xurbalenz_write_frame_sets and the
 -- frame calls. laws/ShortForC proves it.
 -- (01 is this project's scope document, 02 its change requests, 001 is MS-RDPRFX: README, "What 01 is".)

@@ -17,7 +17,8 @@ rects_of m at = take (8 * rect_count m at) (drop (at + 11) m)
 -- "fixed fields (5), counts (6), blockLen against counts (4)" of a tileset
 unfoldable pub set_fields : ℕ → List ℕ → ℕ → ℕ
 set_fields et m at =
-    set_judge et (size_at m at) (le16 m (at + 8)) (le16 m (at + 10)) (le16 m (at + 12)) (quant_count m at) (get_or m (at + 15) 0) (tile_count m at) (data_size m at)
+    set_judge et (size_at m at) (le16 m (at + 8)) (le16 m (at + 10)) (le16 m (at + 12)) (quant_count m at) (get_or m (at + 15) 0) (tile_count m at)
+    (data_size m at)
 
 -- the first fault of a tileset before its tiles
 unfoldable pub set_front : ℕ → List ℕ → ℕ → ℕ

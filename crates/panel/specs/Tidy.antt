@@ -1,5 +1,7 @@
--- Frames and headers passed on, as a C program meets them: the number is returned, lengths and the count are stored behind references, lists are lent. A frame's
--- session is the one that the four headers of this size and mode make; there is none of another size than 1 to 4,096 by 1 to 2,048, and its frames go on as they came.
+-- Frames and headers passed on, as a C program meets them: the number is returned, lengths and the count are stored behind references, lists are lent. A
+-- frame's
+-- session is the one that the four headers of this size and mode make; there is none of another size than 1 to 4,096 by 1 to 2,048, and its frames go on as
+-- they came.
 -- (01 is this project's scope document, 02 its change requests, 001 is MS-RDPRFX: README, "What 01 is".)
 use Rattle.std.specs.Prelude.{ℕ, ◌+◌, ◌≡◌, List, [], ◌∷◌, leb, ℤ, length}
 use Rattle.whole.specs.Row.{◌⇒◌∣◌}

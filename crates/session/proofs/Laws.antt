@@ -42,7 +42,8 @@ fault_more s m t size n f j z g y h =
     let k = g ∙ ap (field_fault m) j.type in
     passes _ _ _ _ (le-leb 6 (length m) j.some) (goes_on _ _ _ (sym e ∙ z) (goes_on _ _ _ (sym k ∙ y) (fails _ _ _ _ (ne_is refl j.len h) refl)))
 
-pub fault_none : (s : Session) (m : List ℕ) (t size n f : ℕ) → Judged s m t size n → n ≡ 0 → f ≡ field_fault m t → f ≡ 0 → length m ≡ size → 0 ≡ header_fault s m
+pub fault_none : (s : Session) (m : List ℕ) (t size n f : ℕ) → Judged s m t size n → n ≡ 0 → f ≡ field_fault m t → f ≡ 0 → length m ≡ size → 0 ≡ header_fault
+    s m
 unfolding header_fault
 fault_none s m t size n f j z g y h =
     let e = seen s m t size n j in

@@ -104,7 +104,8 @@ pub record RequestFive : Type 0 where
       → read_settings newest (store_of v rs ++ (kind ∷ rest)) ≡ Refused 3
   -- "a second .. version record 12"
   pub second_version :
-      (newest v : ℕ) (rs : List Setting) (rest : List ℕ) → takes newest v ≡ true → AllGood v rs → read_settings newest (store_of v rs ++ (0 ∷ rest)) ≡ Refused 12
+      (newest v : ℕ) (rs : List Setting) (rest : List ℕ) → takes newest v ≡ true → AllGood v rs → read_settings newest (store_of v rs ++ (0 ∷ rest)) ≡ Refused
+      12
   -- "a short record 1"
   pub short_record :
       (newest v kind : ℕ) (rs : List Setting) (rest : List ℕ)

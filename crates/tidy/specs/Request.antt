@@ -20,7 +20,8 @@ use Rattle.tidy.specs.declared.headers.Gave.{Gave}
 use Rattle.tidy.specs.declared.headers.Waiting.{Waiting}
 use Rattle.tidy.specs.declared.held.Passed.{Passed}
 
--- a component judged by what its code means for a sender: the panel's number of the tidied code. That the bytes are the sender's own form of a list and not 01's
+-- a component judged by what its code means for a sender: the panel's number of the tidied code. That the bytes are the sender's own form of a list and not
+-- 01's
 -- is no fault here; everything else is
 unfoldable pub judged_as : ℕ → ℕ → List ℕ → List ℕ → ℕ
 judged_as sd et five code = judged et five (tidy_code sd et code)
@@ -30,12 +31,15 @@ pub record TidyFrames : Type 1 where
   pub accepted_kept : (sd : ℕ) (s : Session) (m : List ℕ) → fault_for s m ≡ 0 → tidy_frame sd s m ≡ m
   -- "a frame whose only faults are these is accepted after tidying"
   pub mended :
-      (sd : ℕ) (s : Session) (m : List ℕ) → Bytes m → ready s ≡ true → frame_fault (judged_as sd) s.width s.height s.mode m ≡ 0 → fault_for s (tidy_frame sd s m) ≡ 0
+      (sd : ℕ) (s : Session) (m : List ℕ) → Bytes m → ready s ≡ true → frame_fault (judged_as sd) s.width s.height s.mode m ≡ 0 → fault_for s
+      (tidy_frame sd s m) ≡ 0
   -- "and shows the decoding of the same lists": its tiles are those that came with their codes tidied (each of which reads to the list that the code means:
   -- `same_list` of the crate tidy_code), under the same rectangles and quantiser sets
-  pub same_tiles : (sd : ℕ) (s : Session) (m : List ℕ) → Bytes m → is_tidied sd s m ≡ true → frame_tiles (tidy_frame sd s m) ≡ map (tidy_tile sd s.mode) (frame_tiles m)
+  pub same_tiles : (sd : ℕ) (s : Session) (m : List ℕ) → Bytes m → is_tidied sd s m ≡ true → frame_tiles (tidy_frame sd s m) ≡ map (tidy_tile sd s.mode)
+      (frame_tiles m)
   pub same_region :
-      (sd : ℕ) (s : Session) (m : List ℕ) → Bytes m → is_tidied sd s m ≡ true → (rect_count (tidy_frame sd s m) 14 ≡ rect_count m 14) × (rects_of (tidy_frame sd s m) 14 ≡ rects_of m 14)
+      (sd : ℕ) (s : Session) (m : List ℕ) → Bytes m → is_tidied sd s m ≡ true → (rect_count (tidy_frame sd s m) 14 ≡ rect_count m 14) ×
+      (rects_of (tidy_frame sd s m) 14 ≡ rects_of m 14)
   pub same_sets :
       (sd : ℕ) (s : Session) (m : List ℕ) (j : ℕ) → Bytes m → is_tidied sd s m ≡ true → j < quant_count m (set_place m) →
       set_at (tidy_frame sd s m) (set_place (tidy_frame sd s m)) j ≡ set_at m (set_place m) j
@@ -83,5 +87,6 @@ pub record TidyHeaders : Type 1 where
       GaveOn fault bytes next w after store b out y q → (r.number ≡ q.number) × (r.size ≡ q.size) × (r.waiting ≡ q.waiting) × (a ≡ b) × (x ≡ y)
   -- and with what waits in 38 bytes
   pub one_held :
-      (fault : ℕ) (bytes after held a b out x y : List ℕ) (r q : Passed) → HeldGave fault bytes after held a out x r → HeldGave fault bytes after held b out y q →
+      (fault : ℕ) (bytes after held a b out x y : List ℕ) (r q : Passed) → HeldGave fault bytes after held a out x r → HeldGave fault bytes after held b out y
+      q →
       (r.number ≡ q.number) × (r.size ≡ q.size) × (a ≡ b) × (x ≡ y)

@@ -1,8 +1,10 @@
--- A component's code as a filter in front of the panel takes it: by the sender that whoever installs it has named, never guessed from the bytes. Each sender writes
+-- A component's code as a filter in front of the panel takes it: by the sender that whoever installs it has named, never guessed from the bytes. Each sender
+-- writes
 -- one byte string for a list; bytes mean a list if they are 01's bytes of it or that byte string, and nothing else means anything. What comes out is 01's own
 -- bytes of the list meant.
 -- (01 is this project's scope document, 02 its change requests, 001 is MS-RDPRFX: README, "What 01 is".)
-use Rattle.std.specs.Prelude.{ℕ, zero, suc, ◌-◌, ◌%◌, ◌≤◌, ◌≡◌, Bool, true, false, ◌⊎◌, List, [], ◌∷◌, ◌++◌, map, ltb, leb, eqb, ℤ, pos, negsuc, length, take, drop, get_or, replicate}
+use Rattle.std.specs.Prelude.{ℕ, zero, suc, ◌-◌, ◌%◌, ◌≤◌, ◌≡◌, Bool, true, false, ◌⊎◌, List, [], ◌∷◌, ◌++◌, map, ltb, leb, eqb, ℤ, pos, negsuc, length, take}
+use Rattle.std.specs.Prelude.{drop, get_or, replicate}
 use Rattle.whole.specs.Row.{◌!◌⨾◌, ◌⇒◌∣◌}
 use Rattle.wire.specs.Mode.{is_mode}
 use Rattle.bits.specs.Bits.{bits_of}
@@ -26,7 +28,8 @@ surplus bits = leb 5 (bits % 8) ⇒ (0 ∷ []) ∣ []
 abbrev pub one_more : List ℤ → List ℤ
 one_more zs = zs ++ (negsuc 0 ∷ [])
 
--- "For a mode and a list zs of 4,096 numbers in range, `sent s zs` is one byte string": "01's bytes of zs (code, filled up with zero bits)"; these and the surplus
+-- "For a mode and a list zs of 4,096 numbers in range, `sent s zs` is one byte string": "01's bytes of zs (code, filled up with zero bits)"; these and the
+-- surplus
 -- byte; "the code of the 4,097 values zs then -1, filled up with zero bits to a byte, and one byte 00"
 unfoldable pub sent : ℕ → ℕ → List ℤ → List ℕ
 unfolding surplus

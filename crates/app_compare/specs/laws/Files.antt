@@ -1,7 +1,8 @@
 -- What reads of two .pic files come to, step by step.
 use Rattle.std.specs.Prelude.{ℕ, suc, ◌+◌, ◌*◌, ◌-◌, ◌≤◌, ◌<◌, refl, Bool, List, ◌++◌, ℤ, leb, eqb, length, take, drop}
 use Rattle.std.proofs.Math.Path.{◌≡◌, ap, sym}
-use Rattle.std.proofs.Common.{subst, ◌∙◌, arith, add-one, mul-le-mul, mul-le-mul_right, length-take, length-drop, length-append, take_all, get_or-take, drop-drop, length-take-le}
+use Rattle.std.proofs.Common.{subst, ◌∙◌, arith, add-one, mul-le-mul, mul-le-mul_right, length-take, length-drop, length-append, take_all, get_or-take}
+use Rattle.std.proofs.Common.{drop-drop, length-take-le}
 use Rattle.std.proofs.Math.Bool.{true, false}
 use Rattle.std.proofs.lemmas.List.{take-append-le}
 use borrow.Author.Tests.{le-leb, leb-true, leb-false, eqb-true, eqb-false, eq-eqb, ne_eqb}

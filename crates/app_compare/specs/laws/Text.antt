@@ -1,6 +1,8 @@
 -- A text made piece behind piece, and the lines of a picture's counts one after the other.
-use Rattle.std.specs.Prelude.{ℕ, zero, suc, ◌+◌, ◌*◌, ◌-◌, ◌/◌, ◌%◌, ◌^◌, ◌≤◌, ◌<◌, ◌≡◌, refl, Bool, true, false, List, [], ◌∷◌, ◌++◌, length, get_or, take, drop, ltb, leb}
-use Rattle.std.proofs.Common.{ap, sym, ◌∙◌, append_assoc, append-nil, arith, mod-eq_of_lt, pow-suc, length-append, take_at, length-take-le, lt-ltb, le-ltb, leb-true, leb-false}
+use Rattle.std.specs.Prelude.{ℕ, zero, suc, ◌+◌, ◌*◌, ◌-◌, ◌/◌, ◌%◌, ◌^◌, ◌≤◌, ◌<◌, ◌≡◌, refl, Bool, true, false, List, [], ◌∷◌, ◌++◌, length, get_or, take}
+use Rattle.std.specs.Prelude.{drop, ltb, leb}
+use Rattle.std.proofs.Common.{ap, sym, ◌∙◌, append_assoc, append-nil, arith, mod-eq_of_lt, pow-suc, length-append, take_at, length-take-le, lt-ltb, le-ltb}
+use Rattle.std.proofs.Common.{leb-true, leb-false}
 use Rattle.std.proofs.Math.Nat.{one-le-pow, pow-le-pow_right}
 use Rattle.std.proofs.Math.Seq.{take-length}
 use Rattle.io.specs.Digits.{hex_digit_ascii, last_digits, IsDigitCount}

@@ -1,7 +1,8 @@
 -- Laws on words as bytes.
 use Rattle.std.specs.Prelude.{◌≡◌, ℕ, ◌+◌, ◌*◌, ◌<◌, ◌≤◌, List, [], ◌∷◌, ◌++◌, length, take, slice_index}
 use Rattle.std.proofs.Math.Path.{refl, sym}
-use Rattle.std.proofs.Common.{ap, ◌∙◌, append-nil, append_assoc, arith, add-one, mul-le-mul, mul-zero, mul-suc, add_comm, length-append, take_all, length-take-le}
+use Rattle.std.proofs.Common.{ap, ◌∙◌, append-nil, append_assoc, arith, add-one, mul-le-mul, mul-zero, mul-suc, add_comm, length-append, take_all}
+use Rattle.std.proofs.Common.{length-take-le}
 use Rattle.std.proofs.Math.Seq.{take-suc, drop-length}
 use Rattle.wire.specs.Le.{bytes16, bytes32, patch, written}
 use Rattle.wire.specs.laws.Le.{wrote_next}

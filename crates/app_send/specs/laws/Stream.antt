@@ -53,7 +53,8 @@ part_behind f at bytes out part out' r h w l e =
 pub sent_none : (f n : ℕ) (bytes out' : List ℕ) (r : Made) → (n ≡ 0 → ⊥) → r ≡ stopped_at f n → Sent f n bytes out' r
 unfolding ◌⨟◌ gone_out first_of
 sent_none f zero bytes out' r h e = absurd (h refl)
-sent_none zero (suc n) bytes out' r h e = subst (Sent 0 (suc n) bytes out') (sym e) (record { fault_is = refl; number_is = refl; fits = omega arith; gone = first-of out' 0 (omega arith) })
+sent_none zero (suc n) bytes out' r h e = subst (Sent 0 (suc n) bytes out') (sym e)
+    (record { fault_is = refl; number_is = refl; fits = omega arith; gone = first-of out' 0 (omega arith) })
 sent_none (suc f) (suc n) bytes out' r h e =
     subst (Sent (suc f) (suc n) bytes out') (sym e) (record { fault_is = refl; number_is = refl; fits = omega arith; gone = first-of out' 0 (omega arith) })
 
@@ -152,7 +153,13 @@ make_sent (suc hf) number fault head bytes out x y w v r z n h l lx ly b e = abs
 
 pub fault-sent : (f : ℕ) (out' : List ℕ) (r : Made) → r ≡ stopped_at f 0 → Sent f 0 [] out' r
 unfolding ◌⨟◌ gone_out
-fault-sent zero out' r e = subst (Sent 0 0 [] out') (sym e) (record { fault_is = refl; number_is = refl; fits = omega arith; gone = first-of out' 0 (omega arith) })
+fault-sent zero out' r e = subst (Sent 0 0 [] out') (sym e) (record {
+  fault_is = refl;
+  number_is = refl;
+  fits = omega arith;
+  gone = first-of out' 0
+      (omega arith);
+})
 fault-sent (suc f) out' r e =
     subst (Sent (suc f) 0 [] out') (sym e) (record { fault_is = refl; number_is = refl; fits = omega arith; gone = first-of out' 0 (omega arith) })
 

@@ -47,7 +47,8 @@ module _ {S : Type 0} (at : S → ℕ) (turn : ℕ → List ℕ → S → S) (s 
   play_start piece e = record { pieces = []; is = e; played = none }
 
   one_more :
-      (t : S) (ps : List (List ℕ)) (n k : ℕ) (piece : List ℕ) → Played at turn s t ps n → Filled (at t) (latest ps) k piece → Playing (turn k piece t) piece (n + 1)
+      (t : S) (ps : List (List ℕ)) (n k : ℕ) (piece : List ℕ) → Played at turn s t ps n → Filled (at t) (latest ps) k piece → Playing (turn k piece t) piece
+      (n + 1)
   one_more t ps n _ _ p (same h) = record { pieces = ps; is = refl; played = more t ps n p h }
   one_more t ps n _ _ p (next new h) = record { pieces = new ∷ ps; is = refl; played = read t ps n new p h }
 

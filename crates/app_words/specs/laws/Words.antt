@@ -48,7 +48,8 @@ module _ (base least n r : ℕ) (some : 0 < base) (is : IsDigitCount base least 
 
 -- what the kit makes of a number is the number's text
 pub text_is :
-    (base least n r : ℕ) (text : List ℕ) → 0 < base → IsDigitCount base least n r → r ≤ least + 20 → take r text ≡ last_digits base r n → take r text ≡ text_of base least n
+    (base least n r : ℕ) (text : List ℕ) → 0 < base → IsDigitCount base least n r → r ≤ least + 20 → take r text ≡ last_digits base r n → take r text ≡
+    text_of base least n
 unfolding text_of
 text_is base least n r text some is few e =
     e ∙ ap (λ (k : ℕ). last_digits base k n) (figures-from base least n r some is 20 least (omega arith) is.0 few)

@@ -61,7 +61,13 @@ count_over-bad-requires c =
 
 pub overflow_add-bad : goal.overflow_add-bad
 overflow_add-bad c =
-    omega (arith, turn (goal.at.overflow_add-bad c).After-count_over-bad, ends (goal.at.overflow_add-bad c).After-band_at-b, overs_le (limit_at c.args.q.v) (at c.args.work.now) c.band_at-b.result.end)
+    omega (
+      arith,
+      turn (goal.at.overflow_add-bad c).After-count_over-bad,
+      ends (goal.at.overflow_add-bad c).After-band_at-b,
+      overs_le (limit_at c.args.q.v)
+          (at c.args.work.now) c.band_at-b.result.end,
+    )
 
 pub loop-from-smaller : goal.loop-from-smaller
 loop-from-smaller c = omega (arith, ends (goal.at.loop-from-smaller c).After-band_at-b)

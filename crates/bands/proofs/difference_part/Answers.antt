@@ -29,8 +29,11 @@ pub slice_copy_out-v : goal.slice_copy_out-v
 slice_copy_out-v c = omega (arith, c.loop-i.invariant.2.same, c.requires.0)
 
 pub minus-requires : goal.minus-requires
-minus-requires c =
-    (back_near w32 (here (((goal.at.minus-requires c).At-loop-i))).1 tt, subst (Near 268443648) (sym c.loop-i.invariant.1) (last_near (at c.args.part.now) c.loop-i.i c.requires.1.all))
+minus-requires c = (
+  back_near w32 (here (((goal.at.minus-requires c).At-loop-i))).1 tt,
+  subst (Near 268443648) (sym c.loop-i.invariant.1)
+      (last_near (at c.args.part.now) c.loop-i.i c.requires.1.all),
+)
 
 pub offset_bounds-part-i-in-loop-i : goal.offset_bounds-part-i-in-loop-i
 offset_bounds-part-i-in-loop-i c = omega (arith, c.loop-i.invariant.2.same, c.requires.0)

@@ -33,13 +33,17 @@ quant_of-n-requires c =
 pub count_sums-requires : goal.count_sums-requires
 count_sums-requires c =
     let work = c.args.work.now in
-    let n = c.count_over in
-    (part_length work 4032 4096 (omega arith) (omega (arith, c.requires.0)), last_near c.args.q.v work c.requires.0 n.result n.ensures c.if-count_over-ne0.false)
+    let n = c.count_over in (
+      part_length work 4032 4096 (omega arith) (omega (arith, c.requires.0)),
+      last_near c.args.q.v work c.requires.0 n.result n.ensures
+          c.if-count_over-ne0.false,
+    )
 
 pub returns-then-count_sums-ne0 : goal.returns-then-count_sums-ne0
 returns-then-count_sums-ne0 c =
     let n = c.count_sums in
-    sums_over c.args.q.v c.args.work.now c.requires.0 c.limit.result n.result (limit_is (goal.at.returns-then-count_sums-ne0 c).After-limit) n.ensures c.if-count_sums-ne0.true
+    sums_over c.args.q.v c.args.work.now c.requires.0 c.limit.result n.result (limit_is (goal.at.returns-then-count_sums-ne0 c).After-limit) n.ensures
+    c.if-count_sums-ne0.true
 
 pub returns : goal.returns
 returns c =

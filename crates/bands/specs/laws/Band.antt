@@ -1,7 +1,9 @@
 -- Laws of the bands: which places share a quantiser, and quantisers that are good.
 -- Assumes nothing.
-use Rattle.std.specs.Prelude.{◌≡◌, refl, Bool, true, false, ◌&&◌, List, [], ◌∷◌, ℕ, zero, suc, ◌+◌, ◌*◌, ◌-◌, ◌%◌, ◌^◌, ◌≤◌, ◌<◌, ltb, leb, eqb, pos, length, get_or, take, drop}
-use Rattle.std.proofs.Common.{sym, ◌∙◌, ap, subst, not-suc-le-zero, one-mul, arith, ltb-true, leb-true, eqb-true, lt-ltb, le-ltb, le-leb, lit<, drop-cons, add-one, pow_mono, shl_exact}
+use Rattle.std.specs.Prelude.{◌≡◌, refl, Bool, true, false, ◌&&◌, List, [], ◌∷◌, ℕ, zero, suc, ◌+◌, ◌*◌, ◌-◌, ◌%◌, ◌^◌, ◌≤◌, ◌<◌, ltb, leb, eqb, pos, length}
+use Rattle.std.specs.Prelude.{get_or, take, drop}
+use Rattle.std.proofs.Common.{sym, ◌∙◌, ap, subst, not-suc-le-zero, one-mul, arith, ltb-true, leb-true, eqb-true, lt-ltb, le-ltb, le-leb, lit<, drop-cons}
+use Rattle.std.proofs.Common.{add-one, pow_mono, shl_exact}
 use Rattle.std.proofs.Math.Decide.{dec_lt, ℕ_discrete}
 use Rattle.std.proofs.lemmas.Bool.{lt-leb}
 use Rattle.std.proofs.Math.Pow.{pow-lt}

@@ -1,7 +1,8 @@
 -- Laws of a list whose bands are lent as parts: LL3 at its end, and band after band.
 -- Assumes nothing.
 use Rattle.std.specs.Prelude.{◌≡◌, refl, List, ◌++◌, ℕ, ◌+◌, ◌-◌, ◌^◌, ◌≤◌, ◌<◌, ℤ, pos, ◌*ℤ◌, length, get_or, set, take, drop}
-use Rattle.std.proofs.Common.{sym, ◌∙◌, ap, subst, append-nil, zero-le, arith, length-set, length-append, length-take, length-drop, drop_of_length-le, get_or-set_other, get_or-take, get_or-append-add, length-take-le}
+use Rattle.std.proofs.Common.{sym, ◌∙◌, ap, subst, append-nil, zero-le, arith, length-set, length-append, length-take, length-drop, drop_of_length-le}
+use Rattle.std.proofs.Common.{get_or-set_other, get_or-take, get_or-append-add, length-take-le}
 use Rattle.std.proofs.Math.Decide.{dec_lt}
 use Rattle.std.proofs.Math.ListN.{get_or-append, get_or-eq_default}
 use borrow.Rule.Slice.PartMut.{put_mid}

@@ -1,7 +1,9 @@
 -- Laws of the range, of counting what is above a limit in size, and of LL3's sums.
 -- Assumes nothing.
-use Rattle.std.specs.Prelude.{◌≡◌, refl, Bool, true, false, ◌&&◌, ℕ, zero, suc, ◌+◌, ◌*◌, ◌-◌, ◌^◌, ◌≤◌, ◌<◌, leb, ltb, ℤ, pos, negsuc, neg_ℤ, nat_abs, ◌+ℤ◌, ◌*ℤ◌}
-use Rattle.std.proofs.Common.{sym, ◌∙◌, ap, subst, zero-le, not-suc-le-zero, add-zero, add-suc, le-div_iff_mul-le, div-le_self, add-one, arith, leb-true, ltb-true, ltb-false, le-leb, le-ltb, pow_pos}
+use Rattle.std.specs.Prelude.{◌≡◌, refl, Bool, true, false, ◌&&◌, ℕ, zero, suc, ◌+◌, ◌*◌, ◌-◌, ◌^◌, ◌≤◌, ◌<◌, leb, ltb, ℤ, pos, negsuc, neg_ℤ, nat_abs, ◌+ℤ◌}
+use Rattle.std.specs.Prelude.{◌*ℤ◌}
+use Rattle.std.proofs.Common.{sym, ◌∙◌, ap, subst, zero-le, not-suc-le-zero, add-zero, add-suc, le-div_iff_mul-le, div-le_self, add-one, arith, leb-true}
+use Rattle.std.proofs.Common.{ltb-true, ltb-false, le-leb, le-ltb, pow_pos}
 use Rattle.std.proofs.Math.Decide.{ℕ_discrete}
 use Rattle.std.proofs.lemmas.Bool.{lt-leb}
 use Rattle.std.specs.Int.Signed.{lt_z}

@@ -51,4 +51,6 @@ returns-in-Cut-number c =
 pub returns-in-Got-number : goal.returns-in-Got-number
 returns-in-Got-number c =
     let a = c.args in
-    rw (bounds (goal.at.returns-in-Got-number c).In-Got-number).0 (sym (gr_got a.k a.from (bits_of a.s.now) _ _ _ _ (both (goal.at.returns-in-Got-number c).In-Got-number).0 (both (goal.at.returns-in-Got-number c).In-Got-number).1))
+    rw (bounds (goal.at.returns-in-Got-number c).In-Got-number).0 (sym
+    (gr_got a.k a.from (bits_of a.s.now) _ _ _ _ (both (goal.at.returns-in-Got-number c).In-Got-number).0
+    (both (goal.at.returns-in-Got-number c).In-Got-number).1))

@@ -1,6 +1,8 @@
 -- The bits from a place on with zeros past their end: they are what a word holds, and a number or a run of ones is read from them.
-use Rattle.std.specs.Prelude.{ℕ, zero, suc, ◌+◌, ◌*◌, ◌-◌, ◌/◌, ◌%◌, ◌^◌, ◌≤◌, ◌<◌, ◌≡◌, refl, Bool, true, false, List, [], ◌∷◌, ◌++◌, length, drop, take, get_or, replicate}
-use Rattle.std.proofs.Common.{sym, ap, ap₂, subst, ◌∙◌, append-nil, arith, add-one, le_refl, mod-lt, length-drop, take-append-drop, drop_of_length-le, drop-drop, drop-cons, shr_lt, pow-add, pow_mono, pow_pos}
+use Rattle.std.specs.Prelude.{ℕ, zero, suc, ◌+◌, ◌*◌, ◌-◌, ◌/◌, ◌%◌, ◌^◌, ◌≤◌, ◌<◌, ◌≡◌, refl, Bool, true, false, List, [], ◌∷◌, ◌++◌, length, drop, take}
+use Rattle.std.specs.Prelude.{get_or, replicate}
+use Rattle.std.proofs.Common.{sym, ap, ap₂, subst, ◌∙◌, append-nil, arith, add-one, le_refl, mod-lt, length-drop, take-append-drop, drop_of_length-le}
+use Rattle.std.proofs.Common.{drop-drop, drop-cons, shr_lt, pow-add, pow_mono, pow_pos}
 use Rattle.std.proofs.Math.Decide.{dec_lt}
 use Rattle.std.proofs.lemmas.List.{drop-append-le}
 use Rattle.bits.specs.Bits.{num_bits, bits_of, ones_of, num_of}

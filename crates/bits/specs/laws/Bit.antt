@@ -1,6 +1,8 @@
 -- Laws of the bits.
-use Rattle.std.specs.Prelude.{ℕ, zero, suc, ◌+◌, ◌*◌, ◌-◌, ◌/◌, ◌%◌, ◌^◌, ◌≤◌, ◌<◌, ◌≡◌, refl, Bool, true, false, List, [], ◌∷◌, ◌++◌, length, drop, get_or, replicate, eqb}
-use Rattle.std.proofs.Common.{sym, ap, ap₂, ◌∙◌, arith, add-one, one-add, length-append, drop_of_length-le, length-drop, get_or-append-add, drop-cons, lit<, pow-suc, mul-le-mul, mod-eq_of_lt, one-mul, lt_of_lt_of_le, mul-le-mul_right, mod-lt, add-mul, mul_assoc, mul_comm, pow_mono}
+use Rattle.std.specs.Prelude.{ℕ, zero, suc, ◌+◌, ◌*◌, ◌-◌, ◌/◌, ◌%◌, ◌^◌, ◌≤◌, ◌<◌, ◌≡◌, refl, Bool, true, false, List, [], ◌∷◌, ◌++◌, length, drop, get_or}
+use Rattle.std.specs.Prelude.{replicate, eqb}
+use Rattle.std.proofs.Common.{sym, ap, ap₂, ◌∙◌, arith, add-one, one-add, length-append, drop_of_length-le, length-drop, get_or-append-add, drop-cons, lit<}
+use Rattle.std.proofs.Common.{pow-suc, mul-le-mul, mod-eq_of_lt, one-mul, lt_of_lt_of_le, mul-le-mul_right, mod-lt, add-mul, mul_assoc, mul_comm, pow_mono}
 use Rattle.std.proofs.Math.Decide.{dec_lt}
 use Rattle.std.proofs.Math.ListN.{get_or-append}
 use Rattle.std.proofs.lemmas.List.{length-replicate}

@@ -1,6 +1,8 @@
 -- Reading at a place of a bit list: what stands there decides what is read, and what is read says what stands there.
-use Rattle.std.specs.Prelude.{ℕ, zero, suc, ◌+◌, ◌*◌, ◌-◌, ◌/◌, ◌%◌, ◌^◌, ◌≤◌, ◌<◌, ◌≡◌, refl, Bool, true, false, List, [], ◌∷◌, ◌++◌, eqb, length, drop, replicate}
-use Rattle.std.proofs.Common.{sym, ap, ap₂, ◌∙◌, append_assoc, arith, add-one, mul-le-mul_left, div-lt_iff_lt-mul, mod-eq_of_lt, div-add-mod', pow-suc, length-drop, length-append, drop-drop, pow_mono, pow_pos}
+use Rattle.std.specs.Prelude.{ℕ, zero, suc, ◌+◌, ◌*◌, ◌-◌, ◌/◌, ◌%◌, ◌^◌, ◌≤◌, ◌<◌, ◌≡◌, refl, Bool, true, false, List, [], ◌∷◌, ◌++◌, eqb, length, drop}
+use Rattle.std.specs.Prelude.{replicate}
+use Rattle.std.proofs.Common.{sym, ap, ap₂, ◌∙◌, append_assoc, arith, add-one, mul-le-mul_left, div-lt_iff_lt-mul, mod-eq_of_lt, div-add-mod', pow-suc}
+use Rattle.std.proofs.Common.{length-drop, length-append, drop-drop, pow_mono, pow_pos}
 use Rattle.std.proofs.lemmas.List.{length-replicate}
 use Rattle.std.proofs.Math.Seq.{drop-append_seam}
 use Rattle.std.proofs.Math.Pow.{high, low, field, mod-mod-pow}
@@ -135,7 +137,8 @@ gr_last k at B g next v mid b nx o f eg en =
     gr_flat k at B g next v mid b r.n r.rest r.count r.place r.front t.0 t.1 t.2 eg
 
 -- a GR number read at a place
-pub gr_there : (k at : ℕ) (B : List Bool) (g next : ℕ) → gr_of k at B ≡ Got g next → (next ≡ at + length (gr_bits k g)) × (drop at B ≡ gr_bits k g ++ drop next B)
+pub gr_there : (k at : ℕ) (B : List Bool) (g next : ℕ) → gr_of k at B ≡ Got g next → (next ≡ at + length (gr_bits k g)) ×
+    (drop at B ≡ gr_bits k g ++ drop next B)
 gr_there k at B g next e = first (ones_of 0 at (drop at B)) refl e
   where
     last :
@@ -144,7 +147,8 @@ gr_there k at B g next e = first (ones_of 0 at (drop at B)) refl e
     last v mid o Cut f e' = let z : ◌≡◌ {A = ℕ} 0 1 = cc in absurd (omega arith)
     last v mid o (Got b nx) f e' = gr_last k at B g next v mid b nx o f (got_v e') (got_at e')
 
-    first : (o : Num) → ones_of 0 at (drop at B) ≡ o → then_bits k B o ≡ Got g next → (next ≡ at + length (gr_bits k g)) × (drop at B ≡ gr_bits k g ++ drop next B)
+    first : (o : Num) → ones_of 0 at (drop at B) ≡ o → then_bits k B o ≡ Got g next → (next ≡ at + length (gr_bits k g)) ×
+        (drop at B ≡ gr_bits k g ++ drop next B)
     first Cut o e' = let z : ◌≡◌ {A = ℕ} 0 1 = cc in absurd (omega arith)
     first (Got v mid) o e' = last v mid o (num_of k 0 mid (drop mid B)) refl e'
 

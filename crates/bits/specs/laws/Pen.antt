@@ -1,6 +1,8 @@
 -- Laws of a pen.
-use Rattle.std.specs.Prelude.{ℕ, zero, suc, ◌+◌, ◌*◌, ◌-◌, ◌/◌, ◌%◌, ◌^◌, ◌≤◌, ◌<◌, ◌≡◌, refl, Bool, false, List, [], ◌∷◌, ◌++◌, eqb, replicate, length, take, drop, set}
-use Rattle.std.proofs.Common.{sym, ap, ap₂, ◌∙◌, append_assoc, append-nil, arith, add-one, mul_assoc, pow-suc, mod-eq_of_lt, shl_lt, length-append, length-set, drop-drop, take-suc-set, drop-set-lt}
+use Rattle.std.specs.Prelude.{ℕ, zero, suc, ◌+◌, ◌*◌, ◌-◌, ◌/◌, ◌%◌, ◌^◌, ◌≤◌, ◌<◌, ◌≡◌, refl, Bool, false, List, [], ◌∷◌, ◌++◌, eqb, replicate, length, take}
+use Rattle.std.specs.Prelude.{drop, set}
+use Rattle.std.proofs.Common.{sym, ap, ap₂, ◌∙◌, append_assoc, append-nil, arith, add-one, mul_assoc, pow-suc, mod-eq_of_lt, shl_lt, length-append, length-set}
+use Rattle.std.proofs.Common.{drop-drop, take-suc-set, drop-set-lt}
 use Rattle.std.proofs.Math.Nat.{pow-succ', div-div-eq-div-mul}
 use Rattle.bits.specs.laws.Bit.{length_num_bits}
 use Rattle.std.proofs.lemmas.List.{replicate-append-replicate}

@@ -1,6 +1,7 @@
 -- A pen that takes many bits at once and puts whole bytes out: what waits may be more than a byte on the way.
 use Rattle.std.specs.Prelude.{ℕ, zero, suc, ◌+◌, ◌*◌, ◌-◌, ◌/◌, ◌%◌, ◌^◌, ◌≤◌, ◌<◌, ◌≡◌, refl, Bool, true, length, drop, set, replicate}
-use Rattle.std.proofs.Common.{sym, ap₂, subst, ◌∙◌, add-one, mod-eq_of_lt, mod-lt, le_refl, mul-le-mul, pow-suc, take-suc-set, pow-add, pow_mono, pow_pos, shr-shr}
+use Rattle.std.proofs.Common.{sym, ap₂, subst, ◌∙◌, add-one, mod-eq_of_lt, mod-lt, le_refl, mul-le-mul, pow-suc, take-suc-set, pow-add, pow_mono, pow_pos}
+use Rattle.std.proofs.Common.{shr-shr}
 use Rattle.std.proofs.Math.Path.{ap}
 use mathlib.Core.List.{List, [], ◌∷◌, ◌++◌, append_assoc, append-nil}
 use native.Mathlib.Omega.{arith}

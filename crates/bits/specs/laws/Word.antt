@@ -1,6 +1,8 @@
 -- 57 bits as one number: what is read inside them is what is read of their bits, and it ends inside them.
-use Rattle.std.specs.Prelude.{ℕ, zero, suc, ◌+◌, ◌*◌, ◌-◌, ◌/◌, ◌%◌, ◌^◌, ◌≤◌, ◌<◌, ◌≡◌, refl, Bool, true, false, List, [], ◌∷◌, ◌++◌, length, drop, get_or, replicate}
-use Rattle.std.proofs.Common.{sym, ap, ap₂, ◌∙◌, append-nil, append_assoc, arith, pow-suc, mod-lt, le_refl, zero-add, one-mul, mul-le-mul_left, div-lt_iff_lt-mul, length-append, length-drop, drop_of_length-le, drop_at, drop-drop, drop-cons, shr-shr, pow_pos, pow_mono}
+use Rattle.std.specs.Prelude.{ℕ, zero, suc, ◌+◌, ◌*◌, ◌-◌, ◌/◌, ◌%◌, ◌^◌, ◌≤◌, ◌<◌, ◌≡◌, refl, Bool, true, false, List, [], ◌∷◌, ◌++◌, length, drop, get_or}
+use Rattle.std.specs.Prelude.{replicate}
+use Rattle.std.proofs.Common.{sym, ap, ap₂, ◌∙◌, append-nil, append_assoc, arith, pow-suc, mod-lt, le_refl, zero-add, one-mul, mul-le-mul_left}
+use Rattle.std.proofs.Common.{div-lt_iff_lt-mul, length-append, length-drop, drop_of_length-le, drop_at, drop-drop, drop-cons, shr-shr, pow_pos, pow_mono}
 use Rattle.std.proofs.Math.Decide.{dec_lt}
 use Rattle.std.proofs.Math.Nat.{div-eq_of_lt, div-eq_of_lt-le}
 use Rattle.std.proofs.lemmas.List.{length-replicate, drop-append-le}

@@ -31,7 +31,8 @@ use Rattle.frame_layout.specs.laws.Here.{tile_length}
 use Rattle.frame_pieces.specs.Parts.{tiles_no, cols_of}
 use Rattle.frame_pieces.specs.laws.Parts.{frame_long}
 use Rattle.frame_write.specs.Encode.{list_of, tile_part, part_refusal}
-use Rattle.frame_write.specs.Sets.{part_over, stop_over, tile_over, frame_over, tile_refusal_over, refusals_over, arg_fault_over, send_fault_over, FrameWrittenOver}
+use Rattle.frame_write.specs.Sets.{part_over, stop_over, tile_over, frame_over, tile_refusal_over, refusals_over, arg_fault_over, send_fault_over}
+use Rattle.frame_write.specs.Sets.{FrameWrittenOver}
 use Rattle.frame_write.specs.laws.OneSet.{one_args, as_over}
 use Rattle.frame_write.specs.laws.Encode.{tile_long}
 use Rattle.frame_write.specs.FrameWrite.{arg_fault, FrameWritten}
@@ -148,7 +149,8 @@ module _ {w h mode : ℕ} {q : Quants} {index : ℕ} {p : List ℕ} {list list' 
 
   -- given good arguments and this much room, every picture is written
   pub done_over :
-      0 ≡ arguments → length (sets_of q) ≡ 10 * set_count (sets_of q) → 67 + 5 * set_count (sets_of q) + 194911 * tiles_no w h ≤ length out → writing_number r ≡ 0
+      0 ≡ arguments → length (sets_of q) ≡ 10 * set_count (sets_of q) → 67 + 5 * set_count (sets_of q) + 194911 * tiles_no w h ≤ length out → writing_number r
+      ≡ 0
   done_over e tens l =
       let g = (args_good w h mode q p (length list) (length scratch) e).picture in
       let f : length (frame_over index w h mode q p) ≤ length out = omega (arith, frame_most p w h mode q bytes g.luma g.chroma index tens) in

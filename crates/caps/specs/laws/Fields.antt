@@ -57,7 +57,8 @@ entry_refuses = record {
 entry_in : (n k : ℕ) (more : List ℕ) → 1 ≤ n → walk entry more ≡ Stopped k → walk (entries n) more ≡ Stopped k
 unfolding entries ◌⇒◌∣◌
 entry_in n k more l e =
-    ap (λ (t : Bool). walk (t ⇒ gives no_entry ∣ eqb n 1 ⇒ (entry then λ e. gives (one_entry e)) ∣ (entry then λ e. entry then λ f. gives (two_entries e f))) more)
+    ap (λ (t : Bool). walk (t ⇒ gives no_entry ∣ eqb n 1 ⇒ (entry then λ e. gives (one_entry e)) ∣ (entry then λ e. entry then λ f. gives (two_entries e f)))
+    more)
     (ne_eqb n 0 (λ z. omega arith))
     ∙ by (eqb n 1)
   where

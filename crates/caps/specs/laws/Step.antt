@@ -130,7 +130,8 @@ pub fixed_on :
     {A : Type 0} (w : Width) (v n : ℕ) (l : Layout A) (m : List ℕ) (s r : Step) → 0 < n → r ≡ fixed_of w v n m s →
     left (field w λ x. eqb x v ! refuse n ⨾ l) m s ≡ left l m r
 unfolding fixed_of
-fixed_on w v n l m s r h e = next_on w (λ x. eqb x v ! refuse n ⨾ l) m s (next_of w m s) refl ∙ judge_on (eqb (next_of w m s).value v) n l m (next_of w m s) r h e
+fixed_on w v n l m s r h e = next_on w (λ x. eqb x v ! refuse n ⨾ l) m s (next_of w m s) refl ∙ judge_on (eqb (next_of w m s).value v) n l m (next_of w m s) r
+    h e
 
 -- one layout behind another
 behind : {A B : Type 0} (l : Layout A) (next : A → Layout B) (m : List ℕ) (s : Step) → left (l then next) m s ≡ onward next (left l m s)

@@ -44,19 +44,23 @@ unfolding code_of code_f item_of item_bits item_used item_kp item_krp zeros_of f
 minus_4 = record { pad = 5; few = omega arith; bits = refl }
 
 cut_1 : read_fault 1 4096 (0x00 ∷ 0x00 ∷ []) ≡ 1
-unfolding read_fault reading_number reading after_shell shell_fault is_mode ◌!◌⨾◌ ◌⇒◌∣◌ code_reading end_reading refusal_number read_list bits_of num_of num_bits
+unfolding read_fault reading_number reading after_shell shell_fault is_mode ◌!◌⨾◌ ◌⇒◌∣◌ code_reading end_reading refusal_number read_list bits_of num_of
+    num_bits
 cut_1 = refl
 
 cut_4 : read_fault 4 4096 (0x00 ∷ 0x00 ∷ []) ≡ 1
-unfolding read_fault reading_number reading after_shell shell_fault is_mode ◌!◌⨾◌ ◌⇒◌∣◌ code_reading end_reading refusal_number read_list bits_of num_of num_bits
+unfolding read_fault reading_number reading after_shell shell_fault is_mode ◌!◌⨾◌ ◌⇒◌∣◌ code_reading end_reading refusal_number read_list bits_of num_of
+    num_bits
 cut_4 = refl
 
 empty_1 : read_fault 1 4096 [] ≡ 1
-unfolding read_fault reading_number reading after_shell shell_fault is_mode ◌!◌⨾◌ ◌⇒◌∣◌ code_reading end_reading refusal_number read_list bits_of num_of num_bits
+unfolding read_fault reading_number reading after_shell shell_fault is_mode ◌!◌⨾◌ ◌⇒◌∣◌ code_reading end_reading refusal_number read_list bits_of num_of
+    num_bits
 empty_1 = refl
 
 empty_4 : read_fault 4 4096 [] ≡ 1
-unfolding read_fault reading_number reading after_shell shell_fault is_mode ◌!◌⨾◌ ◌⇒◌∣◌ code_reading end_reading refusal_number read_list bits_of num_of num_bits
+unfolding read_fault reading_number reading after_shell shell_fault is_mode ◌!◌⨾◌ ◌⇒◌∣◌ code_reading end_reading refusal_number read_list bits_of num_of
+    num_bits
 empty_4 = refl
 
 -- ---- from these, by the laws

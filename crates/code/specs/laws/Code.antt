@@ -10,7 +10,8 @@ use Rattle.code.specs.declared.element.Item.TheVariants.{Full, Run, Single, Twin
 -- the code of a list is its first item's bits and the code of the rest
 pub code_item :
     (f : ℕ) (rlgr3 : Bool) (kp krp : ℕ) (l : List ℕ) → 0 < length l →
-    code_f (suc f) rlgr3 kp krp l ≡ item_bits kp krp (item_of rlgr3 kp l) ++ code_f f rlgr3 (item_kp kp (item_of rlgr3 kp l)) (item_krp krp (item_of rlgr3 kp l))
+    code_f (suc f) rlgr3 kp krp l ≡ item_bits kp krp (item_of rlgr3 kp l) ++ code_f f rlgr3 (item_kp kp (item_of rlgr3 kp l))
+    (item_krp krp (item_of rlgr3 kp l))
     (drop (item_used kp (item_of rlgr3 kp l)) l)
 unfolding code_f
 code_item f rlgr3 kp krp [] h = absurd (omega arith)
@@ -63,6 +64,7 @@ code_f_single f kp krp v ys h = code_by f false kp krp (v ∷ ys) (Single v) (om
 
 pub code_f_twin :
     (f kp krp x : ℕ) (xs : List ℕ) → kp < 8 →
-    code_f (suc f) true kp krp (x ∷ xs) ≡ pair_bits krp x (get_or xs 0 0) ++ code_f f true (kp_two kp x (get_or xs 0 0)) (kr_after krp (x + get_or xs 0 0)) (drop 1 xs)
+    code_f (suc f) true kp krp (x ∷ xs) ≡ pair_bits krp x (get_or xs 0 0) ++ code_f f true (kp_two kp x (get_or xs 0 0)) (kr_after krp (x + get_or xs 0 0))
+    (drop 1 xs)
 unfolding item_bits item_used item_kp item_krp
 code_f_twin f kp krp x xs h = code_by f true kp krp (x ∷ xs) (Twin x (get_or xs 0 0)) (omega arith) (item_twin kp (x ∷ xs) x (get_or xs 0 0) h refl refl)

@@ -2,7 +2,8 @@
 use Prim.Native.Nat.{ℕ, zero, suc, ◌+◌, ◌-◌, ◌≤◌, ◌<◌, min}
 use Rattle.std.specs.Prelude.{◌≡◌, Bool, true, false, List, [], ◌∷◌, ◌++◌, map, ℤ, pos, ltb, length, take, drop, set}
 use Rattle.std.proofs.Math.Path.{refl, sym, ap}
-use Rattle.std.proofs.Common.{◌∙◌, append_assoc, add-one, ltb-true, ltb-false, length-append, length-set, take-add, drop-drop, take-suc-set, drop-set-lt, take_all}
+use Rattle.std.proofs.Common.{◌∙◌, append_assoc, add-one, ltb-true, ltb-false, length-append, length-set, take-add, drop-drop, take-suc-set, drop-set-lt}
+use Rattle.std.proofs.Common.{take_all}
 use native.Mathlib.Omega.{arith}
 use Rattle.std.proofs.Math.ListN.{replicate}
 use Rattle.std.proofs.lemmas.List.{length-replicate, get_or_at}
@@ -63,7 +64,8 @@ grew_zeros n out i m c h =
         zeros = sym (drop-drop m i out) ∙ ap (λ (l : List ℤ). drop m l) z ∙ drop_rep m (n - i) (pos 0) (omega arith) ∙ ap (λ (x : ℕ). replicate x (pos 0)) k;
       };
       next = omega (arith, length-replicate {A = ℕ} m 0);
-      vals = ap (λ (l : List ℤ). map fold_z l) t ∙ map_append (take i out) (replicate m (pos 0)) ∙ ap (λ (l : List ℕ). map fold_z (take i out) ++ l) (map_rep m);
+      vals = ap (λ (l : List ℤ). map fold_z l) t ∙ map_append (take i out) (replicate m (pos 0)) ∙ ap (λ (l : List ℕ). map fold_z (take i out) ++ l)
+          (map_rep m);
     }
 
 grew_value : (n : ℕ) (out : List ℤ) (i v : ℕ) → Clear n out i → i < n → Grew n out i (set out i (unfold_z v)) (i + 1) (v ∷ [])
@@ -76,7 +78,8 @@ grew_value n out i v c h =
         zeros = drop-set-lt (i + 1) out i (unfold_z v) (omega arith) ∙ (grew_zeros n out i 1 c (omega arith)).clear.zeros;
       };
       next = refl;
-      vals = ap (λ (l : List ℤ). map fold_z l) t ∙ map_append (take i out) (unfold_z v ∷ []) ∙ ap (λ (x : ℕ). map fold_z (take i out) ++ (x ∷ [])) (fold_unfold v);
+      vals = ap (λ (l : List ℤ). map fold_z l) t ∙ map_append (take i out) (unfold_z v ∷ []) ∙ ap (λ (x : ℕ). map fold_z (take i out) ++ (x ∷ []))
+          (fold_unfold v);
     }
 
 grew_more :
@@ -94,7 +97,8 @@ placed_zeros n out i z c =
     let h : i + min z (n - i) ≡ min n (i + z) = omega (arith, c.room) in
     rw (← h) (grew_zeros n out i (min z (n - i)) c (omega (arith, c.room)))
 
-placed_one : (n : ℕ) (out : List ℤ) (i z v : ℕ) → Clear n out i → i + z < n → Grew n out i (set out (i + z) (unfold_z v)) (i + z + 1) (replicate z 0 ++ (v ∷ []))
+placed_one : (n : ℕ) (out : List ℤ) (i z v : ℕ) → Clear n out i → i + z < n → Grew n out i (set out (i + z) (unfold_z v)) (i + z + 1)
+    (replicate z 0 ++ (v ∷ []))
 placed_one n out i z v c h =
     let g = grew_zeros n out i z c (omega arith) in
     grew_more n out i out (i + z) (set out (i + z) (unfold_z v)) (i + z + 1) (replicate z 0) (v ∷ []) g (grew_value n out (i + z) v g.clear h)

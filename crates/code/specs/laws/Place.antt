@@ -30,7 +30,8 @@ module _ (out : List ℤ) (i : ℕ) (e : Element) where
   pub place_no : (r : Refusal) → e ≡ Refused r → (No r ≡ placed_of (length out) i e) × (out ≡ stored_of out i e)
   place_no r q = (rw q, rw q)
 
-  pub place_zeros : (z : ℕ) (s : State) (j : ℕ) → e ≡ Zeros z s → j ≡ min (length out) (i + z) → (At j s ≡ placed_of (length out) i e) × (out ≡ stored_of out i e)
+  pub place_zeros : (z : ℕ) (s : State) (j : ℕ) → e ≡ Zeros z s → j ≡ min (length out) (i + z) → (At j s ≡ placed_of (length out) i e) ×
+      (out ≡ stored_of out i e)
   place_zeros z s j q p = (rw (q, p), rw q)
 
   pub place_one :

@@ -163,7 +163,8 @@ module _ (kp krp left : ℕ) (B : List Bool) where
       (n : Num) (b next w q : ℕ) → n ≡ Got b next → b ≡ 0 → w ≡ 2 ^ (kp / 8) → q ≡ raised 4 kp → run_elem kp krp left B n ≡ Zeros w (state_at next q krp)
   run_full n b next w q e z f g = rw (e, z, f, g)
 
-  pub run_some : (n : Num) (b next : ℕ) → n ≡ Got b next → (b ≡ 0 → ⊥) → run_elem kp krp left B n ≡ run_first kp krp left B (num_of (kp / 8) 0 next (drop next B))
+  pub run_some : (n : Num) (b next : ℕ) → n ≡ Got b next → (b ≡ 0 → ⊥) → run_elem kp krp left B n ≡ run_first kp krp left B
+      (num_of (kp / 8) 0 next (drop next B))
   run_some n zero next e z = absurd (z refl)
   run_some n (suc b) next e z = rw e
 
@@ -206,7 +207,8 @@ pub elem_low_one : (kp krp left at : ℕ) (B : List Bool) → kp < 8 → elem_of
 unfolding elem_of
 elem_low_one kp krp left at B h = rw (lt-ltb kp 8 h)
 
-pub elem_high : (rlgr3 : Bool) (kp krp left at : ℕ) (B : List Bool) → 8 ≤ kp → elem_of rlgr3 kp krp left at B ≡ run_elem kp krp left B (num_of 1 0 at (drop at B))
+pub elem_high : (rlgr3 : Bool) (kp krp left at : ℕ) (B : List Bool) → 8 ≤ kp → elem_of rlgr3 kp krp left at B ≡ run_elem kp krp left B
+    (num_of 1 0 at (drop at B))
 unfolding elem_of
 elem_high rlgr3 kp krp left at B h = rw (le-ltb kp 8 h)
 

@@ -18,7 +18,8 @@ use Rattle.bits.specs.declared.Num.TheVariants.{Got, Cut}
 use Rattle.code.specs.laws.Code.{code_f_full, code_f_rest, code_f_single, code_f_twin}
 use Rattle.whole.specs.Row.{◌⇒◌∣◌}
 use Rattle.code.specs.Code.{raised, kr_after, size, kp_one, kp_two, zeros_of, run_bits, pair_bits, code_f, InRange}
-use Rattle.code.specs.ReadList.{state_at, judge_run, run_third, run_second, run_first, run_elem, one_elem, judge_two, two_second, two_elem, elem_of, whole, step}
+use Rattle.code.specs.ReadList.{state_at, judge_run, run_third, run_second, run_first, run_elem, one_elem, judge_two, two_second, two_elem, elem_of, whole}
+use Rattle.code.specs.ReadList.{step}
 use Rattle.code.specs.ReadList.{walk}
 use Rattle.code.specs.laws.There.{drop_min}
 use Rattle.code.specs.laws.Steps.{kr_le, kp_one_le, kp_two_le}
@@ -51,7 +52,8 @@ module _ (f : ℕ) (rlgr3 : Bool) (kp krp : ℕ) (h : 8 ≤ kp) where
       let len : length l ≡ left = length-append (replicate m 0) ys ∙ e in
       let m' : min n (length l) ≡ m = omega (arith, len) in
       let d : drop n l ≡ ys = drop_min n l ∙ ap (λ (x : ℕ). drop x l) m' ∙ drop_at (replicate m 0) ys m (length-replicate m 0) in
-      code_f_full f rlgr3 kp krp h l (omega (arith, len)) (omega (arith, zeros_more m ys, m')) ∙ ap (λ (x : List ℕ). false ∷ code_f f rlgr3 (raised 4 kp) krp x) d
+      code_f_full f rlgr3 kp krp h l (omega (arith, len)) (omega (arith, zeros_more m ys, m')) ∙ ap
+      (λ (x : List ℕ). false ∷ code_f f rlgr3 (raised 4 kp) krp x) d
 
   code_run :
       (z v : ℕ) (ys : List ℕ) → 0 < v → z < 2 ^ (kp / 8) →

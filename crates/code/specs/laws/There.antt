@@ -53,7 +53,8 @@ lone_not left b h = go (ltb left 2) refl
 -- ---- one element
 
 module _ (kp krp left at : ℕ) (B rest : List Bool) where
-  pub elem_full : (rlgr3 : Bool) → 8 ≤ kp → drop at B ≡ false ∷ rest → elem_of rlgr3 kp krp left at B ≡ Zeros (2 ^ (kp / 8)) (state_at (at + 1) (raised 4 kp) krp)
+  pub elem_full : (rlgr3 : Bool) → 8 ≤ kp → drop at B ≡ false ∷ rest → elem_of rlgr3 kp krp left at B ≡ Zeros (2 ^ (kp / 8))
+      (state_at (at + 1) (raised 4 kp) krp)
   unfolding elem_of
   elem_full rlgr3 h e = rw (le-ltb kp 8 h, (bit_here at B false rest e).0)
 

@@ -1,7 +1,9 @@
 -- A list whose items are taken one by one, from the state kp = 8, krp = 8 on: what the writing loop and the measuring loop keep.
 -- Assumes nothing.
-use Rattle.std.specs.Prelude.{ℕ, zero, suc, ◌+◌, ◌*◌, ◌-◌, ◌/◌, ◌^◌, ◌≤◌, ◌<◌, min, ◌≡◌, refl, Bool, true, false, List, [], ◌∷◌, ◌++◌, length, drop, get_or, ltb, leb}
-use Rattle.std.proofs.Common.{sym, ap, ◌∙◌, append_assoc, append-nil, arith, leb-false, length-append, length-drop, drop_of_length-le, drop-drop, pow_pos, pow_mono}
+use Rattle.std.specs.Prelude.{ℕ, zero, suc, ◌+◌, ◌*◌, ◌-◌, ◌/◌, ◌^◌, ◌≤◌, ◌<◌, min, ◌≡◌, refl, Bool, true, false, List, [], ◌∷◌, ◌++◌, length, drop, get_or}
+use Rattle.std.specs.Prelude.{ltb, leb}
+use Rattle.std.proofs.Common.{sym, ap, ◌∙◌, append_assoc, append-nil, arith, leb-false, length-append, length-drop, drop_of_length-le, drop-drop, pow_pos}
+use Rattle.std.proofs.Common.{pow_mono}
 use Rattle.whole.specs.Row.{◌⇒◌∣◌}
 use Rattle.code.specs.Code.{InRange, zeros_of, code_f, code_of, item_of, item_bits, item_used, item_kp, item_krp}
 use Rattle.code.specs.laws.There.{range_drop, zeros_next}

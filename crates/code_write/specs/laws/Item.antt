@@ -1,7 +1,9 @@
 -- Laws of an item: its choice, its bits by case, and the parameters after it.
 -- Assumes nothing.
-use Rattle.std.specs.Prelude.{ℕ, zero, suc, ◌+◌, ◌-◌, ◌/◌, ◌%◌, ◌^◌, ◌≤◌, ◌<◌, ◌≡◌, refl, Bool, true, false, List, [], ◌∷◌, ◌++◌, length, drop, get_or, eqb, leb}
-use Rattle.std.proofs.Common.{sym, ap, ◌∙◌, append_assoc, arith, div-le_self, add-one, length-drop, length-append, drop-cons, drop-drop, get_or-drop, leb-true, le-leb}
+use Rattle.std.specs.Prelude.{ℕ, zero, suc, ◌+◌, ◌-◌, ◌/◌, ◌%◌, ◌^◌, ◌≤◌, ◌<◌, ◌≡◌, refl, Bool, true, false, List, [], ◌∷◌, ◌++◌, length, drop, get_or, eqb}
+use Rattle.std.specs.Prelude.{leb}
+use Rattle.std.proofs.Common.{sym, ap, ◌∙◌, append_assoc, arith, div-le_self, add-one, length-drop, length-append, drop-cons, drop-drop, get_or-drop, leb-true}
+use Rattle.std.proofs.Common.{le-leb}
 use Rattle.std.proofs.Math.Nat.{mod-mod}
 use Rattle.std.proofs.lemmas.Bool.{lt-leb}
 use Rattle.bits.specs.Bits.{gr_bits, num_bits, odd}

@@ -4,7 +4,8 @@
 -- Assumes nothing.
 use Rattle.std.specs.Prelude.{◌≡◌, Bool, true, false, List, [], ◌∷◌, map, ltb, leb, eqb, ℤ, pos, negsuc, nat_abs, drop, get_or}
 use Rattle.std.proofs.Math.Path.{refl}
-use Rattle.std.proofs.Common.{sym, ◌∙◌, ap, subst, div-mul-le_self, mul-le-mul_left, arith, leb-false, length-append, length-drop, pow_pos, pow_mono, get_or-drop}
+use Rattle.std.proofs.Common.{sym, ◌∙◌, ap, subst, div-mul-le_self, mul-le-mul_left, arith, leb-false, length-append, length-drop, pow_pos, pow_mono}
+use Rattle.std.proofs.Common.{get_or-drop}
 use Prim.Native.Nat.{ℕ, zero, suc, ◌+◌, ◌*◌, ◌-◌, ◌/◌, ◌^◌, ◌≤◌, ◌<◌, min}
 use Rattle.std.proofs.Math.Decide.{dec_lt}
 use Rattle.std.proofs.Math.ListN.{length, get_or-eq_default}

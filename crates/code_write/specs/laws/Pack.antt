@@ -1,7 +1,8 @@
 -- Packed bytes hold the bits they were packed from, and no other bytes do.
 -- Assumes nothing.
 use Rattle.std.specs.Prelude.{ℕ, zero, suc, ◌+◌, ◌*◌, ◌-◌, ◌/◌, ◌%◌, ◌^◌, ◌<◌, ◌≡◌, refl, Bool, true, false, List, [], ◌∷◌, ◌++◌, length, take, drop, replicate}
-use Rattle.std.proofs.Common.{sym, ap, ap₂, ◌∙◌, append_assoc, append-nil, arith, pow-suc, mul_assoc, mul_comm, mul-le-mul_right, lt_of_lt_of_le, length-append, length-take, length-drop, take-append-drop}
+use Rattle.std.proofs.Common.{sym, ap, ap₂, ◌∙◌, append_assoc, append-nil, arith, pow-suc, mul_assoc, mul_comm, mul-le-mul_right, lt_of_lt_of_le, length-append}
+use Rattle.std.proofs.Common.{length-take, length-drop, take-append-drop}
 use Rattle.std.proofs.lemmas.List.{length-replicate}
 use Rattle.bits.specs.Bits.{odd, val, num_bits, bits_of}
 use Rattle.bits.specs.laws.Bit.{val_lt}

@@ -53,5 +53,6 @@ module _ (k z v : ℕ) (hk : k ≤ 10) (hz : z < 2 ^ k) where
       ∙ num_bits_snoc (suc k) (2 ^ k + z) (v % 2) (omega arith)
       ∙ ap (λ (l : List Bool). l ++ (odd (v % 2) ∷ [])) (ap₂ (λ (x : ℕ) (l : List Bool). odd x ∷ l) q t)
 
-  pub head_put : (a b : List ℕ) (p q : Pen) → PutWide a p b q (num_bits (k + 2) ((1 * 2 ^ k % 2 ^ 64 + z) * 2 + v % 2)) → PutWide a p b q (head_bits k z (v % 2))
+  pub head_put : (a b : List ℕ) (p q : Pen) → PutWide a p b q (num_bits (k + 2) ((1 * 2 ^ k % 2 ^ 64 + z) * 2 + v % 2)) → PutWide a p b q
+      (head_bits k z (v % 2))
   head_put a b p q w = rw (← bits) (rw (shift_one k hk) at w)

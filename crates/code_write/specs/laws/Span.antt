@@ -2,7 +2,8 @@
 -- Assumes nothing.
 use Prim.Native.Nat.{ℕ, zero, suc, ◌+◌, ◌-◌, ◌≤◌, ◌<◌, ◌^◌}
 use Rattle.std.specs.Prelude.{◌≡◌, refl, Bool, true, false, ◌&&◌, List, [], ◌∷◌, leb, ℤ, pos, negsuc, nat_abs, length, take}
-use Rattle.std.proofs.Common.{sym, ap, ap₂, subst, ◌∙◌, add-one, le-leb, leb-true, leb-false, ltb-true, ltb-false, length-take, length-drop, drop-cons, get_or-take, get_or-drop, SFits, of_z, to_z, to_z-of_z}
+use Rattle.std.proofs.Common.{sym, ap, ap₂, subst, ◌∙◌, add-one, le-leb, leb-true, leb-false, ltb-true, ltb-false, length-take, length-drop, drop-cons}
+use Rattle.std.proofs.Common.{get_or-take, get_or-drop, SFits, of_z, to_z, to_z-of_z}
 use native.Mathlib.Omega.{arith}
 use Rattle.std.proofs.lemmas.Bool.{lt-leb}
 use Rattle.std.specs.Int.Signed.{lt_z, le_z, mag}
@@ -42,7 +43,8 @@ module _ (x least most : ℤ) (fx : SFits w32 x) (fl : SFits w32 least) (fm : SF
   pub from_low : lt_z (to_z w32 (of_z w32 x)) (to_z w32 (of_z w32 least)) ≡ true → false ≡ is_from least most x
   from_low h = let e = rw (again fx, again fl) at h in ap (λ (b : Bool). b && le_z x most) (below x least e)
 
-  pub from_high : lt_z (to_z w32 (of_z w32 x)) (to_z w32 (of_z w32 least)) ≡ false → le_z (to_z w32 (of_z w32 x)) (to_z w32 (of_z w32 most)) ≡ is_from least most x
+  pub from_high : lt_z (to_z w32 (of_z w32 x)) (to_z w32 (of_z w32 least)) ≡ false → le_z (to_z w32 (of_z w32 x)) (to_z w32 (of_z w32 most)) ≡ is_from least
+      most x
   from_high h =
       let e = rw (again fx, again fl) at h in
       rw (again fx, again fm) (ap (λ (b : Bool). b && le_z x most) (not_below x least e))

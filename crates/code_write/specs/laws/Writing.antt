@@ -209,7 +209,8 @@ module _ (rlgr3 : Bool) (xs : List ℤ) (few : length xs ≤ 4096) (range : InRa
       is = omega (arith, w.is, length-append w.D (item_bits kp krp it));
     }
 
-  pub sizing_end : (n i kp krp : ℕ) → length xs ≤ i → Sizing rlgr3 (map fold_z xs) n i kp krp → (n ≡ length (code_of rlgr3 (map fold_z xs))) × (n ≤ 4096 * 131200)
+  pub sizing_end : (n i kp krp : ℕ) → length xs ≤ i → Sizing rlgr3 (map fold_z xs) n i kp krp → (n ≡ length (code_of rlgr3 (map fold_z xs))) ×
+      (n ≤ 4096 * 131200)
   sizing_end n i kp krp h w =
       let e : n ≡ length (code_of rlgr3 (map fold_z xs)) =
       w.is ∙ ap length (going_end rlgr3 (map fold_z xs) w.D i kp krp (omega (arith, length-map xs fold_z)) w.going) in

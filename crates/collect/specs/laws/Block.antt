@@ -1,6 +1,7 @@
 -- Whole heads and whole blocks: where their bytes lead from between blocks.
 use Rattle.std.specs.Prelude.{ℕ, zero, suc, ◌+◌, ◌*◌, ◌/◌, ◌%◌, ◌^◌, ◌≤◌, ◌<◌, ◌≡◌, refl, Bool, true, false, List, [], ◌∷◌, ◌++◌, leb, length}
-use Rattle.std.proofs.Common.{ap, ap₂, sym, ◌∙◌, append_assoc, mul_assoc, mul-add, mul-zero, add-zero, zero-add, pow-suc, arith, length-append, pow-add, eq-eqb, ne_eqb, le-ltb}
+use Rattle.std.proofs.Common.{ap, ap₂, sym, ◌∙◌, append_assoc, mul_assoc, mul-add, mul-zero, add-zero, zero-add, pow-suc, arith, length-append, pow-add, eq-eqb}
+use Rattle.std.proofs.Common.{ne_eqb, le-ltb}
 use Rattle.wire.specs.Le.{bytes16, bytes32, patch}
 use Rattle.wire.specs.laws.Le.{patch_length, patch_none, patch_next}
 use Rattle.whole.specs.Row.{◌⇒◌∣◌}

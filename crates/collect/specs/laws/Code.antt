@@ -1,7 +1,8 @@
 -- One law for each way through the code, in plain variables.
 use Rattle.std.specs.Prelude.{ℕ, suc, ◌+◌, ◌-◌, ◌*◌, ◌^◌, ◌≤◌, ◌<◌, ◌≡◌, true, set}
 use Rattle.std.proofs.Math.Path.{refl, ap}
-use Rattle.std.proofs.Common.{ap₂, sym, ◌∙◌, subst, mul-le-mul_right, add-one, take-append-drop, drop-cons, drop-drop, get_or-drop, eq-eqb, ne_eqb, lt-ltb, le-ltb}
+use Rattle.std.proofs.Common.{ap₂, sym, ◌∙◌, subst, mul-le-mul_right, add-one, take-append-drop, drop-cons, drop-drop, get_or-drop, eq-eqb, ne_eqb, lt-ltb}
+use Rattle.std.proofs.Common.{le-ltb}
 use mathlib.Core.List.{List, ◌∷◌, ◌++◌, append_assoc}
 use Rattle.std.proofs.Math.Nat.{add-zero}
 use native.Mathlib.Omega.{arith}

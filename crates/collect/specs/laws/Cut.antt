@@ -1,6 +1,7 @@
 -- A call is the bytes that it took, one after the other; so the pieces in which they come make no difference.
 use Rattle.std.specs.Prelude.{ℕ, zero, suc, ◌+◌, ◌≤◌, ◌<◌, ◌≡◌, refl, Bool, true, false, List, [], ◌∷◌, ◌++◌, length, get_or, drop}
-use Rattle.std.proofs.Common.{ap, ap₂, sym, ◌∙◌, subst, true≢false, append_assoc, append-nil, zero-add, arith, length-append, drop_at, get_or-append-add, eq-eqb, ne_eqb}
+use Rattle.std.proofs.Common.{ap, ap₂, sym, ◌∙◌, subst, true≢false, append_assoc, append-nil, zero-add, arith, length-append, drop_at, get_or-append-add}
+use Rattle.std.proofs.Common.{eq-eqb, ne_eqb}
 use Rattle.std.proofs.Math.Decide.{dec_lt}
 use Rattle.std.proofs.Math.ListN.{get_or-append, get_or-eq_default}
 use Rattle.whole.specs.laws.Row.{case_yes, case_no}

@@ -1,7 +1,8 @@
 -- Records that calls could have made: what a good head, a head that waits and a block under way give; and a byte leads from a record that takes bytes to one
 -- that takes bytes, unless it is refused.
 use Rattle.std.specs.Prelude.{ℕ, ◌+◌, ◌-◌, ◌^◌, ◌≤◌, ◌<◌, ◌≡◌, refl, Bool, true, false, ◌⊎◌}
-use Rattle.std.proofs.Common.{ap, ap₂, sym, ◌∙◌, true≢false, inl, inr, ⊎_elim, arith, ltb-true, ltb-false, leb-true, eqb-true, lt-ltb, le-ltb, le-leb, eq-eqb, ne_eqb}
+use Rattle.std.proofs.Common.{ap, ap₂, sym, ◌∙◌, true≢false, inl, inr, ⊎_elim, arith, ltb-true, ltb-false, leb-true, eqb-true, lt-ltb, le-ltb, le-leb, eq-eqb}
+use Rattle.std.proofs.Common.{ne_eqb}
 use Rattle.std.proofs.Math.Decide.{dec_lt}
 use Rattle.std.proofs.lemmas.Bool.{eqb-false, lt-leb}
 use Rattle.whole.specs.Row.{◌!◌⨾◌, ◌⇒◌∣◌}

@@ -28,7 +28,8 @@ pub returns-then-x-gt255 : goal.returns-then-x-gt255
 returns-then-x-gt255 c = clamp_high c.args.x (test_r (pos 255) true c.ranges.x c.if-x-gt255.true)
 
 pub overflow_cast-result : goal.overflow_cast-result
-overflow_cast-result c = subst (λ (s : ℤ). T (non_neg s) × Fits w8 (nat_abs s)) (sym (to_z-of_z c.ranges.x)) ((mid (goal.at.overflow_cast-result c).Else-x-gt255).0, (mid (goal.at.overflow_cast-result c).Else-x-gt255).1)
+overflow_cast-result c = subst (λ (s : ℤ). T (non_neg s) × Fits w8 (nat_abs s)) (sym (to_z-of_z c.ranges.x))
+    ((mid (goal.at.overflow_cast-result c).Else-x-gt255).0, (mid (goal.at.overflow_cast-result c).Else-x-gt255).1)
 
 pub returns : goal.returns
 returns c = ap nat_abs (to_z-of_z c.ranges.x) ∙ (mid (goal.at.returns c).Else-x-gt255).2

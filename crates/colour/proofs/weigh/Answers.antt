@@ -31,8 +31,10 @@ pub overflow_mul-result-3 : goal.overflow_mul-result-3
 overflow_mul-result-3 c = fits (blue (goal.at.overflow_mul-result-3 c).After-byte-3)
 
 pub overflow_add-result-2 : goal.overflow_add-result-2
-overflow_add-result-2 c = fits (add (add (red (goal.at.overflow_add-result-2 c).After-byte) (green (goal.at.overflow_add-result-2 c).After-byte-2) tt) (blue (goal.at.overflow_add-result-2 c).After-byte-3) tt)
+overflow_add-result-2 c = fits (add (add (red (goal.at.overflow_add-result-2 c).After-byte) (green (goal.at.overflow_add-result-2 c).After-byte-2) tt)
+    (blue (goal.at.overflow_add-result-2 c).After-byte-3) tt)
 
 pub returns : goal.returns
 unfolding weighed
-returns c = val (shr 2048 (add (add (red (goal.at.returns c).After-byte) (green (goal.at.returns c).After-byte-2) tt) (blue (goal.at.returns c).After-byte-3) tt) tt)
+returns c = val (shr 2048 (add (add (red (goal.at.returns c).After-byte) (green (goal.at.returns c).After-byte-2) tt) (blue (goal.at.returns c).After-byte-3)
+    tt) tt)

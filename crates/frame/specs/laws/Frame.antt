@@ -5,7 +5,8 @@ use Rattle.std.proofs.Common.{subst, ◌∙◌, true≢false, arith}
 use borrow.Author.Tests.{eqb-true, leb-true, eq-eqb, ne_eqb}
 use Rattle.whole.specs.Row.{◌⨟◌}
 use Rattle.whole.specs.laws.Row.{held, both, stops, goes_on, passes, fails, case_yes, case_no, ne_is}
-use Rattle.frame_layout.specs.Reader.{begin_fault, region_fault, end_fault, frame_fault, tiles_fault, size_at, set_place, end_place, quant_count, set_at, rect_count}
+use Rattle.frame_layout.specs.Reader.{begin_fault, region_fault, end_fault, frame_fault, tiles_fault, size_at, set_place, end_place, quant_count, set_at}
+use Rattle.frame_layout.specs.Reader.{rect_count}
 use Rattle.frame_layout.specs.Reader.{tile_count, data_of, tiles_in, frame_tiles}
 use Rattle.frame_blocks.specs.Blocks.{set_front, rects_of, RegionGood}
 use Rattle.frame_blocks.specs.laws.Blocks.{begin_good, region_good}

@@ -12,7 +12,8 @@ use Rattle.code.specs.laws.Numbers.{full_fault_among}
 use Rattle.bands.specs.Bands.{sums_fault, scale_fault}
 use Rattle.tile_back.specs.Component.{component_fault}
 use Rattle.frame_layout.specs.Reader.{block_judge, fixed_head, least_head, codec_judge, begin_judge, region_judge, last_judge, set_judge, body_judge, size_at}
-use Rattle.frame_layout.specs.Reader.{codec_fault, begin_fault, region_fault, halves_fault, quants_fault, codes_fault, tile_fault, tiles_fault, set_fault, end_fault}
+use Rattle.frame_layout.specs.Reader.{codec_fault, begin_fault, region_fault, halves_fault, quants_fault, codes_fault, tile_fault, tiles_fault, set_fault}
+use Rattle.frame_layout.specs.Reader.{end_fault}
 use Rattle.frame_layout.specs.Reader.{frame_fault}
 use Rattle.frame_blocks.specs.Judged.{judged}
 use Rattle.session.specs.declared.Session.{Session}

@@ -1,6 +1,7 @@
 -- Laws of rectangles kept for a tile: what is put in is there, what was there stays, and what is read back is the rectangle's.
 use Rattle.std.specs.Prelude.{ℕ, suc, ◌+◌, ◌*◌, ◌/◌, ◌%◌, ◌^◌, ◌≤◌, ◌<◌, ◌≡◌, refl, ◌⊎◌, List, true, false, T, ltb, ℤ, pos, negsuc, nat_abs, ◌+ℤ◌, length, set}
-use Rattle.std.proofs.Common.{div-add-mod', ap, sym, ◌∙◌, subst, inl, inr, ⊎_elim, arith, true≢false, SFits, Fits, of_z, to_z, to_z-of_z, ltb-true, ltb-false, lt-ltb, le-ltb, get_or-set_same, get_or-set_other, length-set}
+use Rattle.std.proofs.Common.{div-add-mod', ap, sym, ◌∙◌, subst, inl, inr, ⊎_elim, arith, true≢false, SFits, Fits, of_z, to_z, to_z-of_z, ltb-true, ltb-false}
+use Rattle.std.proofs.Common.{lt-ltb, le-ltb, get_or-set_same, get_or-set_other, length-set}
 use Rattle.std.proofs.Math.Path.{subst⁻¹}
 use Rattle.std.specs.Int.Signed.{non_neg, nat_abs-le}
 use Rattle.std.specs.Int.{w32, w64}

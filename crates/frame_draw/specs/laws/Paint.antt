@@ -131,7 +131,8 @@ pub record Showing (glass mode : ℕ) (m : List ℕ) (sp w h n : ℕ) (first : L
 module _ (glass mode : ℕ) (m : List ℕ) (sp w h n : ℕ) (first : List ℕ) where
   pub show_none :
       (ys cbs crs tmp : List ℤ) → Lists ys cbs crs tmp → n ≡ tile_count m sp →
-      0 ≡ tiles_fault (in_set mode m sp) w h (quant_count m sp) (data_of m sp) (tile_count m sp) 0 → Showing glass mode m sp w h n first 0 0 first ys cbs crs tmp
+      0 ≡ tiles_fault (in_set mode m sp) w h (quant_count m sp) (data_of m sp) (tile_count m sp) 0 → Showing glass mode m sp w h n first 0 0 first ys cbs crs
+      tmp
   show_none ys cbs crs tmp k c e =
       record { most = omega arith; there = omega arith; sound = rw (sub-zero, c) e; len = refl; lists = k; left = rw sub-zero }
 

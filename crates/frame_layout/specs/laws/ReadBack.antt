@@ -55,7 +55,8 @@ rest_behind : (m q rest : List ℕ) → length q ≡ 10 * set_count q → drop 5
 rest_behind m q rest t e =
     sym (drop-drop (5 * set_count q) 59 m) ∙ (ap (drop (5 * set_count q)) e ∙ drop_at (quant_bytes q) rest (5 * set_count q) (sets_long q t))
 
-pub front : (idx w h et : ℕ) (q : List ℕ) (n size : ℕ) (rest : List ℕ) → w < 65536 → h < 65536 → et < 16 → n < 65536 → 22 + 5 * set_count q + size < 4294967296 →
+pub front : (idx w h et : ℕ) (q : List ℕ) (n size : ℕ) (rest : List ℕ) → w < 65536 → h < 65536 → et < 16 → n < 65536 → 22 + 5 * set_count q + size <
+    4294967296 →
     length q ≡ 10 * set_count q → Front (front_of idx w h et q n size ++ rest) w h et q n size rest
 unfolding front_of begin_of region_of set_head bytes16 bytes32 le16 le32
 front idx w h et q n size rest lw lh le ln ls t = record {

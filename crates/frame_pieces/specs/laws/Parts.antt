@@ -70,7 +70,8 @@ tile_filled o o₀ S ic x y at l a b c h e =
     patch_refill _ _ o₀ _ (bytes16 c) at 17 v3 refl (omega (arith, head_19 ic x y l a b 0 S)) h ∙ ap (patch o₀ at) (fill_17 ic x y l a b c S)
 
 tile_is : (ic x y : ℕ) (ys cbs crs : List ℕ) →
-    head_of ic x y (tile_len (tile_with ic x y ys cbs crs)) (length ys) (length cbs) (length crs) ++ (ys ++ (cbs ++ crs)) ≡ tile_of (tile_with ic x y ys cbs crs)
+    head_of ic x y (tile_len (tile_with ic x y ys cbs crs)) (length ys) (length cbs) (length crs) ++ (ys ++ (cbs ++ crs)) ≡ tile_of
+    (tile_with ic x y ys cbs crs)
 unfolding tile_of tile_head head_of tile_with
 tile_is ic x y ys cbs crs = refl
 
@@ -113,7 +114,8 @@ pub tiles_step : (tile : ℕ → Tile) (n i : ℕ) → i < n → tiles_of tile (
 unfolding tiles_of
 tiles_step tile n i l = rw (left n i l)
 
-pub tiles_step_length : (tile : ℕ → Tile) (n i : ℕ) → i < n → length (tiles_of tile (n - i) i) ≡ tile_len (tile i) + length (tiles_of tile (n - (i + 1)) (i + 1))
+pub tiles_step_length : (tile : ℕ → Tile) (n i : ℕ) → i < n → length (tiles_of tile (n - i) i) ≡ tile_len (tile i) + length
+    (tiles_of tile (n - (i + 1)) (i + 1))
 tiles_step_length tile n i l =
     ap length (tiles_step tile n i l)
     ∙ (length-append (tile_of (tile i)) _ ∙ ap (λ (k : ℕ). k + length (tiles_of tile (n - (i + 1)) (i + 1))) (tile_length (tile i)))

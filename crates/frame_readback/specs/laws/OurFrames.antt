@@ -179,14 +179,16 @@ module _ (p : List ℕ) (w h mode : ℕ) (q : Quants) (index n : ℕ) (pick : �
   region px py a b = rw taken.rects (whole_region m w h px py taken.rect.0 taken.rect.1.0 taken.rect.1.1.0 taken.rect.1.1.1 a b)
 
   shown_as : (glass px py old : ℕ) (f : Found) → px < w → py < h → last_tile (listed (λ (i : ℕ). tile_over p w h mode q (pick i)) n 0) px py ≡ f →
-      (in_region (rects_of m 14) (rect_count m 14) px py ⇒ word_in (tile_word glass mode (set_at m (set_place m))) px py (last_tile (frame_tiles m) px py) old ∣ old)
+      (in_region (rects_of m 14) (rect_count m 14) px py ⇒ word_in (tile_word glass mode (set_at m (set_place m))) px py (last_tile (frame_tiles m) px py) old
+      ∣ old)
       ≡ word_in (tile_word glass mode (set_at m (set_place m))) px py f old
   shown_as glass px py old f a b e =
       case_is _ _ _ _ (region px py a b) refl
       ∙ ap (λ (z : Found). word_in (tile_word glass mode (set_at m (set_place m))) px py z old) (ap (λ (ts : List Tile). last_tile ts px py) taken.tiles ∙ e)
 
   shown-word : (glass px py old i : ℕ) → px < w → py < h → i < n → pick i ≡ tile_no w px py →
-      (in_region (rects_of m 14) (rect_count m 14) px py ⇒ word_in (tile_word glass mode (set_at m (set_place m))) px py (last_tile (frame_tiles m) px py) old ∣ old)
+      (in_region (rects_of m 14) (rect_count m 14) px py ⇒ word_in (tile_word glass mode (set_at m (set_place m))) px py (last_tile (frame_tiles m) px py) old
+      ∣ old)
       ≡ word_over glass p w h q (tile_no w px py) (64 * (py % 64) + px % 64)
   unfolding word_in
   shown-word glass px py old i a b l e =
@@ -197,7 +199,8 @@ module _ (p : List ℕ) (w h mode : ℕ) (q : Quants) (index n : ℕ) (pick : �
       (word-back glass i (64 * (py % 64) + px % 64) l)
 
   shown_other : (glass px py old : ℕ) → px < w → py < h → ((i : ℕ) → i < n → pick i ≡ tile_no w px py → ⊥) →
-      (in_region (rects_of m 14) (rect_count m 14) px py ⇒ word_in (tile_word glass mode (set_at m (set_place m))) px py (last_tile (frame_tiles m) px py) old ∣ old)
+      (in_region (rects_of m 14) (rect_count m 14) px py ⇒ word_in (tile_word glass mode (set_at m (set_place m))) px py (last_tile (frame_tiles m) px py) old
+      ∣ old)
       ≡ old
   unfolding word_in
   shown_other glass px py old a b f = shown_as glass px py old none a b (no_tile p w h mode q px py a b n pick f)

@@ -132,7 +132,8 @@ module _ (p : List ℕ) (w h mode : ℕ) (q : Quants) where
       (k : ℕ) →
       tile_len (tile_over p w h mode q k) ≡ 19 + length (part_over p w h mode q k 0) + length (part_over p w h mode q k 1) + length (part_over p w h mode q k 2)
   unfolding tile_over
-  tile_long k = tile_parts (chroma_index q) (k % cols_of w) (k / cols_of w) (part_over p w h mode q k 0) (part_over p w h mode q k 1) (part_over p w h mode q k 2)
+  tile_long k = tile_parts (chroma_index q) (k % cols_of w) (k / cols_of w) (part_over p w h mode q k 0) (part_over p w h mode q k 1)
+      (part_over p w h mode q k 2)
 
   module _ (k : ℕ) (r s t : Sized)
       (mr : Sizes (stop_over p w h mode q k 0) (length (part_over p w h mode q k 0)) r) (er : r.number ≡ 0)

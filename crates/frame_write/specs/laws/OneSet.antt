@@ -115,4 +115,5 @@ pub frame_once :
     → FrameWritten w h mode q index p list a' scratch b' out c' r'
     → (r ≡ r') × (a ≡ a') × (b ≡ b') × (c ≡ c')
 frame_once w h mode q index p list a a' scratch b b' out c c' r r' x y =
-    frame_over_once w h mode (one_for q) index p list a a' scratch b b' out c c' r r' (as_over _ _ _ _ _ _ _ _ _ _ _ _ _ x) (as_over _ _ _ _ _ _ _ _ _ _ _ _ _ y)
+    frame_over_once w h mode (one_for q) index p list a a' scratch b b' out c c' r r' (as_over _ _ _ _ _ _ _ _ _ _ _ _ _ x)
+    (as_over _ _ _ _ _ _ _ _ _ _ _ _ _ y)

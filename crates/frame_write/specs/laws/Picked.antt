@@ -27,7 +27,8 @@ tiles_same : (a b : ℕ → Tile) (n i : ℕ) → ((j : ℕ) → i ≤ j → j <
 unfolding tiles_of
 tiles_same a b zero i h = refl
 tiles_same a b (suc n) i h =
-    ap₂ (λ (t : Tile) (rest : List ℕ). tile_of t ++ rest) (h i (omega arith) (omega arith)) (tiles_same a b n (i + 1) (λ j l m. h j (omega arith) (omega arith)))
+    ap₂ (λ (t : Tile) (rest : List ℕ). tile_of t ++ rest) (h i (omega arith) (omega arith))
+    (tiles_same a b n (i + 1) (λ j l m. h j (omega arith) (omega arith)))
 
 frame_same : (index w h mode : ℕ) (s : List ℕ) (n : ℕ) (a b : ℕ → Tile) → ((i : ℕ) → i < n → a i ≡ b i) →
     frame_of index w h mode s n a ≡ frame_of index w h mode s n b

@@ -11,7 +11,8 @@ use Rattle.wire.specs.declared.Writing.{Writing}
 use Rattle.whole.specs.Row.{◌!◌⨾◌, ◌⇒◌∣◌, ◌⨟◌}
 use Rattle.session.specs.declared.Session.{Session}
 use Rattle.session.specs.declared.HeaderReading.TheVariants.{Taken}
-use Rattle.session.specs.Header.{record_of, size_good, due, size_of, sync_judge, versions_judge, channels_judge, properties_good, context_judge, et_of, sync_fault}
+use Rattle.session.specs.Header.{record_of, size_good, due, size_of, sync_judge, versions_judge, channels_judge, properties_good, context_judge, et_of}
+use Rattle.session.specs.Header.{sync_fault}
 use Rattle.session.specs.Header.{versions_fault, channels_fault, context_fault, field_fault, head_judge, header_fault, kept_glass, record_after, header_reading}
 use Rattle.session.specs.laws.Header.{allowed, glass_kept, made_1, made_2, made_3}
 use Rattle.headers.specs.Headers.{sync_of, versions_of, channels_of, properties_of, context_of, headers_of, HeadersWritten}
@@ -40,7 +41,8 @@ unfolding sync_of bytes16 bytes32 le16 le32 ◌!◌⨾◌ ◌⇒◌∣◌ ◌⨟
 sync_taken s = refl
 
 versions_taken : (g : ℕ) → g ≤ 1 → header_reading (record_of g 1 0 0 0) versions_of ≡ Taken (record_of g 2 0 0 0)
-unfolding versions_of bytes16 bytes32 le16 le32 ◌!◌⨾◌ ◌⇒◌∣◌ ◌⨟◌ due size_of versions_judge versions_fault field_fault head_judge header_fault record_after header_reading
+unfolding versions_of bytes16 bytes32 le16 le32 ◌!◌⨾◌ ◌⇒◌∣◌ ◌⨟◌ due size_of versions_judge versions_fault field_fault head_judge header_fault record_after
+    header_reading
 versions_taken g l = rw (made_1 g l)
 
 channels_by :

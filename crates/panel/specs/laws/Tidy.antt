@@ -1,4 +1,5 @@
--- Frames and headers passed on for C are the filter's own calls, a frame's with the record that the size and the mode make; one answer for each; and a size that is none
+-- Frames and headers passed on for C are the filter's own calls, a frame's with the record that the size and the mode make; one answer for each; and a size
+-- that is none
 -- has no session, so that the frame goes on as it came.
 use Rattle.std.specs.Prelude.{ℕ, ◌<◌, ◌≡◌, refl, false, List, [], ◌∷◌, ℤ}
 use Rattle.std.proofs.Common.{sym, ap₂, subst, ◌∙◌, arith, le-leb}

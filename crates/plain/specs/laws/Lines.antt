@@ -161,9 +161,11 @@ module _ (xs : List ℤ) (from n : ℕ) (g : Level xs from n) where
     col_is k h =
         let w : 0 < 2 * n = omega (arith, g.some) in
         let j = mod-lt k w in
-        line_cong col_avg n n _ _ _ _ refl (λ c i. low_cell (k % (2 * n)) c j i) (λ c i. high_cell (k % (2 * n)) c j i) (k / (2 * n)) ((div-lt_iff_lt-mul w).1 h)
+        line_cong col_avg n n _ _ _ _ refl (λ c i. low_cell (k % (2 * n)) c j i) (λ c i. high_cell (k % (2 * n)) c j i) (k / (2 * n))
+        ((div-lt_iff_lt-mul w).1 h)
         ∙ sym (ap (λ (m : ℕ). at (level_from from n xs) (m + k)) (sym (length-take-le from xs (omega (arith, g.fits, g.len))))
-        ∙ get_or-append-add (take from xs) (level n (drop from xs)) k (pos 0) ∙ at_tab (2 * n * (2 * n)) (λ (i : ℕ). level_at n f (i / (2 * n)) (i % (2 * n))) k h)
+        ∙ get_or-append-add (take from xs) (level n (drop from xs)) k (pos 0) ∙ at_tab (2 * n * (2 * n)) (λ (i : ℕ). level_at n f (i / (2 * n)) (i % (2 * n)))
+        k h)
 
   pub col_start : Done (at (level_from from n xs)) (from + 0) xs xs
   col_start = record {

@@ -35,7 +35,8 @@ module _ (w h k : ℕ) where
 
     same_tab : (c : ℕ) → table 4096 (sample_at old w h (tile_column w k) (tile_row w k) c) ≡ table 4096 (sample_at new w h (tile_column w k) (tile_row w k) c)
     same_tab c =
-        is_tab 4096 (sample_at new w h (tile_column w k) (tile_row w k) c) (table 4096 (sample_at old w h (tile_column w k) (tile_row w k) c)) (length_tab 4096 _)
+        is_tab 4096 (sample_at new w h (tile_column w k) (tile_row w k) c) (table 4096 (sample_at old w h (tile_column w k) (tile_row w k) c))
+        (length_tab 4096 _)
         (λ i l. at_tab 4096 (sample_at old w h (tile_column w k) (tile_row w k) c) i l ∙ same_sample c i l)
 
     same_rounded : (q : List ℕ) (c : ℕ) → rounded_of old w h q (tile_column w k) (tile_row w k) c ≡ rounded_of new w h q (tile_column w k) (tile_row w k) c

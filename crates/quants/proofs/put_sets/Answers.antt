@@ -12,7 +12,8 @@ ten s = search rules
 
 pub returns-then-is_same : goal.returns-then-is_same
 returns-then-is_same c =
-    one_put c.args.q (ten (goal.at.returns-then-is_same c).Start).0 (ten (goal.at.returns-then-is_same c).Start).1 _ _ _ (sym c.is_same.ensures ∙ c.if-is_same.true) c.put_set.ensures
+    one_put c.args.q (ten (goal.at.returns-then-is_same c).Start).0 (ten (goal.at.returns-then-is_same c).Start).1 _ _ _
+    (sym c.is_same.ensures ∙ c.if-is_same.true) c.put_set.ensures
 
 pub put_set-requires-2 : goal.put_set-requires-2
 put_set-requires-2 c =
@@ -20,5 +21,6 @@ put_set-requires-2 c =
 
 pub returns : goal.returns
 returns c =
-    two_put c.args.q (ten (goal.at.returns c).Start).0 (ten (goal.at.returns c).Start).1 _ _ _ _ (sym c.is_same.ensures ∙ c.if-is_same.false) (omega (arith, c.requires.0)) c.put_set.ensures
+    two_put c.args.q (ten (goal.at.returns c).Start).0 (ten (goal.at.returns c).Start).1 _ _ _ _ (sym c.is_same.ensures ∙ c.if-is_same.false)
+    (omega (arith, c.requires.0)) c.put_set.ensures
     c.put_set-2.ensures

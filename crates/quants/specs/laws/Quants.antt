@@ -1,7 +1,9 @@
 -- Laws of quantiser sets as bytes and of two sets.
 -- Assumes nothing.
-use Rattle.std.specs.Prelude.{ℕ, zero, suc, ◌+◌, ◌*◌, ◌/◌, ◌%◌, ◌≤◌, ◌<◌, ◌≡◌, refl, Bool, true, false, ◌&&◌, List, [], ◌∷◌, ◌++◌, eqb, length, get_or, take, drop}
-use Rattle.std.proofs.Common.{ap, ap₂, ◌∙◌, arith, add-one, eqb-true, eq-eqb, ne_eqb, take-append-drop, length-drop, length-append, drop-cons, take_all, take_at, drop_at}
+use Rattle.std.specs.Prelude.{ℕ, zero, suc, ◌+◌, ◌*◌, ◌/◌, ◌%◌, ◌≤◌, ◌<◌, ◌≡◌, refl, Bool, true, false, ◌&&◌, List, [], ◌∷◌, ◌++◌, eqb, length, get_or, take}
+use Rattle.std.specs.Prelude.{drop}
+use Rattle.std.proofs.Common.{ap, ap₂, ◌∙◌, arith, add-one, eqb-true, eq-eqb, ne_eqb, take-append-drop, length-drop, length-append, drop-cons, take_all}
+use Rattle.std.proofs.Common.{take_at, drop_at}
 use Rattle.std.proofs.Math.Path.{sym}
 use Rattle.std.proofs.Math.Seq.{drop-nil}
 use Rattle.whole.specs.laws.Row.{and_no, case_yes, case_no}
@@ -23,7 +25,8 @@ cells q l =
 
 -- its bytes, by the places
 pub set_bytes : (q : List ℕ) → length q ≡ 10 →
-    quant_bytes q ≡ (get_or q 0 0 + 16 * get_or q 1 0) ∷ (get_or q 2 0 + 16 * get_or q 3 0) ∷ (get_or q 4 0 + 16 * get_or q 5 0) ∷ (get_or q 6 0 + 16 * get_or q 7 0)
+    quant_bytes q ≡ (get_or q 0 0 + 16 * get_or q 1 0) ∷ (get_or q 2 0 + 16 * get_or q 3 0) ∷ (get_or q 4 0 + 16 * get_or q 5 0) ∷
+    (get_or q 6 0 + 16 * get_or q 7 0)
     ∷ (get_or q 8 0 + 16 * get_or q 9 0) ∷ []
 unfolding quant_bytes
 set_bytes q l = ap quant_bytes (cells q l)

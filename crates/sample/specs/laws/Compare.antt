@@ -1,6 +1,7 @@
 -- Laws of the comparison, in the forms that the code has.
 use Rattle.std.specs.Prelude.{ℕ, zero, suc, ◌+◌, ◌*◌, ◌/◌, ◌≤◌, ◌<◌, ◌≡◌, refl, Bool, true, false, List, [], ◌∷◌, eqb, ℤ, pos, negsuc, length, get_or, drop}
-use Rattle.std.proofs.Common.{sym, ap, ◌∙◌, not-suc-le-zero, le_of_suc-le-suc, div-mul-le_self, add-one, arith, eq-eqb, ne_eqb, lt-ltb, drop_of_length-le, to_z, of_z, SFits, to_z-of_z}
+use Rattle.std.proofs.Common.{sym, ap, ◌∙◌, not-suc-le-zero, le_of_suc-le-suc, div-mul-le_self, add-one, arith, eq-eqb, ne_eqb, lt-ltb, drop_of_length-le, to_z}
+use Rattle.std.proofs.Common.{of_z, SFits, to_z-of_z}
 use Rattle.std.proofs.Math.Decide.{ℕ_discrete}
 use Rattle.std.specs.Int.{w32}
 use Rattle.whole.specs.laws.Row.{passes}

@@ -11,7 +11,8 @@ use Rattle.settings.specs.Settings.{unless, walk, read_settings, version_record,
 use Rattle.settings.specs.Cases.{Cases}
 
 pub cases : Cases
-unfolding ◌!◌⨾◌ ◌⇒◌∣◌ ◌⨟◌ le16 bytes16 is_mode quant_of good_to quant_bytes alike same body_of known placed front_fault takes settings_in settings_fault bytes_fault
+unfolding ◌!◌⨾◌ ◌⇒◌∣◌ ◌⨟◌ le16 bytes16 is_mode quant_of good_to quant_bytes alike same body_of known placed front_fault takes settings_in settings_fault
+    bytes_fault
     record_fault after ended unless walk read_settings version_record one_record two_record settings_of size_of write_fault
 cases = record {
   first = refl;

@@ -2,7 +2,8 @@
 -- Assumes nothing.
 use Rattle.std.specs.Prelude.{ℕ, suc, ◌≤◌, ◌<◌, ◌≡◌, Bool, ◌⊎◌, List, [], ◌∷◌, ◌++◌, eqb, leb, length, get_or}
 use Rattle.std.proofs.Math.Path.{refl}
-use Rattle.std.proofs.Common.{ap, ap₂, sym, ◌∙◌, inl, inr, ⊎_elim, append_assoc, append-nil, arith, eq-eqb, ne_eqb, le-leb, eqb-true, length-append, take_at, drop_at}
+use Rattle.std.proofs.Common.{ap, ap₂, sym, ◌∙◌, inl, inr, ⊎_elim, append_assoc, append-nil, arith, eq-eqb, ne_eqb, le-leb, eqb-true, length-append, take_at}
+use Rattle.std.proofs.Common.{drop_at}
 use Rattle.std.proofs.Math.Bool.{true, false}
 use Rattle.std.proofs.lemmas.Bool.{lt-leb}
 use Rattle.std.proofs.lemmas.List.{get_or_at}
@@ -133,7 +134,8 @@ unknown newest kind rest h = first_refused newest kind 2 rest (sym (kind_fault n
 
 -- ---- a record of kind 1 or 2
 
-none_of : (newest v kind : ℕ) (body : List ℕ) → 1 ≤ v → known v kind ≡ true → 1 ≤ kind → body_of kind ≤ length body → 0 ≡ settings_fault (settings_in kind body) →
+none_of : (newest v kind : ℕ) (body : List ℕ) → 1 ≤ v → known v kind ≡ true → 1 ≤ kind → body_of kind ≤ length body → 0 ≡ settings_fault
+    (settings_in kind body) →
     0 ≡ record_fault newest v kind body
 unfolding record_fault front_fault bytes_fault
 none_of newest v kind body hv k hk l f =
@@ -294,7 +296,8 @@ known_two = refl
 
 -- kind 1
 pub one_refused : (newest v mode n : ℕ) (rs : List Setting) (five more : List ℕ) → takes newest v ≡ true → AllGood v rs → length five ≡ 5 →
-    suc n ≡ settings_fault (settings (quant_of five) (quant_of five) mode) → read_settings newest (store_of v rs ++ (1 ∷ (five ++ (mode ∷ more)))) ≡ Refused (suc n)
+    suc n ≡ settings_fault (settings (quant_of five) (quant_of five) mode) → read_settings newest (store_of v rs ++ (1 ∷ (five ++ (mode ∷ more)))) ≡ Refused
+    (suc n)
 one_refused newest v mode n rs five more t g l f =
     fault_said newest v 1 n rs (five ++ (mode ∷ more)) t g
     (sym (body_fault newest v 1 (suc n) _ _ (taken_small newest v t).0 (known_one newest v t) (omega arith)

@@ -58,7 +58,8 @@ pixels_judged w h mode q pixels list scratch e =
     let c = held (good_sets q) 7 _ 0 (λ z. omega arith) b.1 in
     (held (pixels_good w h pixels) 2 _ 0 (λ z. omega arith) c.1).0
 
-own_same : (w h mode : ℕ) (q : Quants) (pixels list scratch : ℕ) → own_fault w h mode q pixels pixels list scratch ≡ arg_fault_over w h mode q pixels list scratch
+own_same : (w h mode : ℕ) (q : Quants) (pixels list scratch : ℕ) → own_fault w h mode q pixels pixels list scratch ≡ arg_fault_over w h mode q pixels list
+    scratch
 unfolding own_fault ◌⨟◌
 own_same w h mode q pixels list scratch = by (arg_fault_over w h mode q pixels list scratch) refl
   where

@@ -243,7 +243,8 @@ sync_waits w b e = none_waits w (kind_of b) _ refl (sync_kind b e)
 abbrev Stays : List ℕ → List (List ℕ) → Type 0
 Stays s bs = blocks_on (s ∷ bs) ≡ s ∷ blocks_on bs
 
-stays : (s a b c : List ℕ) (rest : List (List ℕ)) (p q : Bool) → is_group s a b c ≡ false → is_sync a ≡ p → is_sync b ≡ q → Stays s (blocks_on (a ∷ b ∷ c ∷ rest))
+stays : (s a b c : List ℕ) (rest : List (List ℕ)) (p q : Bool) → is_group s a b c ≡ false → is_sync a ≡ p → is_sync b ≡ q → Stays s
+    (blocks_on (a ∷ b ∷ c ∷ rest))
 stays s a b c rest true q e f g =
     let h = first_stays a (b ∷ c ∷ rest) in
     subst (Stays s) (sym h.1) (first_none s a h.0 (sync_waits _ a f))

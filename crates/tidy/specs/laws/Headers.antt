@@ -14,7 +14,8 @@ use Rattle.session.specs.Header.{record_of, header_number, header_reading, heade
 use Rattle.session.specs.laws.Header.{reading-number}
 use Rattle.session.specs.declared.Session.{Session}
 use Rattle.session.specs.declared.HeaderReading.{HeaderReading}
-use Rattle.tidy.specs.Headers.{kind_by, kind_of, is_sync, place_of, length_of, block_at, waiting_bytes, waits, held_on, passed_on, store_after, flag_of, waiting_by}
+use Rattle.tidy.specs.Headers.{kind_by, kind_of, is_sync, place_of, length_of, block_at, waiting_bytes, waits, held_on, passed_on, store_after, flag_of}
+use Rattle.tidy.specs.Headers.{waiting_by}
 use Rattle.tidy.specs.Headers.{waiting_after, header_fault, waiting_said, store_left, GaveOn}
 use Rattle.tidy.specs.declared.headers.Waiting.{Waiting}
 
@@ -151,11 +152,13 @@ module _ (w : Waiting) (b store out store' : List ℕ) (k pk : ℕ) (ep : pk ≡
   stored = es ∙ ap₂ (patch store) ep (take-length b)
 
   pub hold_none : w.second ≡ 0 →
-      (store' ≡ patch store (place_of k) b) × (out ≡ patch out 0 (held_on w (patch store (place_of k) b))) × (0 ≡ length (held_on w (patch store (place_of k) b)))
+      (store' ≡ patch store (place_of k) b) × (out ≡ patch out 0 (held_on w (patch store (place_of k) b))) ×
+      (0 ≡ length (held_on w (patch store (place_of k) b)))
   hold_none z = let h = held_none w (patch store (place_of k) b) out z in (stored, h.0, h.1)
 
   pub hold_three : (out' : List ℕ) → (w.second ≡ 0 → ⊥) → length store' ≡ 35 → out' ≡ patch out 0 (take 35 store') →
-      (store' ≡ patch store (place_of k) b) × (out' ≡ patch out 0 (held_on w (patch store (place_of k) b))) × (35 ≡ length (held_on w (patch store (place_of k) b)))
+      (store' ≡ patch store (place_of k) b) × (out' ≡ patch out 0 (held_on w (patch store (place_of k) b))) ×
+      (35 ≡ length (held_on w (patch store (place_of k) b)))
   hold_three out' z l p =
       let h = held_three w (patch store (place_of k) b) out out' z (sym (ap length stored) ∙ l) (p ∙ ap (λ (x : List ℕ). patch out 0 (take 35 x)) stored) in
       (stored, h.0, h.1)

@@ -76,7 +76,8 @@ module _ (h store store' out out' h' : List ℕ) (w : Waiting) (g : Gave) (l : l
     (e : h' ≡ held_of g.waiting store') where
   pub given_held :
       (block : List ℕ) →
-      GaveOn (header_fault (length store) w (35 + length block) (length out)) (passed_on w store block) (waiting_after w block) w (store_after w store block) store
+      GaveOn (header_fault (length store) w (35 + length block) (length out)) (passed_on w store block) (waiting_after w block) w (store_after w store block)
+      store
       store' out out' g →
       HeldGave (held_fault h (35 + length block) (length out)) (passed_on (waiting_in h) (store_in h) block)
       (held_of (waiting_after (waiting_in h) block) (store_after (waiting_in h) (store_in h) block)) h h' out out' (record { number = g.number; size = g.size })
@@ -94,6 +95,7 @@ module _ (h store store' out out' h' : List ℕ) (w : Waiting) (g : Gave) (l : l
       (record { number = g.number; size = g.size })
   flushed_held p =
       let q = subst (λ (x : List ℕ). GaveOn (header_fault (length x) w 35 (length out)) (waiting_bytes w x) none w x x store' out out' g) es p in
-      let r = subst (λ (v : Waiting). GaveOn (header_fault (length (store_in h)) v 35 (length out)) (waiting_bytes v (store_in h)) none v (store_in h) (store_in h)
+      let r = subst (λ (v : Waiting). GaveOn (header_fault (length (store_in h)) v 35 (length out)) (waiting_bytes v (store_in h)) none v (store_in h)
+      (store_in h)
       store' out out' g) ew q in
       held_gave h 35 (waiting_bytes (waiting_in h) (store_in h)) none (store_in h) store' out out' h' g l r e

@@ -5,7 +5,8 @@ use Rattle.std.proofs.Common.{◌∙◌, arith}
 use mathlib.Core.List.{List}
 use Rattle.whole.specs.Row.{◌⨟◌}
 use Rattle.whole.specs.laws.Row.{both, stops, goes_on}
-use Rattle.frame_layout.specs.Reader.{begin_fault, region_fault, end_fault, frame_fault, codes_fault, tile_fault, tiles_fault, size_at, set_place, end_place, quant_count}
+use Rattle.frame_layout.specs.Reader.{begin_fault, region_fault, end_fault, frame_fault, codes_fault, tile_fault, tiles_fault, size_at, set_place, end_place}
+use Rattle.frame_layout.specs.Reader.{quant_count}
 use Rattle.frame_layout.specs.Reader.{set_at, tile_count, data_of}
 use Rattle.frame_blocks.specs.Blocks.{set_front}
 use Rattle.frame_blocks.specs.Tiles.{tile_front}

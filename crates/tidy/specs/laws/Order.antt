@@ -100,7 +100,8 @@ on_from w store b bs e =
     let n = fails _ _ _ _ e refl in
     ap₂ (λ x y. x ++ y) (sym g.0) (ap₂ (λ u v. all_on u v bs) (sym n) (sym g.1)) ∙ append_assoc (waiting_bytes w store) b _
 
-on_none : (store b : List ℕ) (bs : List (List ℕ)) → all_on none store (b ∷ bs) ≡ b ++ all_on (record { on = flag_of (is_sync b); first = 0; second = 0 }) store bs
+on_none : (store b : List ℕ) (bs : List (List ℕ)) → all_on none store (b ∷ bs) ≡ b ++ all_on (record { on = flag_of (is_sync b); first = 0; second = 0 })
+    store bs
 unfolding waits waiting_bytes block_at length_of ◌!◌⨾◌ ◌⇒◌∣◌
 on_none store b bs = on_from none store b bs refl
 
@@ -132,7 +133,8 @@ module _ (store b : List ℕ) (bs : List (List ℕ)) where
       all_on (waiting_for i j) store (b ∷ bs) ≡ take 35 (patch store (place_of (kind_of b)) b) ++ all_on none (patch store (place_of (kind_of b)) b) bs
   unfolding held_on ◌⇒◌∣◌
   held_3 i j n m h =
-      on_held (waiting_for i j) none store b (take 35 (patch store (place_of (kind_of b)) b)) bs h (rw (ne_eqb j 0 m) refl) (rw (ne_eqb i 0 n, ne_eqb j 0 m) refl)
+      on_held (waiting_for i j) none store b (take 35 (patch store (place_of (kind_of b)) b)) bs h (rw (ne_eqb j 0 m) refl)
+      (rw (ne_eqb i 0 n, ne_eqb j 0 m) refl)
 
 -- ---- all blocks
 

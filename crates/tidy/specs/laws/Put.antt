@@ -54,7 +54,8 @@ put_there x xs ys at e p q h =
 changed : (t : Bool) (x a b : List ℕ) → t ≡ same_bytes x b → x ≡ a → t ≡ same_bytes a b
 changed t x a b e f = e ∙ ap (λ (z : List ℕ). same_bytes z b) f
 
-module _ (sd et : ℕ) (code o o' : List ℕ) (at e : ℕ) (h : at ≤ length o) (p : o' ≡ patch o at (tidy_code sd et code)) (q : e ≡ at + length (tidy_code sd et code)) where
+module _ (sd et : ℕ) (code o o' : List ℕ) (at e : ℕ) (h : at ≤ length o) (p : o' ≡ patch o at (tidy_code sd et code))
+    (q : e ≡ at + length (tidy_code sd et code)) where
   there : take (e - at) (drop at o') ≡ tidy_code sd et code
   there = put_there o' o (tidy_code sd et code) at e p q h
 
@@ -256,7 +257,8 @@ module _ (sd et : ℕ) (d : List ℕ) (n i at to cut from : ℕ) (out₀ out : L
   unfolding tidy_tiles cut_tiles
   so_far_ends l =
       let z : n - i ≡ 0 = omega arith in
-      let e : f.done ≡ tidy_tiles sd et d n 0 = sym (append-nil f.done) ∙ subst (λ (k : ℕ). f.done ++ tidy_tiles sd et d k at ≡ tidy_tiles sd et d n 0) z f.rest in
+      let e : f.done ≡ tidy_tiles sd et d n 0 = sym (append-nil f.done) ∙ subst (λ (k : ℕ). f.done ++ tidy_tiles sd et d k at ≡ tidy_tiles sd et d n 0) z
+      f.rest in
       let c : cut + 0 ≡ cut_tiles sd et d n 0 = subst (λ (k : ℕ). cut + cut_tiles sd et d k at ≡ cut_tiles sd et d n 0) z f.counted in
       record {
         left = f.is ∙ ap (patch out₀ from) e;
@@ -401,7 +403,8 @@ found m size q n d w es eq en ed =
       whole = subst (λ (k : ℕ). AllWhole k d 0) (sym c) (subst (λ (z : List ℕ). AllWhole (tile_count m (set_place m)) z 0) (sym e) w.tiles);
     }
 
-pub found_put : (sd et : ℕ) (m d o o' : List ℕ) (size q n from : ℕ) (r : Put) → Found m size q n d → Puts (tidy_tiles sd et d n 0) (cut_tiles sd et d n 0) from o o' r →
+pub found_put : (sd et : ℕ) (m d o o' : List ℕ) (size q n from : ℕ) (r : Put) → Found m size q n d → Puts (tidy_tiles sd et d n 0) (cut_tiles sd et d n 0)
+    from o o' r →
     Puts (tiles_tidied sd et m) (cut_tiles sd et (data_of m (set_place m)) (tile_count m (set_place m)) 0) from o o' r
 unfolding tiles_tidied
 found_put sd et m d o o' size q n from r f p =

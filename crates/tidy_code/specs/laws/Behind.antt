@@ -1,8 +1,10 @@
 -- The code of a list and one value more, beside the code of the list: item by item the same, up to the last one. So whatever holds of the last items and is
 -- kept by bits in front of both holds of the two codes (`behind`): a zero behind a list puts only zero bits behind its code (`zero_behind`), and a value
 -- behind it makes no code shorter (`one_behind`).
-use Rattle.std.specs.Prelude.{ℕ, zero, suc, ◌+◌, ◌-◌, ◌/◌, ◌^◌, ◌≤◌, ◌<◌, min, ◌≡◌, refl, Bool, true, false, List, [], ◌∷◌, ◌++◌, ltb, leb, length, drop, get_or, replicate}
-use Rattle.std.proofs.Common.{sym, ap, ap₂, ◌∙◌, append-nil, append_assoc, arith, div-lt_iff_lt-mul, lt-suc_self, lt_of_le_of_lt, le_of_suc-le-suc, ltb-true, ltb-false, leb-true, leb-false, pow_pos, length-append, length-drop, drop_of_length-le}
+use Rattle.std.specs.Prelude.{ℕ, zero, suc, ◌+◌, ◌-◌, ◌/◌, ◌^◌, ◌≤◌, ◌<◌, min, ◌≡◌, refl, Bool, true, false, List, [], ◌∷◌, ◌++◌, ltb, leb, length, drop}
+use Rattle.std.specs.Prelude.{get_or, replicate}
+use Rattle.std.proofs.Common.{sym, ap, ap₂, ◌∙◌, append-nil, append_assoc, arith, div-lt_iff_lt-mul, lt-suc_self, lt_of_le_of_lt, le_of_suc-le-suc, ltb-true}
+use Rattle.std.proofs.Common.{ltb-false, leb-true, leb-false, pow_pos, length-append, length-drop, drop_of_length-le}
 use Rattle.std.proofs.Math.Nat.{zero-div}
 use Rattle.std.proofs.lemmas.List.{drop-append-le}
 use Rattle.std.proofs.Math.Seq.{get_or-append_seam}

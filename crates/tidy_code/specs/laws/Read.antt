@@ -14,7 +14,8 @@ use Rattle.code.specs.Read.{shell_fault, read_fault, read_bits, decoded, reading
 use Rattle.code.specs.laws.Read.{read_number, read-bits, into_decoded}
 use Rattle.code.specs.declared.read.Reading.{Reading}
 use Rattle.code_write.specs.Write.{bytes_of}
-use Rattle.tidy_code.specs.Sent.{Meant, means, unclear, ends_zero, all_but, padded_meant, longer_meant, surplus_meant, others_meant, meant_by, is_meant, list_meant}
+use Rattle.tidy_code.specs.Sent.{Meant, means, unclear, ends_zero, all_but, padded_meant, longer_meant, surplus_meant, others_meant, meant_by, is_meant}
+use Rattle.tidy_code.specs.Sent.{list_meant}
 use Rattle.tidy_code.specs.Sent.{tidy_code, Answers, MeantRead}
 use Rattle.tidy_code.specs.laws.Request.{is_code, others_kept}
 

@@ -2,7 +2,8 @@
 use Prim.Native.Nat.{ℕ, zero, suc, ◌+◌, ◌*◌, ◌/◌, ◌%◌, ◌≤◌, ◌<◌}
 use Rattle.std.specs.Prelude.{◌≡◌, ◌≢◌, Bool, true, false, List, length, get_or, set, take, drop, eqb, ltb}
 use Rattle.std.proofs.Math.Path.{refl, sym}
-use Rattle.std.proofs.Common.{ap, ◌∙◌, mod-lt, length-take, length-drop, get_or-take, get_or-drop, get_or-set_same, get_or-set_other, eqb-true, eq-eqb, ne_eqb, le-leb}
+use Rattle.std.proofs.Common.{ap, ◌∙◌, mod-lt, length-take, length-drop, get_or-take, get_or-drop, get_or-set_same, get_or-set_other, eqb-true, eq-eqb, ne_eqb}
+use Rattle.std.proofs.Common.{le-leb}
 use native.Mathlib.Omega.{arith}
 use Rattle.std.proofs.Math.Arith.{digits_div, digits_mod}
 use Rattle.std.proofs.lemmas.Bool.{eqb-false}

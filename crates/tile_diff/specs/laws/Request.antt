@@ -153,7 +153,8 @@ module _ (a b : List ℕ) (w h : ℕ) (p : Whole a w h) (q : Whole b w h) where
       let n = few_words w h p.sized in
       let u : 0 < tiles_over w = some_tiles w p.sized.wide in
       ap (λ (cs : List ℕ). get_or cs k 0) (rows_places a b w h no_counts (omega (arith, p.words)) (omega (arith, q.words)) h (omega arith))
-      ∙ places_count ps qs w no_counts k (omega (arith, length-replicate {A = ℕ} 2048 0)) (get_or-replicate {A = ℕ} 2048 k 0 0 (omega arith)) (h * w) (omega arith)
+      ∙ places_count ps qs w no_counts k (omega (arith, length-replicate {A = ℕ} 2048 0)) (get_or-replicate {A = ℕ} 2048 k 0 0 (omega arith)) (h * w)
+      (omega arith)
       ∙ ap (λ (j : ℕ). how_many (counts ps qs w j) (h * w)) (sym (div-add-mod' k (tiles_over w)))
       ∙ count_differs ps qs w h (k % tiles_over w) (k / tiles_over w) p.sized.wide (mod-lt k u)
 

@@ -1,6 +1,7 @@
 -- Laws of one level: the row pass's list, the level as the columns of it, and how far the numbers can grow.
 use Rattle.std.specs.Prelude.{◌≡◌, refl, List, ◌++◌, ℕ, ◌+◌, ◌*◌, ◌-◌, ◌≤◌, ◌<◌, ℤ, pos, length, take, drop}
-use Rattle.std.proofs.Common.{sym, ◌∙◌, ap, subst, append-nil, zero-add, arith, lit≤, length-take, length-drop, length-append, drop_of_length-le, take_at, drop_at, get_or-append-add, length-take-le, get_or-take, get_or-drop}
+use Rattle.std.proofs.Common.{sym, ◌∙◌, ap, subst, append-nil, zero-add, arith, lit≤, length-take, length-drop, length-append, drop_of_length-le, take_at}
+use Rattle.std.proofs.Common.{drop_at, get_or-append-add, length-take-le, get_or-take, get_or-drop}
 use Rattle.std.proofs.Math.Decide.{dec_lt}
 use Rattle.std.proofs.Math.ListN.{get_or-append}
 use borrow.Rule.Slice.PartMut.{put_mid}

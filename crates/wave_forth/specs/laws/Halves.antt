@@ -10,7 +10,8 @@ pub high_step :
 unfolding line_high
 high_step N x n u p q r = u ∙ ap3 high_z p q r
 
-pub low_step : (N : ℕ) (x : ℕ → ℤ) (n : ℕ) {e g h z : ℤ} → z ≡ low_z e g h → e ≡ x (2 * n) → g ≡ line_high N x (n - 1) → h ≡ line_high N x n → z ≡ line_low N x n
+pub low_step : (N : ℕ) (x : ℕ → ℤ) (n : ℕ) {e g h z : ℤ} → z ≡ low_z e g h → e ≡ x (2 * n) → g ≡ line_high N x (n - 1) → h ≡ line_high N x n → z ≡ line_low N
+    x n
 unfolding line_low
 low_step N x n u p q r = u ∙ ap3 low_z p q r
 

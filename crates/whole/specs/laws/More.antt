@@ -1,6 +1,7 @@
 -- General laws of lists by index that the wavelet wants; they could stand in whole.
 use Rattle.std.specs.Prelude.{◌≡◌, List, [], ◌∷◌, ◌++◌, ℕ, zero, suc, ◌+◌, ◌*◌, ◌-◌, ◌/◌, ◌%◌, ◌≤◌, ◌<◌, ℤ, pos, length, take, drop}
-use Rattle.std.proofs.Common.{sym, ◌∙◌, ap, subst, append-nil, append_assoc, zero-le, div-lt_iff_lt-mul, mod-lt, arith, length-take, length-drop, drop_of_length-le, take_at, drop_at, take_all, take-add, length-take-le}
+use Rattle.std.proofs.Common.{sym, ◌∙◌, ap, subst, append-nil, append_assoc, zero-le, div-lt_iff_lt-mul, mod-lt, arith, length-take, length-drop}
+use Rattle.std.proofs.Common.{drop_of_length-le, take_at, drop_at, take_all, take-add, length-take-le}
 use Rattle.std.proofs.Math.Decide.{dec_lt}
 use Rattle.std.proofs.Math.ListN.{get_or-eq_default}
 use borrow.Rule.Slice.PartMut.{put_mid}

@@ -1,7 +1,8 @@
 -- Parts of a list, place by place: what is lent as &xs[a..e], and the whole once a &mut part came back as ys.
 -- Assumes nothing.
 use Rattle.std.specs.Prelude.{◌≡◌, List, ◌++◌, ℕ, ◌+◌, ◌-◌, ◌≤◌, ◌<◌, ℤ, pos, length, take, drop}
-use Rattle.std.proofs.Common.{sym, ◌∙◌, ap, subst, zero-le, arith, length-take, length-drop, length-append, get_or-take, get_or-drop, get_or-append-add, length-take-le}
+use Rattle.std.proofs.Common.{sym, ◌∙◌, ap, subst, zero-le, arith, length-take, length-drop, length-append, get_or-take, get_or-drop, get_or-append-add}
+use Rattle.std.proofs.Common.{length-take-le}
 use Rattle.std.proofs.Math.Decide.{dec_lt}
 use Rattle.std.proofs.Math.ListN.{get_or-append, get_or-eq_default}
 use borrow.Rule.Slice.PartMut.{put_mid}

@@ -1,7 +1,8 @@
 -- A list of signed numbers, read by its places and written out from a function of them.
 -- Assumes nothing.
 use Rattle.std.specs.Prelude.{◌≡◌, refl, ◌≢◌, List, ℕ, zero, suc, ◌+◌, ◌*◌, ◌/◌, ◌%◌, ◌≤◌, ◌<◌, ℤ, pos, length}
-use Rattle.std.proofs.Common.{sym, ◌∙◌, ap, subst, zero-le, le_of_suc-le-suc, not-suc-le-zero, mul-le-mul_right, div-add-mod', div-lt_iff_lt-mul, mod-lt, arith, ext_get_or}
+use Rattle.std.proofs.Common.{sym, ◌∙◌, ap, subst, zero-le, le_of_suc-le-suc, not-suc-le-zero, mul-le-mul_right, div-add-mod', div-lt_iff_lt-mul, mod-lt, arith}
+use Rattle.std.proofs.Common.{ext_get_or}
 use Rattle.std.proofs.Math.Decide.{dec_lt}
 use Rattle.std.proofs.Math.Arith.{digits_div, digits_mod}
 use Rattle.std.proofs.Math.ListN.{get_or-eq_default}

@@ -1,6 +1,7 @@
 -- Laws on the writers' lists.
 use Rattle.std.specs.Prelude.{ℕ, ◌+◌, ◌-◌, ◌≤◌, ◌≡◌, refl, List, [], ◌∷◌, ◌++◌, length, take, drop, set}
-use Rattle.std.proofs.Common.{ap, sym, ◌∙◌, append_assoc, arith, add-zero, zero-add, add_assoc, length-append, length-take, length-drop, take-append-drop, add-one, drop-drop, take_at, length-take-le}
+use Rattle.std.proofs.Common.{ap, sym, ◌∙◌, append_assoc, arith, add-zero, zero-add, add_assoc, length-append, length-take, length-drop, take-append-drop}
+use Rattle.std.proofs.Common.{add-one, drop-drop, take_at, length-take-le}
 use Rattle.std.proofs.Math.Nat.{add-sub_cancel_left}
 use Rattle.std.proofs.lemmas.List.{set_split, take-append-le, drop-append-le}
 use Rattle.std.proofs.Math.Seq.{drop-append-add, take-append-add}

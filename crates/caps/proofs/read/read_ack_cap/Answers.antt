@@ -24,7 +24,8 @@ walked c =
 
 pub returns-then-number-ne0 : goal.returns-then-number-ne0
 unfolding read_ack_cap
-returns-then-number-ne0 c = read_refused Taken Refused ack_cap _ _ _ (walked (goal.at.returns-then-number-ne0 c).After-finish-number) _ c.finish-number.ensures c.if-number-ne0.true
+returns-then-number-ne0 c = read_refused Taken Refused ack_cap _ _ _ (walked (goal.at.returns-then-number-ne0 c).After-finish-number) _
+    c.finish-number.ensures c.if-number-ne0.true
 
 pub overflow_cast-result : goal.overflow_cast-result
 overflow_cast-result c = omega (arith, c.next-count.ensures.1)

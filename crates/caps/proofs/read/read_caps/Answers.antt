@@ -31,7 +31,8 @@ overflow_add-inner c = omega (arith, c.next-inner.ensures.1)
 
 pub returns-then-number-ne0 : goal.returns-then-number-ne0
 unfolding read_caps
-returns-then-number-ne0 c = read_refused Taken Refused container _ _ _ (walked (goal.at.returns-then-number-ne0 c).After-finish-number) _ c.finish-number.ensures c.if-number-ne0.true
+returns-then-number-ne0 c = read_refused Taken Refused container _ _ _ (walked (goal.at.returns-then-number-ne0 c).After-finish-number) _
+    c.finish-number.ensures c.if-number-ne0.true
 
 pub overflow_cast-result : goal.overflow_cast-result
 overflow_cast-result c = omega (arith, c.next-flags.ensures.1)

@@ -30,7 +30,8 @@ clear_all-requires c =
     let a = c.args in
     let j = c.judge_frame-n in
     let call = frame-call _ a.s _ a.picture.now _ _ _ _ _ _ _ _ _ j.ensures c.if-n-ne0.false in
-    lists_kept _ _ _ _ _ _ _ _ call.lists (c.show.auto.ys ∙ c.judge_frame-n.auto.ys) (c.show.auto.cbs ∙ c.judge_frame-n.auto.cbs) (c.show.auto.crs ∙ c.judge_frame-n.auto.crs) (c.show.auto.tmp ∙ c.judge_frame-n.auto.tmp)
+    lists_kept _ _ _ _ _ _ _ _ call.lists (c.show.auto.ys ∙ c.judge_frame-n.auto.ys) (c.show.auto.cbs ∙ c.judge_frame-n.auto.cbs)
+    (c.show.auto.crs ∙ c.judge_frame-n.auto.crs) (c.show.auto.tmp ∙ c.judge_frame-n.auto.tmp)
 
 pub tile_count-requires : goal.tile_count-requires
 tile_count-requires c =

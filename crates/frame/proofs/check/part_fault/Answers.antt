@@ -39,8 +39,11 @@ pub quant_at-set-requires : goal.quant_at-set-requires
 quant_at-set-requires c = omega (arith, there (goal.at.quant_at-set-requires c).After-quant_index-j)
 
 pub component_fault-requires : goal.component_fault-requires
-component_fault-requires c =
-    (c.requires.0, subst⁻¹ QuantGood (set_read (goal.at.component_fault-requires c).After-quant_at-set) (set_values c.args.m.now c.args.sp c.requires.1 _ (below (goal.at.component_fault-requires c).After-quant_index-j)))
+component_fault-requires c = (
+  c.requires.0,
+  subst⁻¹ QuantGood (set_read (goal.at.component_fault-requires c).After-quant_at-set)
+      (set_values c.args.m.now c.args.sp c.requires.1 _ (below (goal.at.component_fault-requires c).After-quant_index-j)),
+)
 
 pub returns : goal.returns
 unfolding in_set judged

@@ -85,7 +85,8 @@ loop-i-preserved c =
     let l = c.loop-i in
     let k = c.ready_tile-s.auto in
     let lists = lists_kept _ _ _ _ _ _ _ _ l.invariant.lists k.ys k.cbs k.crs k.tmp in
-    show_next _ _ _ _ _ _ _ _ _ _ _ _ _ _ _ l.invariant _ _ _ _ _ _ _ _ c.loop-i-test.true lists (size_is (goal.at.loop-i-preserved c).After-le32_at-at) c.ready_tile-s.ensures c.rects-rects.ensures
+    show_next _ _ _ _ _ _ _ _ _ _ _ _ _ _ _ l.invariant _ _ _ _ _ _ _ _ c.loop-i-test.true lists (size_is (goal.at.loop-i-preserved c).After-le32_at-at)
+    c.ready_tile-s.ensures c.rects-rects.ensures
     c.paint_tile.auto.picture c.paint_tile.ensures
 
 pub shape_of-picture : goal.shape_of-picture

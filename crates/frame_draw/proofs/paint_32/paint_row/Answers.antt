@@ -76,7 +76,10 @@ loop-x-smaller c = omega arith
 pub loop-x-preserved : goal.loop-x-preserved
 loop-x-preserved c =
     let l = c.loop-x in
-    elim c.if-mask-x-eq1.branch [ then-mask-x-eq1 v ↦ put_in _ _ _ _ _ _ _ _ _ l.invariant c.loop-x-test.true v.if-mask-x-eq1.true v.picture-is | else-mask-x-eq1 v ↦ put_out _ _ _ _ _ _ _ _ _ l.invariant c.loop-x-test.true v.if-mask-x-eq1.false v.picture-is ]
+    elim c.if-mask-x-eq1.branch [
+      | then-mask-x-eq1 v ↦ put_in _ _ _ _ _ _ _ _ _ l.invariant c.loop-x-test.true v.if-mask-x-eq1.true v.picture-is
+      | else-mask-x-eq1 v ↦ put_out _ _ _ _ _ _ _ _ _ l.invariant c.loop-x-test.true v.if-mask-x-eq1.false v.picture-is
+    ]
 
 pub shape_of-picture : goal.shape_of-picture
 shape_of-picture c = c.loop-x.invariant.len

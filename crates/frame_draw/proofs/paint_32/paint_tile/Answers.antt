@@ -44,7 +44,12 @@ loop-y-smaller c = omega arith
 pub loop-y-preserved : goal.loop-y-preserved
 loop-y-preserved c =
     let l = c.loop-y in
-    elim c.if-mask-ne0.branch [ then-mask-ne0 v ↦ paint-row _ _ _ _ _ _ _ _ _ _ _ l.invariant _ c.part_of-rows.ensures c.loop-y-test.true _ c.row_mask-mask.ensures (v.picture-is ∙ v.paint_row.ensures) | else-mask-ne0 v ↦ paint_missed _ _ _ _ _ _ _ _ _ _ _ l.invariant _ c.part_of-rows.ensures c.loop-y-test.true _ c.row_mask-mask.ensures v.if-mask-ne0.false v.picture-is ]
+    elim c.if-mask-ne0.branch [
+      | then-mask-ne0 v ↦ paint-row _ _ _ _ _ _ _ _ _ _ _ l.invariant _ c.part_of-rows.ensures c.loop-y-test.true _
+          c.row_mask-mask.ensures (v.picture-is ∙ v.paint_row.ensures)
+      | else-mask-ne0 v ↦ paint_missed _ _ _ _ _ _ _ _ _ _ _ l.invariant _
+          c.part_of-rows.ensures c.loop-y-test.true _ c.row_mask-mask.ensures v.if-mask-ne0.false v.picture-is
+    ]
 
 pub shape_of-picture : goal.shape_of-picture
 shape_of-picture c = c.loop-y.invariant.len

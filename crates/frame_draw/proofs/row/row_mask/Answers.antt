@@ -42,7 +42,10 @@ rectangles-preserved c =
     let is = clip_is _ _ _ _ _ c.requires.1 _ c.rectangles-test.true in
     let on = sym c.clip_on.ensures in (
       omega (arith, c.rectangles-test.true),
-      elim c.if-clip_on.branch [ then-clip_on+else-m-full v ↦ masked_next _ _ _ _ _ _ _ _ g.1 is _ (on ∙ v.if-clip_on.true) v.clip_mask-m.ensures v.m-is | else-clip_on v ↦ masked_missed _ _ _ _ _ _ _ _ g.1 is (on ∙ v.if-clip_on.false) v.m-is ],
+      elim c.if-clip_on.branch [
+        | then-clip_on+else-m-full v ↦ masked_next _ _ _ _ _ _ _ _ g.1 is _ (on ∙ v.if-clip_on.true) v.clip_mask-m.ensures v.m-is
+        | else-clip_on v ↦ masked_missed _ _ _ _ _ _ _ _ g.1 is (on ∙ v.if-clip_on.false) v.m-is
+      ],
     )
 
 pub returns-after-rectangles : goal.returns-after-rectangles

@@ -39,19 +39,39 @@ quant_index-j-requires c = ((sound (goal.at.quant_index-j-requires c).After-tile
 
 pub overflow_mul-j : goal.overflow_mul-j
 overflow_mul-j c =
-    omega (arith, set_fits c.args.m.now c.args.p.sp c.requires.2 _ (below (goal.at.overflow_mul-j c).After-quant_index-j), c.quant_index-j.ensures, c.well_formed)
+    omega (
+      arith,
+      set_fits c.args.m.now c.args.p.sp c.requires.2 _ (below (goal.at.overflow_mul-j c).After-quant_index-j),
+      c.quant_index-j.ensures,
+      c.well_formed,
+    )
 
 pub overflow_add-j : goal.overflow_add-j
 overflow_add-j c =
-    omega (arith, set_fits c.args.m.now c.args.p.sp c.requires.2 _ (below (goal.at.overflow_add-j c).After-quant_index-j), c.quant_index-j.ensures, c.well_formed)
+    omega (
+      arith,
+      set_fits c.args.m.now c.args.p.sp c.requires.2 _ (below (goal.at.overflow_add-j c).After-quant_index-j),
+      c.quant_index-j.ensures,
+      c.well_formed,
+    )
 
 pub overflow_add-sp : goal.overflow_add-sp
 overflow_add-sp c =
-    omega (arith, set_fits c.args.m.now c.args.p.sp c.requires.2 _ (below (goal.at.overflow_add-sp c).After-quant_index-j), c.quant_index-j.ensures, c.well_formed)
+    omega (
+      arith,
+      set_fits c.args.m.now c.args.p.sp c.requires.2 _ (below (goal.at.overflow_add-sp c).After-quant_index-j),
+      c.quant_index-j.ensures,
+      c.well_formed,
+    )
 
 pub quant_at-set-requires : goal.quant_at-set-requires
 quant_at-set-requires c =
-    omega (arith, set_fits c.args.m.now c.args.p.sp c.requires.2 _ (below (goal.at.quant_at-set-requires c).After-quant_index-j), c.quant_index-j.ensures, c.well_formed)
+    omega (
+      arith,
+      set_fits c.args.m.now c.args.p.sp c.requires.2 _ (below (goal.at.quant_at-set-requires c).After-quant_index-j),
+      c.quant_index-j.ensures,
+      c.well_formed,
+    )
 
 pub code_part-code-requires : goal.code_part-code-requires
 code_part-code-requires c = ((sound (goal.at.code_part-code-requires c).After-tile_data-d).good.whole, c.requires.4)

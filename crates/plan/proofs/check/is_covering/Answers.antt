@@ -40,7 +40,11 @@ loop-k-preserved c =
     let r = rising_is s.picks.now pre.1 in
     let a = sym is_at.ensures in (
       omega arith,
-      elim c.if-is_at.branch [ then-is_at v ↦ rw v.finger-is (cover_on _ _ _ _ _ r l.finger l.k l.invariant.1 (a ∙ v.if-is_at.true)) | else-is_at+else-is_changed v ↦ rw v.finger-is (cover_past _ _ _ _ _ r l.finger l.k l.invariant.1 (a ∙ v.if-is_at.false) (sym v.is_changed.ensures ∙ v.if-is_changed.false)) ],
+      elim c.if-is_at.branch [
+        | then-is_at v ↦ rw v.finger-is (cover_on _ _ _ _ _ r l.finger l.k l.invariant.1 (a ∙ v.if-is_at.true))
+        | else-is_at+else-is_changed v ↦ rw v.finger-is (cover_past _ _ _ _ _ r l.finger l.k l.invariant.1 (a ∙ v.if-is_at.false)
+            (sym v.is_changed.ensures ∙ v.if-is_changed.false))
+      ],
     )
 
 pub returns : goal.returns

@@ -29,7 +29,10 @@ loop-k-preserved c =
     let l = c.loop-k in
     let p = changed_tile s.old.now s.new.now s.w s.h in (
       omega arith,
-      elim c.if-is_changed.branch [ then-is_changed v ↦ v.count-is ∙ count_yes p l.k _ l.invariant.1 (sym c.is_changed.ensures ∙ v.if-is_changed.true) | else-is_changed v ↦ v.count-is ∙ count_no p l.k _ l.invariant.1 (sym c.is_changed.ensures ∙ v.if-is_changed.false) ],
+      elim c.if-is_changed.branch [
+        | then-is_changed v ↦ v.count-is ∙ count_yes p l.k _ l.invariant.1 (sym c.is_changed.ensures ∙ v.if-is_changed.true)
+        | else-is_changed v ↦ v.count-is ∙ count_no p l.k _ l.invariant.1 (sym c.is_changed.ensures ∙ v.if-is_changed.false)
+      ],
     )
 
 pub returns : goal.returns

@@ -52,7 +52,12 @@ loop-k-preserved c =
     let m = listing_room s.old.now s.new.now s.w s.h _ tiles-no.ensures.0 s.out.now l.out l.i l.k l.invariant.1 in
     let room = m loop-test.true pre.1 in (
       omega arith,
-      elim c.if-is_changed.branch [ then-is_changed v ↦ rw (v.out-is, v.i-is) (listing_yes p _ l.out l.i l.k l.invariant.1 (d ∙ v.if-is_changed.true) (room (d ∙ v.if-is_changed.true))) | else-is_changed v ↦ rw (v.out-is, v.i-is) (listing_no p _ l.out l.i l.k l.invariant.1 (d ∙ v.if-is_changed.false)) ],
+      elim c.if-is_changed.branch [
+        | then-is_changed v ↦ rw (v.out-is, v.i-is)
+            (listing_yes p _ l.out l.i l.k l.invariant.1 (d ∙ v.if-is_changed.true) (room (d ∙ v.if-is_changed.true)))
+        | else-is_changed v ↦ rw
+            (v.out-is, v.i-is) (listing_no p _ l.out l.i l.k l.invariant.1 (d ∙ v.if-is_changed.false))
+      ],
     )
 
 pub shape_of-out : goal.shape_of-out

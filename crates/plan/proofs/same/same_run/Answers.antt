@@ -31,7 +31,11 @@ pub loop-i-preserved : goal.loop-i-preserved
 loop-i-preserved c =
     let l = c.loop-i in (
       omega arith,
-      elim c.if-a-at.branch [ then-a-at v ↦ v.same-is ∙ run_broken _ _ _ l.i v.if-a-at.true | else-a-at v ↦ v.same-is ∙ run_next _ _ _ l.i _ l.invariant.1 v.if-a-at.false ],
+      elim c.if-a-at.branch [
+        | then-a-at v ↦ v.same-is ∙ run_broken _ _ _ l.i v.if-a-at.true
+        | else-a-at v ↦ v.same-is ∙ run_next _ _ _ l.i _ l.invariant.1
+            v.if-a-at.false
+      ],
     )
 
 pub returns : goal.returns

@@ -14,11 +14,13 @@ front f = let a = f.args in front_at _ a.version a.kind a.at a.m.now f.front_fau
 
 pub returns-then-front-ne0 : goal.returns-then-front-ne0
 unfolding record_fault
-returns-then-front-ne0 c = stops _ _ _ (λ z. c.if-front-ne0.true (front (goal.at.returns-then-front-ne0 c).After-front_fault-front ∙ z)) (front (goal.at.returns-then-front-ne0 c).After-front_fault-front)
+returns-then-front-ne0 c = stops _ _ _ (λ z. c.if-front-ne0.true (front (goal.at.returns-then-front-ne0 c).After-front_fault-front ∙ z))
+    (front (goal.at.returns-then-front-ne0 c).After-front_fault-front)
 
 pub bytes_fault-requires : goal.bytes_fault-requires
 bytes_fault-requires c =
-    front_fits c.args.version c.args.kind c.args.at c.args.m.now c.requires (sym c.if-front-ne0.false ∙ front (goal.at.bytes_fault-requires c).After-front_fault-front)
+    front_fits c.args.version c.args.kind c.args.at c.args.m.now c.requires
+    (sym c.if-front-ne0.false ∙ front (goal.at.bytes_fault-requires c).After-front_fault-front)
 
 pub returns : goal.returns
 unfolding record_fault

@@ -27,7 +27,8 @@ put_one-requires c =
 
 pub returns-then-is_same : goal.returns-then-is_same
 returns-then-is_same c =
-    wrote_one _ _ _ (none (goal.at.returns-then-is_same c).Else-n-ne0) (ten (goal.at.returns-then-is_same c).Start).0 (sym c.is_same.ensures ∙ c.if-is_same.true) c.put_one.ensures
+    wrote_one _ _ _ (none (goal.at.returns-then-is_same c).Else-n-ne0) (ten (goal.at.returns-then-is_same c).Start).0
+    (sym c.is_same.ensures ∙ c.if-is_same.true) c.put_one.ensures
 
 pub put_two-requires : goal.put_two-requires
 put_two-requires c =
