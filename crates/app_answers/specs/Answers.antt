@@ -1,8 +1,8 @@
 -- The calls that only a recording makes: what each answers and leaves, by the promise of the call inside. Lent lists hold 7 before a call, lent output A5.
-use Rattle.std.specs.Prelude.{ℕ, ◌≡◌, Bool, false, List, leb, ℤ, pos, length, replicate}
+use Rattle.std.specs.Prelude.{ℕ, ◌≡◌, Bool, false, List, Result, leb, ℤ, pos, length, replicate}
 use Rattle.whole.specs.Row.{◌!◌⨾◌, ◌⇒◌∣◌, ◌⨟◌}
 use Rattle.wire.specs.Wrote.{length_said, out_left}
-use Rattle.wire.specs.declared.Writing.{Writing}
+use Rattle.wire.specs.declared.Refusal.{Refusal}
 use Rattle.code.specs.Read.{read_into}
 use Rattle.quants.specs.Quants.{one_for}
 use Rattle.quants.specs.declared.Quants.{Quants}
@@ -56,7 +56,7 @@ abbrev pub sent_bytes : Asked → List ℕ → List ℕ
 sent_bytes a pixels = frame_over a.index a.width a.height a.mode (asked_sets a) pixels
 
 -- its promise
-abbrev pub AskedWritten : Asked → List ℕ → List ℤ → List ℤ → List ℤ → List ℤ → List ℕ → List ℕ → Writing → Type 0
+abbrev pub AskedWritten : Asked → List ℕ → List ℤ → List ℤ → List ℤ → List ℤ → List ℕ → List ℕ → Result ℕ Refusal → Type 0
 AskedWritten a pixels list list' scratch scratch' out out' w =
     FrameWrittenOver a.width a.height a.mode (asked_sets a) a.index pixels list list' scratch scratch' out out' w
 

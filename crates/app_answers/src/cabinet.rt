@@ -11,21 +11,16 @@ pub fn read_settings_call(newest: u8, bytes: &[u8])
     ensures { Unit }
 {
     let r = settings::read::read_settings(newest, bytes);
-    let s = r.settings;
-    crate::lines::say_settings(r.number, s);
+    crate::lines::say_settings(wire::number_of(r), settings::read::given(r));
 }
 
 // One call of the writer; the bytes that it wrote.
 pub fn write_settings_call(s: Settings, out: &mut [u8]) -> usize
     ensures { WriterSaid (write_fault s (length out.old)) (settings_of s) out.old out.new result }
 {
-    app_recording::lent::fill_bytes(out, 0xA5);
+    out.fill(0xA5);
     let w = settings::write::write_settings(s, out);
-    let n = wire::writing_length(w);
-    crate::lines::say_hash(
-        wire::writing_number(w),
-        n,
-        app_recording::lent::hash_bytes(out),
-    );
+    let n = wire::count_of(w);
+    crate::lines::say_hash(wire::number_of(w), n, app_recording::lent::hash(out));
     n
 }

@@ -13,19 +13,19 @@ pub fn read_caps_call(message: &[u8])
     ensures { Unit }
 {
     let r = caps::read::read_caps(message);
-    crate::lines::say_caps(caps::read::caps_number(r), caps::read::caps_fields(r));
+    crate::lines::say_caps(wire::number_of(r), caps::read::caps_fields(r));
 }
 
 // One call of its writer.
 pub fn write_caps_call(c: Caps, out: &mut [u8])
     ensures { WriterMade (caps_fault c (length out.old)) (caps_of c) out.old out.new }
 {
-    app_recording::lent::fill_bytes(out, 0xA5);
+    out.fill(0xA5);
     let w = caps::write::write_caps(c, out);
     crate::lines::say_hash(
-        wire::writing_number(w),
-        wire::writing_length(w),
-        app_recording::lent::hash_bytes(out),
+        wire::number_of(w),
+        wire::count_of(w),
+        app_recording::lent::hash(out),
     );
 }
 
@@ -34,19 +34,19 @@ pub fn read_ack_cap_call(message: &[u8])
     ensures { Unit }
 {
     let r = caps::read::read_ack_cap(message);
-    crate::lines::say_ack_cap(caps::read::ack_cap_number(r), caps::read::ack_cap_count(r));
+    crate::lines::say_ack_cap(wire::number_of(r), caps::read::ack_cap_count(r));
 }
 
 // One call of its writer.
 pub fn write_ack_cap_call(count: u32, out: &mut [u8])
     ensures { WriterMade (ack_cap_fault (length out.old)) (ack_cap_of count) out.old out.new }
 {
-    app_recording::lent::fill_bytes(out, 0xA5);
+    out.fill(0xA5);
     let w = caps::write::write_ack_cap(count, out);
     crate::lines::say_hash(
-        wire::writing_number(w),
-        wire::writing_length(w),
-        app_recording::lent::hash_bytes(out),
+        wire::number_of(w),
+        wire::count_of(w),
+        app_recording::lent::hash(out),
     );
 }
 
@@ -55,18 +55,18 @@ pub fn read_ack_call(message: &[u8])
     ensures { Unit }
 {
     let r = caps::read::read_ack(message);
-    crate::lines::say_ack(caps::read::ack_number(r), caps::read::ack_fields(r));
+    crate::lines::say_ack(wire::number_of(r), caps::read::ack_fields(r));
 }
 
 // One call of its writer.
 pub fn write_ack_call(a: Ack, out: &mut [u8])
     ensures { WriterMade (ack_fault a.version (length out.old)) (ack_of a) out.old out.new }
 {
-    app_recording::lent::fill_bytes(out, 0xA5);
+    out.fill(0xA5);
     let w = caps::write::write_ack(a, out);
     crate::lines::say_hash(
-        wire::writing_number(w),
-        wire::writing_length(w),
-        app_recording::lent::hash_bytes(out),
+        wire::number_of(w),
+        wire::count_of(w),
+        app_recording::lent::hash(out),
     );
 }

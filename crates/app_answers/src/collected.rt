@@ -28,9 +28,9 @@ pub fn take_call(c: Collector, bytes: &[u8], store: &mut [u8]) -> Collector
     crate::lines::say_took(
         answer,
         t.taken,
-        app_recording::lent::hash_bytes(app_text::loading::first(store, size_of(answer))),
+        app_recording::lent::hash(app_text::loading::first(store, size_of(answer))),
         after,
-        app_recording::lent::hash_bytes(store),
+        app_recording::lent::hash(store),
     );
     after
 }
@@ -40,6 +40,6 @@ pub fn reset_call(store: &[u8]) -> Collector
     ensures { result ≡ fresh }
 {
     let c = collect::reset();
-    crate::lines::say_reset(c, app_recording::lent::hash_bytes(store));
+    crate::lines::say_reset(c, app_recording::lent::hash(store));
     c
 }

@@ -7,6 +7,7 @@ use collect::{Collected, Collector};
 use quants::Quants;
 use session::Session;
 use settings::Settings;
+use wire::Numbered;
 
 // A number behind a blank.
 fn say_next(n: u64) {
@@ -15,10 +16,8 @@ fn say_next(n: u64) {
 
 // Numbers, each behind a blank.
 fn say_row(row: &[u64]) {
-    let mut i: usize = 0;
-    while i < row.len() {
-        say_next(row[i]);
-        i += 1;
+    for n in row {
+        say_next(*n);
     }
 }
 
@@ -95,7 +94,7 @@ fn say_answer(answer: Collected) {
         Collected::More => app_text::lines::say(OUT, b"w"),
         Collected::Header(_) => app_text::lines::say(OUT, b"h"),
         Collected::Frame(_) => app_text::lines::say(OUT, b"f"),
-        Collected::Refused(number) => say_first(number),
+        Collected::Refused(refusal) => say_first(refusal.number()),
     }
 }
 
@@ -169,13 +168,10 @@ fn say_pair(low: u8, high: u8) {
 
 // A set as its five bytes, behind a blank.
 fn say_set(q: Quant) {
-    let v = q.v;
     app_text::lines::say(OUT, b" ");
-    say_pair(v[0], v[1]);
-    say_pair(v[2], v[3]);
-    say_pair(v[4], v[5]);
-    say_pair(v[6], v[7]);
-    say_pair(v[8], v[9]);
+    for i in 0..5 {
+        say_pair(q.v[2 * i], q.v[2 * i + 1]);
+    }
 }
 
 // The two sets, or that there are none.

@@ -7,7 +7,8 @@ ghost use Rattle.app_answers.specs.Answers.{PlanLeft};
 pub fn check_call(width: usize, height: usize, old: &[u8], new: &[u8], picks: &[u32])
     ensures { Unit }
 {
-    crate::lines::say_alone(plan::check::check_plan(width, height, old, new, picks));
+    let answer = plan::check::check_plan(width, height, old, new, picks);
+    crate::lines::say_alone(wire::number_of(answer));
 }
 
 // One call of the planner on a list lent.
@@ -16,8 +17,8 @@ pub fn plan_call(width: usize, height: usize, old: &[u8], new: &[u8], list: &mut
 {
     let p = plan::make::make_plan(width, height, old, new, list);
     crate::lines::say_hash(
-        plan::make::planned_number(p),
-        plan::make::planned_count(p),
-        app_recording::lent::hash_wide(list),
+        wire::number_of(p),
+        wire::count_of(p),
+        app_recording::lent::hash(list),
     );
 }

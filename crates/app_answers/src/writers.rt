@@ -8,7 +8,7 @@ ghost use Rattle.app_answers.specs.Answers.{component_left, WriterSaid, pair_fit
 
 use frame_write::size::Job;
 use quants::Quants;
-use wire::Writing;
+use wire::Refusal;
 
 // u: the two lists are untouched (7); z: they hold only zeros.
 fn letter_of(a: &[i32], b: &[i32]) -> u8 {
@@ -25,12 +25,12 @@ fn letter_of(a: &[i32], b: &[i32]) -> u8 {
 pub fn component_call(mode: u8, code: &[u8], list: &mut [i32])
     ensures { list.new ≡ component_left mode code.now list.old }
 {
-    app_recording::lent::fill_list(list, 7);
+    list.fill(7);
     let r = panel::read_component(mode, code, list);
     crate::lines::say_hash(
         code::read::reading_number(r),
         code::read::reading_bits(r),
-        app_recording::lent::hash_list(list),
+        app_recording::lent::hash(list),
     );
 }
 
@@ -38,14 +38,10 @@ pub fn component_call(mode: u8, code: &[u8], list: &mut [i32])
 pub fn writer_call(mode: u8, list: &[i32], out: &mut [u8]) -> usize
     ensures { WriterSaid (write_fault mode list.now (length out.old)) (bytes_of mode list.now) out.old out.new result }
 {
-    app_recording::lent::fill_bytes(out, 0xA5);
+    out.fill(0xA5);
     let w = panel::write_component(mode, list, out);
-    let n = wire::writing_length(w);
-    crate::lines::say_hash(
-        wire::writing_number(w),
-        n,
-        app_recording::lent::hash_bytes(out),
-    );
+    let n = wire::count_of(w);
+    crate::lines::say_hash(wire::number_of(w), n, app_recording::lent::hash(out));
     n
 }
 
@@ -53,14 +49,10 @@ pub fn writer_call(mode: u8, list: &[i32], out: &mut [u8]) -> usize
 pub fn headers_call(width: usize, height: usize, mode: u8, out: &mut [u8]) -> usize
     ensures { WriterSaid (headers_fault width height mode (length out.old)) (headers_of width height mode) out.old out.new result }
 {
-    app_recording::lent::fill_bytes(out, 0xA5);
+    out.fill(0xA5);
     let w = panel::write_headers(width, height, mode, out);
-    let n = wire::writing_length(w);
-    crate::lines::say_hash(
-        wire::writing_number(w),
-        n,
-        app_recording::lent::hash_bytes(out),
-    );
+    let n = wire::count_of(w);
+    crate::lines::say_hash(wire::number_of(w), n, app_recording::lent::hash(out));
     n
 }
 
@@ -82,17 +74,15 @@ fn written_by(
     list: &mut [i32],
     scratch: &mut [i32],
     out: &mut [u8],
-) -> Writing
+) -> Result<usize, Refusal>
     ensures { AskedWritten a pixels.now list.old list.new scratch.old scratch.new out.old out.new result }
 {
-    let q = a.q;
     let w = a.width;
     let h = a.height;
     if a.sets {
-        return panel::write_frame_sets(w, h, a.mode, q, a.index, pixels, list, scratch, out);
+        return panel::write_frame_sets(w, h, a.mode, a.q, a.index, pixels, list, scratch, out);
     }
-    let luma = q.luma;
-    panel::write_frame(w, h, a.mode, luma, a.index, pixels, list, scratch, out)
+    panel::write_frame(w, h, a.mode, a.q.luma, a.index, pixels, list, scratch, out)
 }
 
 // The frame writer on an output of A5, with its second list, a part of one of 8,192; a count of bytes beyond any output, and nothing filled, where more is asked for.
@@ -102,17 +92,18 @@ fn writer_with_one(a: Asked, pixels: &[u8], list: &mut [i32], two: usize, out: &
     let mut space = [7i32; 8192];
     let scratch: &mut [i32] = &mut space;
     if scratch.len() < two {
+        // more is asked for than there is: the largest number, as `FrameSent` of specs/ has it
         return usize::MAX;
     }
-    app_recording::lent::fill_bytes(out, 0xA5);
+    out.fill(0xA5);
     let w = written_by(a, pixels, list, &mut scratch[0..two], out);
-    let n = wire::writing_length(w);
+    let n = wire::count_of(w);
     let after = &scratch[..];
     crate::lines::say_written(
-        wire::writing_number(w),
+        wire::number_of(w),
         n,
         letter_of(list, &after[0..two]),
-        app_recording::lent::hash_bytes(out),
+        app_recording::lent::hash(out),
     );
     n
 }
@@ -147,15 +138,15 @@ fn short_with_one(
     if scratch.len() < two {
         return usize::MAX;
     }
-    app_recording::lent::fill_bytes(out, 0xA5);
+    out.fill(0xA5);
     let w = short_write::write_frame_short(job, old, new, picks, list, &mut scratch[0..two], out);
-    let n = wire::writing_length(w);
+    let n = wire::count_of(w);
     let after = &scratch[..];
     crate::lines::say_written(
-        wire::writing_number(w),
+        wire::number_of(w),
         n,
         letter_of(list, &after[0..two]),
-        app_recording::lent::hash_bytes(out),
+        app_recording::lent::hash(out),
     );
     n
 }

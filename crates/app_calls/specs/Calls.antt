@@ -1,7 +1,8 @@
 -- Header calls and frame calls that a program makes: what each answers and leaves, by the promise of the call inside. Lent lists hold 7 before a call.
 use Rattle.std.specs.Prelude.{◌≡◌, ℕ, ◌-◌, Bool, false, leb, List, length, take, drop, nat_le}
 use Rattle.whole.specs.Row.{◌!◌⨾◌, ◌⇒◌∣◌}
-use Rattle.session.specs.Header.{header_number, header_record, header_reading}
+use Rattle.session.specs.Header.{header_record, header_reading}
+use Rattle.wire.specs.Refusal.{number_of}
 use Rattle.session.specs.declared.Session.{Session}
 use Rattle.frame.specs.Frame.{call_fault, frame_number, frame_picture}
 use Rattle.app_calls.specs.declared.calls.Heard.{Heard}
@@ -13,7 +14,7 @@ abbrev pub header_left : Session → List ℕ → Session
 header_left s m = header_record (header_reading s m) s
 
 unfoldable pub heard : Session → List ℕ → Heard
-heard s m = record { number = header_number (header_reading s m); session = header_left s m }
+heard s m = record { number = number_of (header_reading s m); session = header_left s m }
 
 -- four headers as our writer lays them out, each to a header call; 1 (cut) where they are not all there
 abbrev pub between : ℕ → ℕ → List ℕ → List ℕ

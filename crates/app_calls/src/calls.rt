@@ -1,11 +1,14 @@
 // Header calls and frame calls on the public functions of `panel`, each with its line of text: 01's number, its values, the record after it, and a hash of the
 // lent memory. Lent lists hold 7 before a call. What 01 says of lent memory ("untouched", "only zeros") shows in the line. What each call answers and leaves is
 // the promise of the call inside (specs/Calls). The frame call is there for pictures of either word size.
-ghost use Rattle.std.specs.Prelude.{◌≡◌, false, leb, length, nat_le};
+ghost use Rattle.std.specs.Prelude.{◌≡◌, false, leb, length, map, nat_le};
 ghost use Rattle.whole.specs.Row.{◌!◌⨾◌};
 ghost use Rattle.app_calls.specs.Calls.{header_left, heard, four_back, fits, FrameMade};
 
+use app_recording::lent::{Hashed, all_are};
+use colour::GlassWord;
 use session::Session;
+use wire::Refusal;
 
 // The line of a frame call: a recording's; or a short one, with a comma in front of all but the first part; or words, with the call's count.
 #[derive(Clone, Copy)]
@@ -16,10 +19,7 @@ pub enum Line {
 }
 
 fn both_are(a: &[i32], b: &[i32], v: i32) -> bool {
-    if app_recording::lent::all_are(a, v) {
-        return app_recording::lent::all_are(b, v);
-    }
-    false
+    all_are(a, v) && all_are(b, v)
 }
 
 // u: the two lists are untouched (7); z: they hold only zeros.
@@ -47,7 +47,7 @@ pub fn header_call(s: Session, message: &[u8]) -> Session
 {
     let h = panel::read_header(s, message);
     let after = session::header_record(h, s);
-    crate::lines::say_header(session::header_number(h), after);
+    crate::lines::say_header(wire::number_of(h), after);
     after
 }
 
@@ -64,7 +64,7 @@ fn read_one(s: Session, message: &[u8]) -> Heard
     let h = panel::read_header(s, message);
     let after = session::header_record(h, s);
     Heard {
-        number: session::header_number(h),
+        number: wire::number_of(h),
         session: after,
     }
 }
@@ -124,31 +124,36 @@ pub struct Lengths {
 }
 
 // The line of a frame call that was made.
-fn say_line(l: Line, s: Session, number: u8, tiles: usize, letter: u8, picture: &[u16]) {
+fn say_line<W: GlassWord + Hashed>(
+    l: Line,
+    s: Session,
+    r: Result<usize, Refusal>,
+    letter: u8,
+    picture: &[W],
+) {
+    let number = wire::number_of(r);
+    let tiles = wire::count_of(r);
     match l {
-        Line::Recorded => crate::lines::say_frame(
-            number,
-            tiles,
-            letter,
-            s,
-            app_recording::lent::hash_words(picture),
-        ),
+        Line::Recorded => {
+            let hash = app_recording::lent::hash(picture);
+            crate::lines::say_frame(number, tiles, letter, s, hash);
+        }
         Line::Short(before) => crate::lines::say_short_frame(before, number, tiles),
         Line::Told(count) => app_text::lines::say_frame(app_text::lines::ERR, count, number, tiles),
     }
 }
 
 // The frame call, with its third list, a part of one of 8,192; false where more is asked for.
-fn frame_with_two(
+fn frame_with_two<W: GlassWord + Hashed>(
     s: Session,
     message: &[u8],
-    picture: &mut [u16],
+    picture: &mut [W],
     y: &mut [i32],
     cb: &mut [i32],
     three: usize,
     l: Line,
 ) -> bool
-    ensures { FrameMade 0 (nat_le three 8192) s message.now (length y.old) (length cb.old) three picture.old picture.new result }
+    ensures { FrameMade W.GLASS (nat_le three 8192) s message.now (length y.old) (length cb.old) three (map W.number picture.old) (map W.number picture.new) result }
 {
     let mut space = [7i32; 8192];
     let mut scratch = [7i32; 4096];
@@ -159,27 +164,20 @@ fn frame_with_two(
     let r = panel::read_frame(s, message, picture, y, cb, &mut cr[0..three], &mut scratch);
     let after = &cr[..];
     let letter = work_letter(pair_letter(y, cb), pair_letter(&after[0..three], &scratch));
-    say_line(
-        l,
-        s,
-        frame::call::frame_number(r),
-        frame::call::frame_tiles(r),
-        letter,
-        picture,
-    );
+    say_line(l, s, r, letter, picture);
     true
 }
 
 // The same with its second list.
-fn frame_with_one(
+fn frame_with_one<W: GlassWord + Hashed>(
     s: Session,
     message: &[u8],
-    picture: &mut [u16],
+    picture: &mut [W],
     y: &mut [i32],
     n: Lengths,
     l: Line,
 ) -> bool
-    ensures { FrameMade 0 (leb n.two 8192 ! false ⨾ leb n.three 8192) s message.now (length y.old) n.two n.three picture.old picture.new result }
+    ensures { FrameMade W.GLASS (leb n.two 8192 ! false ⨾ leb n.three 8192) s message.now (length y.old) n.two n.three (map W.number picture.old) (map W.number picture.new) result }
 {
     let mut space = [7i32; 8192];
     let cb: &mut [i32] = &mut space;
@@ -191,8 +189,14 @@ fn frame_with_one(
 }
 
 // One frame call, on lists of these lengths; false where more is asked for than there is.
-pub fn frame_call(s: Session, message: &[u8], picture: &mut [u16], n: Lengths, l: Line) -> bool
-    ensures { FrameMade 0 (fits n.one n.two n.three) s message.now n.one n.two n.three picture.old picture.new result }
+pub fn frame_call<W: GlassWord + Hashed>(
+    s: Session,
+    message: &[u8],
+    picture: &mut [W],
+    n: Lengths,
+    l: Line,
+) -> bool
+    ensures { FrameMade W.GLASS (fits n.one n.two n.three) s message.now n.one n.two n.three (map W.number picture.old) (map W.number picture.new) result }
 {
     let mut space = [7i32; 8192];
     let y: &mut [i32] = &mut space;
@@ -201,84 +205,4 @@ pub fn frame_call(s: Session, message: &[u8], picture: &mut [u16], n: Lengths, l
         return false;
     }
     frame_with_one(s, message, picture, &mut y[0..one], n, l)
-}
-
-// The same for pictures of 32-bit words: the line of a frame call that was made.
-fn say_line_32(l: Line, s: Session, number: u8, tiles: usize, letter: u8, picture: &[u32]) {
-    match l {
-        Line::Recorded => crate::lines::say_frame(
-            number,
-            tiles,
-            letter,
-            s,
-            app_recording::lent::hash_wide(picture),
-        ),
-        Line::Short(before) => crate::lines::say_short_frame(before, number, tiles),
-        Line::Told(count) => app_text::lines::say_frame(app_text::lines::ERR, count, number, tiles),
-    }
-}
-
-// The frame call, with its third list, a part of one of 8,192; false where more is asked for.
-fn frame_with_two_32(
-    s: Session,
-    message: &[u8],
-    picture: &mut [u32],
-    y: &mut [i32],
-    cb: &mut [i32],
-    three: usize,
-    l: Line,
-) -> bool
-    ensures { FrameMade 1 (nat_le three 8192) s message.now (length y.old) (length cb.old) three picture.old picture.new result }
-{
-    let mut space = [7i32; 8192];
-    let mut scratch = [7i32; 4096];
-    let cr: &mut [i32] = &mut space;
-    if cr.len() < three {
-        return false;
-    }
-    let r = panel::read_frame_32(s, message, picture, y, cb, &mut cr[0..three], &mut scratch);
-    let after = &cr[..];
-    let letter = work_letter(pair_letter(y, cb), pair_letter(&after[0..three], &scratch));
-    say_line_32(
-        l,
-        s,
-        frame::call::frame_number(r),
-        frame::call::frame_tiles(r),
-        letter,
-        picture,
-    );
-    true
-}
-
-// The same with its second list.
-fn frame_with_one_32(
-    s: Session,
-    message: &[u8],
-    picture: &mut [u32],
-    y: &mut [i32],
-    n: Lengths,
-    l: Line,
-) -> bool
-    ensures { FrameMade 1 (leb n.two 8192 ! false ⨾ leb n.three 8192) s message.now (length y.old) n.two n.three picture.old picture.new result }
-{
-    let mut space = [7i32; 8192];
-    let cb: &mut [i32] = &mut space;
-    let two = n.two;
-    if cb.len() < two {
-        return false;
-    }
-    frame_with_two_32(s, message, picture, y, &mut cb[0..two], n.three, l)
-}
-
-// One frame call, on lists of these lengths; false where more is asked for than there is.
-pub fn frame_call_32(s: Session, message: &[u8], picture: &mut [u32], n: Lengths, l: Line) -> bool
-    ensures { FrameMade 1 (fits n.one n.two n.three) s message.now n.one n.two n.three picture.old picture.new result }
-{
-    let mut space = [7i32; 8192];
-    let y: &mut [i32] = &mut space;
-    let one = n.one;
-    if y.len() < one {
-        return false;
-    }
-    frame_with_one_32(s, message, picture, &mut y[0..one], n, l)
 }

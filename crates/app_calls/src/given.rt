@@ -1,6 +1,6 @@
 // A stream given to the collector, some bytes at a time: each part that it hands on goes to its call, and a line says what came of it. Document 02, request
 // One: "A call stops at the end of what it hands on and says how many bytes it took; the rest is given again." specs/Given says what is left of it.
-ghost use Rattle.std.specs.Prelude.{◌≡◌, drop};
+ghost use Rattle.std.specs.Prelude.{◌≡◌};
 ghost use Rattle.app_calls.specs.Calls.{header_left};
 ghost use Rattle.app_calls.specs.Given.{fresh_desk, started, moved, header_desk, frame_desk, scene, scene_after, PartPlayed, given_to};
 
@@ -40,32 +40,17 @@ pub fn fresh(s: Session, c: Collector) -> Desk
 fn start(d: Desk) -> Desk
     ensures { result ≡ started d }
 {
-    let s = d.s;
-    let c = d.c;
-    Desk {
-        s: s,
-        c: c,
-        at: 0,
-        width: d.width,
-        height: d.height,
-        headers: d.headers,
-        frames: d.frames,
-    }
+    Desk { at: 0, ..d }
 }
 
 // After a hand-over that took so many bytes.
 pub fn advance(d: Desk, c: Collector, taken: usize) -> Desk
     ensures { result ≡ moved d c taken }
 {
-    let s = d.s;
     Desk {
-        s: s,
-        c: c,
-        at: std::num::wrapping_add_usize(d.at, taken),
-        width: d.width,
-        height: d.height,
-        headers: d.headers,
-        frames: d.frames,
+        c,
+        at: d.at.wrapping_add(taken),
+        ..d
     }
 }
 
@@ -73,58 +58,37 @@ pub fn advance(d: Desk, c: Collector, taken: usize) -> Desk
 pub fn after_header(d: Desk, s: Session) -> Desk
     ensures { result ≡ header_desk d s }
 {
-    let c = d.c;
+    let headers = d.headers.wrapping_add(1);
     if s.width == 0 {
-        return Desk {
-            s: s,
-            c: c,
-            at: d.at,
-            width: d.width,
-            height: d.height,
-            headers: std::num::wrapping_add_u64(d.headers, 1),
-            frames: d.frames,
-        };
+        return Desk { s, headers, ..d };
     }
     Desk {
-        s: s,
-        c: c,
-        at: d.at,
+        s,
         width: s.width,
         height: s.height,
-        headers: std::num::wrapping_add_u64(d.headers, 1),
-        frames: d.frames,
+        headers,
+        ..d
     }
 }
 
 pub fn after_frame(d: Desk) -> Desk
     ensures { result ≡ frame_desk d }
 {
-    let s = d.s;
-    let c = d.c;
     Desk {
-        s: s,
-        c: c,
-        at: d.at,
-        width: d.width,
-        height: d.height,
-        headers: d.headers,
-        frames: std::num::wrapping_add_u64(d.frames, 1),
+        frames: d.frames.wrapping_add(1),
+        ..d
     }
 }
 
 // How many parts were handed on before.
 fn parts(d: Desk) -> u64 {
-    std::num::wrapping_add_u64(d.headers, d.frames)
+    d.headers.wrapping_add(d.frames)
 }
 
 // The line of a header call.
 fn say_header(d: Desk, number: u8, told: bool) {
     if told {
-        app_text::lines::say_header(
-            app_text::lines::ERR,
-            std::num::wrapping_add_u64(d.headers, 1),
-            number,
-        );
+        app_text::lines::say_header(app_text::lines::ERR, d.headers.wrapping_add(1), number);
         return;
     }
     crate::lines::say_short_header(parts(d), number);
@@ -136,14 +100,14 @@ pub fn header(d: Desk, message: &[u8], told: bool) -> Desk
 {
     let s = d.s;
     let h = panel::read_header(s, message);
-    say_header(d, session::header_number(h), told);
+    say_header(d, wire::number_of(h), told);
     after_header(d, session::header_record(h, s))
 }
 
 // The line of a frame call.
 fn line_of(d: Desk, told: bool) -> Line {
     if told {
-        return Line::Told(std::num::wrapping_add_u64(d.frames, 1));
+        return Line::Told(d.frames.wrapping_add(1));
     }
     Line::Short(parts(d))
 }
@@ -167,19 +131,8 @@ fn part(
             crate::calls::frame_call(d.s, message, picture, n, line_of(d, told));
             after_frame(d)
         }
-        Collected::Refused(number) => d,
+        Collected::Refused(_) => d,
     }
-}
-
-// The bytes from a place on, none where it is past their end.
-pub fn rest(m: &[u8], at: usize) -> &[u8]
-    ensures { result.now ≡ drop at m.now }
-{
-    let end = m.len();
-    if end < at {
-        return &m[..0];
-    }
-    &m[at..end]
 }
 
 // One hand-over of what is left, and the part that it hands on to its call.
@@ -193,7 +146,7 @@ fn step(
 ) -> Desk
     ensures { scene result store.new picture.new ≡ scene_after n bytes.now (scene d store.old picture.old) }
 {
-    let t = collect::collect(d.c, rest(bytes, d.at), store);
+    let t = collect::collect(d.c, app_text::loading::rest(bytes, d.at), store);
     let c = t.collector;
     let answer = t.answer;
     part(advance(d, c, t.taken), answer, store, picture, n, told)
@@ -211,10 +164,11 @@ pub fn give(
     ensures { scene result store.new picture.new ≡ given_to n bytes.now (scene d store.old picture.old) }
 {
     let mut e = start(d);
-    let mut turns = bytes.len();
-    while 0 < turns && e.at < bytes.len() {
+    for _ in 0..bytes.len() {
+        if bytes.len() <= e.at {
+            return e;
+        }
         e = step(e, bytes, store, picture, n, told);
-        turns -= 1;
     }
     e
 }

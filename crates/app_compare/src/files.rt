@@ -26,10 +26,7 @@ pub struct Seen {
 pub fn open(rt: &HostRuntime, name: &[u8]) -> Option<File>
     ensures { Opened name.now (descriptor result) }
 {
-    match app_text::files::open(rt, name) {
-        Ok(file) => Some(file),
-        Err(_) => None,
-    }
+    app_text::files::open(rt, name).ok()
 }
 
 // So many bytes of an open file, from a place on, into a part that is lent: how many came. It has no places where it is a pipe.
@@ -161,12 +158,10 @@ fn count_through(
     requires { width ≤ 4096 }
     ensures { RowsCounted (descriptor a.now) (descriptor b.now) width height counts.old counts.new result }
 {
-    let mut y: u16 = 0;
-    while y < height {
+    for y in 0..height {
         if !count_both(a, b, width, y, counts) {
             return false;
         }
-        y += 1;
     }
     true
 }

@@ -16,11 +16,11 @@ use app_text::lines::OUT;
 use std::fs::File;
 use tile_diff::pic::Verdict;
 
-// The picture for people, where there are tiles to list and i is not 0, to the file that argument i names.
+// The picture for people, where there are tiles to list, to the file that argument i names, if any.
 fn show(
     rt: &HostRuntime,
     v: Verdict,
-    i: usize,
+    i: Option<usize>,
     file: &Option<File>,
     width: u16,
     height: u16,
@@ -28,13 +28,8 @@ fn show(
 )
     requires { v ≡ Tiles → width ≤ 4096 }
 {
-    if i == 0 {
-        return;
-    }
-    match v {
-        Verdict::Tiles => crate::shown::bmp_out(rt, i, file, width, height, counts),
-        Verdict::Size => {}
-        Verdict::Bad => {}
+    if let (Verdict::Tiles, Some(i)) = (v, i) {
+        crate::shown::bmp_out(rt, i, file, width, height, counts);
     }
 }
 
@@ -43,7 +38,7 @@ fn answer(
     rt: &HostRuntime,
     a: &[u8],
     b: &[u8],
-    i: usize,
+    i: Option<usize>,
     counts: &mut [u32],
     out: &mut [u8],
 ) -> usize
@@ -59,7 +54,7 @@ fn answer(
     n
 }
 
-fn print(rt: &HostRuntime, a: &[u8], b: &[u8], i: usize, out: &mut [u8])
+fn print(rt: &HostRuntime, a: &[u8], b: &[u8], i: Option<usize>, out: &mut [u8])
     requires { length out.old ≡ 131072 }
 {
     let mut counts = [0u32; 2048];
@@ -68,13 +63,13 @@ fn print(rt: &HostRuntime, a: &[u8], b: &[u8], i: usize, out: &mut [u8])
 }
 
 // The large one comes as an array: its length is known without counting.
-fn print_in(rt: &HostRuntime, a: &[u8], b: &[u8], i: usize, out: &mut [u8; 131072]) {
+fn print_in(rt: &HostRuntime, a: &[u8], b: &[u8], i: Option<usize>, out: &mut [u8; 131072]) {
     print(rt, a, b, i, out);
 }
 
-// Compares the files of two names and prints what they give, at once. Where there are tiles to list, and i is not 0, the picture for people goes to the file
-// that argument i names.
-pub fn compare(rt: &HostRuntime, a: &[u8], b: &[u8], i: usize)
+// Compares the files of two names and prints what they give, at once. Where there are tiles to list, the picture for people goes to the file that argument i
+// names, if any.
+pub fn compare(rt: &HostRuntime, a: &[u8], b: &[u8], i: Option<usize>)
     ensures { Unit }
 {
     let mut out = [0u8; 131072];

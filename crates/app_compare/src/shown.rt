@@ -1,11 +1,20 @@
 // The picture for people as a BMP: the second picture dimmed, the differing tiles framed. Its rows go from below, so each is looked up in the file again.
 ghost use Rattle.std.specs.Prelude.{◌≤◌};
 
+use app_pictures::out::Unwritten;
+use app_pictures::word::Word;
 use std::fs::File;
 use std::os::fd::AsRawFd;
 
-// The words of row y, marked, as the bytes of a row of the BMP, to the output: whether they could be written.
-fn write_row(out: i32, file: &Option<File>, width: u16, height: u16, y: u16, counts: &[u32]) -> bool
+// The words of row y, marked, as the bytes of a row of the BMP, to the output.
+fn write_row(
+    out: i32,
+    file: &Option<File>,
+    width: u16,
+    height: u16,
+    y: u16,
+    counts: &[u32],
+) -> Result<(), Unwritten>
     requires { width ≤ 4096 }
 {
     let mut row = [0u8; 8192];
@@ -20,29 +29,23 @@ fn write_row(out: i32, file: &Option<File>, width: u16, height: u16, y: u16, cou
         &mut words,
     );
     app_pictures::bmp::put_words(&words, &mut row);
-    app_pictures::out::write_start(out, &row, app_pictures::bmp::row_size(width))
+    app_pictures::out::write_start(out, &row, u16::row_size(width))
 }
 
-fn write_up(out: i32, file: &Option<File>, width: u16, height: u16, counts: &[u32]) -> bool
+fn write_bmp(
+    out: i32,
+    file: &Option<File>,
+    width: u16,
+    height: u16,
+    counts: &[u32],
+) -> Result<(), Unwritten>
     requires { width ≤ 4096 }
 {
-    let mut left = height;
-    while 0 < left {
-        left -= 1;
-        if !write_row(out, file, width, height, left, counts) {
-            return false;
-        }
+    app_pictures::out::write_bmp_head::<u16>(out, width, height)?;
+    for y in (0..height).rev() {
+        write_row(out, file, width, height, y, counts)?;
     }
-    true
-}
-
-fn write_bmp(out: i32, file: &Option<File>, width: u16, height: u16, counts: &[u32]) -> bool
-    requires { width ≤ 4096 }
-{
-    if app_pictures::out::write_bmp_head(out, width, height) {
-        return write_up(out, file, width, height, counts);
-    }
-    false
+    Ok(())
 }
 
 // The BMP of a second picture whose counts are known, to the file that argument i names.

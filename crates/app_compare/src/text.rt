@@ -5,7 +5,7 @@ ghost use Rattle.tile_diff.specs.Text.{decimal_of, line_text, tiles_text, text_o
 ghost use Rattle.tile_diff.specs.declared.pic.Verdict.TheVariants.{Tiles};
 ghost use Rattle.app_compare.specs.Text.{Texted, Put, Lined, lines_in, tiles_in};
 
-use tile_diff::count::{Line, Next};
+use tile_diff::count::Line;
 use tile_diff::pic::Verdict;
 
 // How many bytes there are now, and how many lines.
@@ -20,8 +20,9 @@ fn put(out: &mut [u8], at: usize, text: &[u8]) -> usize
     requires { at + length text.now ≤ length out.old }
     ensures { Put out.old out.new at result text.now }
 {
-    collect::copy(out, at, text, 0, text.len());
-    at + text.len()
+    let end = at + text.len();
+    out[at..end].copy_from_slice(text);
+    end
 }
 
 fn put_number(out: &mut [u8], at: usize, n: u64) -> usize
@@ -60,16 +61,12 @@ fn put_lines(counts: &[u32], width: u16, height: u16, out: &mut [u8]) -> Lines
     let mut at: usize = 0;
     let mut t: usize = 0;
     let mut k: usize = 0;
-    loop {
-        match tile_diff::count::next_tile(counts, width, height, k) {
-            Next::Tile(j, l) => {
-                at = put_line(out, at, l);
-                t += 1;
-                k = j + 1;
-            }
-            Next::End => return Lines { at: at, t: t },
-        }
+    while let Some((j, l)) = tile_diff::count::next_tile(counts, width, height, k) {
+        at = put_line(out, at, l);
+        t += 1;
+        k = j + 1;
     }
+    Lines { at, t }
 }
 
 // The last line.

@@ -38,16 +38,16 @@ unfoldable pub head_of : Packing → ℕ → ℕ → ℕ → List ℕ
 head_of p width height size = file_head size ++ (info_head p.bits width height ++ (info_rest size ++ masks p))
 
 -- words as bytes, each by `bytes`: low byte first in a BMP (`bytes16`, `bytes32`), red, green and blue in a PNG (specs/Png)
-unfoldable pub word_bytes : (ℕ → List ℕ) → List ℕ → List ℕ
+unfoldable pub word_bytes : {A : Type 0} → (A → List ℕ) → List A → List ℕ
 word_bytes bytes [] = []
 word_bytes bytes (w ∷ ws) = bytes w ++ word_bytes bytes ws
 
 -- words of k bytes each at the start of an output, which is left as it is where there is no room
-unfoldable pub put_words : ℕ → (ℕ → List ℕ) → List ℕ → List ℕ → List ℕ
+unfoldable pub put_words : {A : Type 0} → ℕ → (A → List ℕ) → List A → List ℕ → List ℕ
 put_words k bytes ws out = nat_le (length ws) (length out / k) ! out ⨾ written (word_bytes bytes ws) out
 
 -- the words of a picture's row, "row by row, width words a row"; none where they are not all there
-unfoldable pub row_of : List ℕ → ℕ → ℕ → List ℕ
+unfoldable pub row_of : {A : Type 0} → List A → ℕ → ℕ → List A
 row_of picture width r =
     nat_le width 4096 ! take 0 picture ⨾
     nat_le r 2048 ! take 0 picture ⨾

@@ -1,8 +1,10 @@
 // A picture of words of 16 bits (5-6-5) or of 32 (8-8-8) as a BMP file of as many bits a pixel: its head, and the words of a row as bytes. specs/Bmp has the
 // layout.
 ghost use Rattle.std.specs.Prelude.{◌≡◌, ◌+◌, ◌*◌, ◌<◌, ◌≤◌, length};
-ghost use Rattle.wire.specs.Le.{bytes16, bytes32, patch, written};
-ghost use Rattle.app_pictures.specs.Bmp.{row_size, packed16, packed32, file_head, info_head, info_rest, masks, head_of, row_of, put_words};
+ghost use Rattle.wire.specs.Le.{patch, written};
+ghost use Rattle.app_pictures.specs.Bmp.{file_head, info_head, info_rest, masks, head_of, row_of, put_words};
+
+use crate::word::Word;
 
 // How a word says its colours: how many bits it has, and where red, green and blue are in it.
 #[derive(Clone, Copy)]
@@ -11,20 +13,6 @@ pub struct Packing {
     pub red: usize,
     pub green: usize,
     pub blue: usize,
-}
-
-// The bytes of a row in the file: two for each word, filled up to a multiple of four.
-pub fn row_size(width: u16) -> usize
-    ensures { result ≡ row_size width }
-{
-    2 * (width as usize + width as usize % 2)
-}
-
-// Of words of 32 bits: four for each.
-pub fn row_size_32(width: u16) -> usize
-    ensures { result ≡ 4 * width }
-{
-    4 * (width as usize)
 }
 
 fn put_file_head(out: &mut [u8], size: usize)
@@ -87,93 +75,28 @@ fn rows_size(row: usize, height: u16) -> usize
 }
 
 // The file's head: 66 bytes.
-pub fn put_head(out: &mut [u8; 66], width: u16, height: u16)
-    ensures { out.new ≡ head_of packed16 width height (row_size width * height) }
+pub fn put_head<W: Word>(out: &mut [u8; 66], width: u16, height: u16)
+    ensures { out.new ≡ head_of W.packing width height (W.row_size width * height) }
 {
-    let size = rows_size(row_size(width), height);
-    let p = Packing {
-        bits: 16,
-        red: 0xF800,
-        green: 0x07E0,
-        blue: 0x001F,
-    };
-    put_parts(out, p, width as usize, height as usize, size);
-}
-
-// The head of a file with words of 32 bits.
-pub fn put_head_32(out: &mut [u8; 66], width: u16, height: u16)
-    ensures { out.new ≡ head_of packed32 width height (4 * width * height) }
-{
-    let size = rows_size(row_size_32(width), height);
-    let p = Packing {
-        bits: 32,
-        red: 0xFF0000,
-        green: 0x00FF00,
-        blue: 0x0000FF,
-    };
-    put_parts(out, p, width as usize, height as usize, size);
-}
-
-fn wide(x: u16) -> usize
-    ensures { result ≡ x }
-{
-    x as usize
+    let size = rows_size(W::row_size(width), height);
+    put_parts(out, W::packing(), width as usize, height as usize, size);
 }
 
 // Words as bytes, low byte first, at the start of the output; nothing where there is no room.
-pub fn put_words(words: &[u16], out: &mut [u8])
-    ensures { out.new ≡ put_words 2 bytes16 words.now out.old }
+pub fn put_words<W: Word>(words: &[W], out: &mut [u8])
+    ensures { out.new ≡ put_words W.size W.bytes words.now out.old }
 {
-    if out.len() / 2 < words.len() {
+    let size = W::size();
+    if out.len() / size < words.len() {
         return;
     }
-    let mut i: usize = 0;
-    while i < words.len() {
-        wire::put16_at(out, 2 * i, wide(words[i]));
-        i += 1;
-    }
-}
-
-fn wide_32(x: u32) -> usize
-    ensures { result ≡ x }
-{
-    x as usize
-}
-
-// The same of words of 32 bits.
-pub fn put_words_32(words: &[u32], out: &mut [u8])
-    ensures { out.new ≡ put_words 4 bytes32 words.now out.old }
-{
-    if out.len() / 4 < words.len() {
-        return;
-    }
-    let mut i: usize = 0;
-    while i < words.len() {
-        wire::put32_at(out, 4 * i, wide_32(words[i]));
-        i += 1;
+    for (i, word) in words.iter().enumerate() {
+        word.put_bytes(out, size * i);
     }
 }
 
 // The words of a picture's row, none where they are not all there.
-pub fn row(picture: &[u16], width: usize, r: usize) -> &[u16]
-    ensures { result.now ≡ row_of picture.now width r }
-{
-    if 4096 < width {
-        return &picture[..0];
-    }
-    if 2048 < r {
-        return &picture[..0];
-    }
-    let a = r * width;
-    let e = a + width;
-    if picture.len() < e {
-        return &picture[..0];
-    }
-    &picture[a..e]
-}
-
-// The same of words of 32 bits.
-pub fn row_32(picture: &[u32], width: usize, r: usize) -> &[u32]
+pub fn row<W: Word>(picture: &[W], width: usize, r: usize) -> &[W]
     ensures { result.now ≡ row_of picture.now width r }
 {
     if 4096 < width {

@@ -9,12 +9,32 @@ pub struct Figure {
     pub at: usize,
 }
 
-// What a head or a picture came to: width, height and the place of the first pixel, or which fault: 1 not P6, 2 no head, 3 a largest value other than 255,
-// 4 a size that is not allowed, 5 more than 2^20 pixels, 6 too few bytes, 7 too many.
+// What the head of a picture says: its size, and the place of the first pixel.
 #[derive(Clone, Copy)]
-pub enum Head {
-    Good(usize, usize, usize),
-    Refused(u8),
+pub struct Head {
+    pub width: usize,
+    pub height: usize,
+    pub at: usize,
+}
+
+// Why a picture is not taken: it is not P6, its head cannot be read, its largest value is not 255, its size is not allowed, it has more than 2^20 pixels,
+// too few bytes or too many.
+#[derive(Clone, Copy, Debug, PartialEq, Eq)]
+pub enum Unfit {
+    Kind,
+    Unread,
+    Largest,
+    Size,
+    Pixels,
+    Few,
+    Many,
+}
+
+// What the bytes that are skipped are: blanks, or a comment, which ends with its line.
+#[derive(Clone, Copy)]
+enum Skipped {
+    Blank,
+    Comment,
 }
 
 fn is_digit(b: u8) -> bool
@@ -67,6 +87,7 @@ pub fn number(m: &[u8], from: usize) -> Figure
 {
     let mut at = from;
     let mut value: usize = 0;
+    // No range: the place that is reached is wanted behind the loop.
     while at < m.len() {
         let b = m[at];
         if !is_digit(b) {
@@ -84,23 +105,17 @@ pub fn number(m: &[u8], from: usize) -> Figure
     }
 }
 
-// Where a byte leaves the skipping of blanks and comments: 0 neither, 1 a blank, 2 in a comment, which ends with its line.
-fn after(state: u8, b: u8) -> u8
+// Where a byte leaves the skipping; nowhere if it is neither blank nor comment.
+fn after(state: Skipped, b: u8) -> Option<Skipped>
     ensures { result ≡ after_of state b }
 {
-    if state == 2 {
-        if b == 10 {
-            return 1;
-        }
-        return 2;
+    match state {
+        Skipped::Comment if b != 10 => Some(Skipped::Comment),
+        Skipped::Comment => Some(Skipped::Blank),
+        Skipped::Blank if is_blank(b) => Some(Skipped::Blank),
+        Skipped::Blank if b == 35 => Some(Skipped::Comment),
+        Skipped::Blank => None,
     }
-    if is_blank(b) {
-        return 1;
-    }
-    if b == 35 {
-        return 2;
-    }
-    0
 }
 
 // The first place from one on that is neither blank nor comment.
@@ -108,32 +123,33 @@ fn skip(m: &[u8], from: usize) -> usize
     ensures { result ≡ skip_at m.now from }
 {
     let mut at = from;
-    let mut state: u8 = 1;
+    let mut state = Skipped::Blank;
+    // No range, for the same reason.
     while at < m.len() {
-        state = after(state, m[at]);
-        if state == 0 {
-            return at;
+        match after(state, m[at]) {
+            Some(next) => state = next,
+            None => return at,
         }
         at += 1;
     }
     at
 }
 
-// The number between two places, if there is a blank before it and a digit in it; else the place is 0.
-fn field_of(from: usize, start: usize, f: Figure) -> Figure
+// The number between two places, if there is a blank before it and a digit in it.
+fn field_of(from: usize, start: usize, f: Figure) -> Result<Figure, Unfit>
     ensures { result ≡ field_of from start f }
 {
     if start <= from {
-        return Figure { value: 0, at: 0 };
+        return Err(Unfit::Unread);
     }
     if f.at <= start {
-        return Figure { value: 0, at: 0 };
+        return Err(Unfit::Unread);
     }
-    f
+    Ok(f)
 }
 
 // The next number of a head, behind blanks or comments.
-fn field(m: &[u8], from: usize) -> Figure
+fn field(m: &[u8], from: usize) -> Result<Figure, Unfit>
     ensures { result ≡ field_at m.now from }
 {
     let start = skip(m, from);
@@ -162,100 +178,85 @@ fn blank_at(m: &[u8], at: usize) -> bool
 }
 
 // What follows the largest value: one blank.
-fn closed(m: &[u8], width: usize, height: usize, most: Figure) -> Head
+fn closed(m: &[u8], width: usize, height: usize, most: Figure) -> Result<Head, Unfit>
     ensures { result ≡ closed_of m.now width height most }
 {
-    let at = most.at;
-    if at == 0 {
-        return Head::Refused(2);
+    if !blank_at(m, most.at) {
+        return Err(Unfit::Unread);
     }
-    if blank_at(m, at) {
-        if most.value != 255 {
-            return Head::Refused(3);
-        }
-        return Head::Good(width, height, at + 1);
+    if most.value != 255 {
+        return Err(Unfit::Largest);
     }
-    Head::Refused(2)
+    Ok(Head {
+        width: width,
+        height: height,
+        at: most.at + 1,
+    })
 }
 
 // The head of a picture.
-fn read_head(m: &[u8]) -> Head
+fn read_head(m: &[u8]) -> Result<Head, Unfit>
     ensures { result ≡ head_of m.now }
 {
-    if is_p6(m) {
-        let w = field(m, 2);
-        if w.at == 0 {
-            return Head::Refused(2);
-        }
-        let h = field(m, w.at);
-        if h.at == 0 {
-            return Head::Refused(2);
-        }
-        return closed(m, w.value, h.value, field(m, h.at));
+    if !is_p6(m) {
+        return Err(Unfit::Kind);
     }
-    Head::Refused(1)
+    let w = field(m, 2)?;
+    let h = field(m, w.at)?;
+    let most = field(m, h.at)?;
+    closed(m, w.value, h.value, most)
 }
 
 // 01's sizes, and what the program has room for.
-fn size_fault(width: usize, height: usize) -> u8
+fn size_fault(width: usize, height: usize) -> Result<(), Unfit>
     ensures { result ≡ size_fault width height }
 {
     if width < 1 {
-        return 4;
+        return Err(Unfit::Size);
     }
     if 4096 < width {
-        return 4;
+        return Err(Unfit::Size);
     }
     if height < 1 {
-        return 4;
+        return Err(Unfit::Size);
     }
     if 2048 < height {
-        return 4;
+        return Err(Unfit::Size);
     }
     if 1048576 < width * height {
-        return 5;
+        return Err(Unfit::Pixels);
     }
-    0
+    Ok(())
 }
 
 // Three bytes a pixel, from a place to the end.
-fn bytes_fault(need: usize, at: usize, n: usize) -> u8
+fn bytes_fault(need: usize, at: usize, n: usize) -> Result<(), Unfit>
     ensures { result ≡ bytes_fault need at n }
 {
     if n < at {
-        return 6;
+        return Err(Unfit::Few);
     }
     if n - at < need {
-        return 6;
+        return Err(Unfit::Few);
     }
     if need < n - at {
-        return 7;
+        return Err(Unfit::Many);
     }
-    0
+    Ok(())
 }
 
-// A picture of a size, whose pixels begin at a place of n bytes.
-fn sized(width: usize, height: usize, at: usize, n: usize) -> Head
-    ensures { result ≡ sized_of width height at n }
+// A picture whose head is that, in n bytes.
+fn sized(h: Head, n: usize) -> Result<Head, Unfit>
+    ensures { result ≡ sized_of h n }
 {
-    let size = size_fault(width, height);
-    if size != 0 {
-        return Head::Refused(size);
-    }
-    let bytes = bytes_fault(3 * (width * height), at, n);
-    if bytes != 0 {
-        return Head::Refused(bytes);
-    }
-    Head::Good(width, height, at)
+    size_fault(h.width, h.height)?;
+    bytes_fault(3 * (h.width * h.height), h.at, n)?;
+    Ok(h)
 }
 
 // A whole picture.
-pub fn read_picture(m: &[u8]) -> Head
+pub fn read_picture(m: &[u8]) -> Result<Head, Unfit>
     ensures { result ≡ picture_of m.now }
 {
-    let h = read_head(m);
-    match h {
-        Head::Good(width, height, at) => sized(width, height, at, m.len()),
-        Head::Refused(fault) => Head::Refused(fault),
-    }
+    sized(read_head(m)?, m.len())
 }

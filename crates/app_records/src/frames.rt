@@ -1,6 +1,8 @@
 // The records of a recording on a picture: another picture ('P'), a frame call on a message ('F'), and one on what the frame writer wrote ('G'). Lists and
 // pictures have the lengths and the picture the word size that the recording says.
 use app_calls::calls::{Lengths, Line};
+use app_recording::lent::{Hashed, Word};
+use colour::GlassWord;
 use session::Session;
 
 // Has the picture of a 'P' words of 32 bits?
@@ -8,20 +10,14 @@ pub fn is_wide(m: &[u8]) -> bool {
     crate::taking::figure(m, 2) == 32
 }
 
-fn set_narrow(n: usize, seed: usize, picture: &mut [u16]) -> usize {
-    if picture.len() < n {
-        return usize::MAX;
+fn set<W: Word>(n: usize, seed: usize, picture: &mut [W]) -> usize {
+    match picture.get_mut(..n) {
+        Some(part) => {
+            app_recording::lent::fill_picture(part, seed);
+            n
+        }
+        None => usize::MAX,
     }
-    app_recording::lent::fill_picture(&mut picture[0..n], seed);
-    n
-}
-
-fn set_wide(n: usize, seed: usize, wide: &mut [u32]) -> usize {
-    if wide.len() < n {
-        return usize::MAX;
-    }
-    app_recording::lent::fill_picture_32(&mut wide[0..n], seed);
-    n
 }
 
 // 'P': how many words it has, the largest number where there are not so many.
@@ -29,9 +25,9 @@ pub fn set_picture(m: &[u8], picture: &mut [u16], wide: &mut [u32]) -> usize {
     let n = crate::taking::figure(m, 0);
     let seed = crate::taking::figure(m, 1);
     if is_wide(m) {
-        return set_wide(n, seed, wide);
+        return set(n, seed, wide);
     }
-    set_narrow(n, seed, picture)
+    set(n, seed, picture)
 }
 
 // The lengths of the work lists.
@@ -43,18 +39,18 @@ pub fn lengths(m: &[u8]) -> Lengths {
     }
 }
 
-fn narrow(s: Session, bytes: &[u8], picture: &mut [u16], words: usize, n: Lengths) -> bool {
-    if picture.len() < words {
-        return false;
+// A frame call on the first words of a picture.
+fn frame_on<W: GlassWord + Hashed>(
+    s: Session,
+    bytes: &[u8],
+    picture: &mut [W],
+    words: usize,
+    n: Lengths,
+) -> bool {
+    match picture.get_mut(..words) {
+        Some(part) => app_calls::calls::frame_call(s, bytes, part, n, Line::Recorded),
+        None => false,
     }
-    app_calls::calls::frame_call(s, bytes, &mut picture[0..words], n, Line::Recorded)
-}
-
-fn wider(s: Session, bytes: &[u8], wide: &mut [u32], words: usize, n: Lengths) -> bool {
-    if wide.len() < words {
-        return false;
-    }
-    app_calls::calls::frame_call_32(s, bytes, &mut wide[0..words], n, Line::Recorded)
 }
 
 // 'F', 'G', on the picture that is lent, of so many words of 16 or of 32 bits: false where the recording asks for more than there is.
@@ -68,7 +64,7 @@ pub fn frame(
     wide: &mut [u32],
 ) -> bool {
     if is_wide {
-        return wider(s, bytes, wide, words, n);
+        return frame_on(s, bytes, wide, words, n);
     }
-    narrow(s, bytes, picture, words, n)
+    frame_on(s, bytes, picture, words, n)
 }

@@ -3,23 +3,24 @@
 use crate::taking::Record;
 use session::Session;
 
+#[derive(Clone, Copy, Debug, PartialEq, Eq)]
+pub enum Leaving {
+    Put,
+    Opened,
+    Header,
+    HeadersBack,
+}
+
 // 'R': its four numbers, on the glass that the session has.
 fn put(m: &[u8], glass: u8) -> Session {
-    let s = session::of_numbers(
-        app_recording::read::byte_of(crate::taking::figure(m, 0)),
-        app_recording::read::word_of(crate::taking::figure(m, 1)),
-        app_recording::read::word_of(crate::taking::figure(m, 2)),
-        app_recording::read::byte_of(crate::taking::figure(m, 3)),
-    );
     Session {
-        headers: s.headers,
-        mode: s.mode,
-        width: s.width,
-        height: s.height,
-        columns: s.columns,
-        rows: s.rows,
-        words: s.words,
-        glass: glass,
+        glass,
+        ..session::of_numbers(
+            app_recording::read::byte_of(crate::taking::figure(m, 0)),
+            app_recording::read::word_of(crate::taking::figure(m, 1)),
+            app_recording::read::word_of(crate::taking::figure(m, 2)),
+            app_recording::read::byte_of(crate::taking::figure(m, 3)),
+        )
     }
 }
 
@@ -32,12 +33,11 @@ fn opened(m: &[u8]) -> Session {
 }
 
 // Where such a record stands in memory, and what was written last.
-pub fn known(s: Session, r: Record, m: &[u8], last: &[u8]) -> Session {
-    let letter = r.letter;
-    match letter {
-        b'R' => put(m, s.glass),
-        b'T' => opened(m),
-        b'H' => app_calls::calls::header_call(s, crate::taking::one(m, r)),
-        _ => app_calls::calls::headers_back_call(s, last),
+pub fn known(kind: Leaving, s: Session, r: Record, m: &[u8], last: &[u8]) -> Session {
+    match kind {
+        Leaving::Put => put(m, s.glass),
+        Leaving::Opened => opened(m),
+        Leaving::Header => app_calls::calls::header_call(s, crate::taking::one(m, r)),
+        Leaving::HeadersBack => app_calls::calls::headers_back_call(s, last),
     }
 }

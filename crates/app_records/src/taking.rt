@@ -1,162 +1,124 @@
 // The records of a recording as they come off standard input: a letter, little-endian numbers of four bytes, quantiser sets, and up to three parts of bytes or
 // numbers, each behind its count. What follows the letter is kept in memory: numbers and sets from its first byte on, the parts from byte 64 on, one behind the
 // other. No section of document 01 is made true here.
-use app_recording::read::In;
+use crate::known::Leaving;
+use crate::told::Answered;
+use crate::wrote::Writer;
+use app_recording::read::Input;
 
-// A record in memory: its letter, 0 where there is no record more and '?' where it is cut or asks for too much, and the end of each part.
+// What a record asks for: a call that is told by a line, one that writes, another session record, something of the collector; a stream through it; another
+// picture; a frame call on a message, or on what was written last; a new case.
+#[derive(Clone, Copy, Debug, PartialEq, Eq)]
+pub enum Kind {
+    Told(Answered),
+    Wrote(Writer),
+    Known(Leaving),
+    Stored(Stored),
+    Given,
+    Picture,
+    Frame,
+    FrameBack,
+    Fresh,
+}
+
+// A fresh collector, another length of its store, a hand-over, a reset.
+#[derive(Clone, Copy, Debug, PartialEq, Eq)]
+pub enum Stored {
+    Collector,
+    Length,
+    Take,
+    Reset,
+}
+
+// A record in memory: what it asks for, and the end of each part.
 #[derive(Clone, Copy)]
 pub struct Record {
-    pub letter: u8,
+    pub kind: Kind,
     pub one: usize,
     pub two: usize,
     pub three: usize,
 }
 
-// The bytes of numbers and sets behind a letter.
-fn head_of(letter: u8) -> usize {
-    match letter {
-        b'D' | b'S' | b'T' | b'k' | b'l' | b's' => 4,
-        b'C' | b'W' | b'b' | b'c' | b'e' => 8,
-        b'P' | b'F' | b'G' | b'g' | b'p' => 12,
-        b'R' | b'X' => 16,
-        b'w' => 28,
-        b'j' => 40,
-        b'Z' => 42,
-        b'y' | b'q' => 52,
-        _ => 0,
-    }
+// What a letter asks for, the bytes of numbers and sets behind it, and the bytes of one thing of each part, 0 where there is no such part: a run of a list, an
+// entry, a piece's length, a byte, a tile's number. None for a letter that is no record's.
+fn shape_of(letter: u8) -> Option<(Kind, usize, [usize; 3])> {
+    Some(match letter {
+        b'C' => (Kind::Told(Answered::Component), 8, [1, 0, 0]),
+        b'D' => (Kind::Told(Answered::ComponentBack), 4, [0, 0, 0]),
+        b's' => (Kind::Told(Answered::Settings), 4, [1, 0, 0]),
+        b'S' => (Kind::Told(Answered::SettingsBack), 4, [0, 0, 0]),
+        b'a' => (Kind::Told(Answered::Caps), 0, [1, 0, 0]),
+        b'd' => (Kind::Told(Answered::AckCap), 0, [1, 0, 0]),
+        b'i' => (Kind::Told(Answered::Ack), 0, [1, 0, 0]),
+        b'c' => (Kind::Told(Answered::Check), 8, [1, 1, 4]),
+        b'p' => (Kind::Told(Answered::Plan), 12, [1, 1, 0]),
+        b'W' => (Kind::Wrote(Writer::Component), 8, [8, 0, 0]),
+        b'X' => (Kind::Wrote(Writer::Headers), 16, [0, 0, 0]),
+        b'w' => (Kind::Wrote(Writer::Settings), 28, [0, 0, 0]),
+        b'b' => (Kind::Wrote(Writer::Caps), 8, [8, 0, 0]),
+        b'e' => (Kind::Wrote(Writer::AckCap), 8, [0, 0, 0]),
+        b'j' => (Kind::Wrote(Writer::Ack), 40, [0, 0, 0]),
+        b'Z' => (Kind::Wrote(Writer::Frame), 42, [1, 0, 0]),
+        b'y' => (Kind::Wrote(Writer::FrameSets), 52, [1, 0, 0]),
+        b'q' => (Kind::Wrote(Writer::Short), 52, [1, 1, 4]),
+        b'R' => (Kind::Known(Leaving::Put), 16, [0, 0, 0]),
+        b'T' => (Kind::Known(Leaving::Opened), 4, [0, 0, 0]),
+        b'H' => (Kind::Known(Leaving::Header), 0, [1, 0, 0]),
+        b'Y' => (Kind::Known(Leaving::HeadersBack), 0, [0, 0, 0]),
+        b'k' => (Kind::Stored(Stored::Collector), 4, [0, 0, 0]),
+        b'l' => (Kind::Stored(Stored::Length), 4, [0, 0, 0]),
+        b't' => (Kind::Stored(Stored::Take), 0, [1, 0, 0]),
+        b'r' => (Kind::Stored(Stored::Reset), 0, [0, 0, 0]),
+        b'g' => (Kind::Given, 12, [4, 1, 0]),
+        b'P' => (Kind::Picture, 12, [0, 0, 0]),
+        b'F' => (Kind::Frame, 12, [1, 0, 0]),
+        b'G' => (Kind::FrameBack, 12, [0, 0, 0]),
+        b'N' => (Kind::Fresh, 0, [0, 0, 0]),
+        _ => return None,
+    })
 }
 
-// The bytes of one thing of its first part, 0 where there is none: a run of a list, an entry, a piece's length, a byte.
-fn first_of(letter: u8) -> usize {
-    match letter {
-        b'W' | b'b' => 8,
-        b'g' => 4,
-        b'H' | b'F' | b'C' | b'Z' | b'y' | b's' | b't' | b'a' | b'd' | b'i' | b'q' | b'c' | b'p' =>
-            1,
-        _ => 0,
-    }
-}
-
-fn second_of(letter: u8) -> usize {
-    match letter {
-        b'g' | b'q' | b'c' | b'p' => 1,
-        _ => 0,
-    }
-}
-
-fn third_of(letter: u8) -> usize {
-    match letter {
-        b'q' | b'c' => 4,
-        _ => 0,
-    }
-}
-
-// Where a part ends in memory, and where the input stands behind it.
-#[derive(Clone, Copy)]
-struct Part {
-    end: usize,
-    from: In,
-}
-
-// So many things of 1, 4 or 8 bytes; more than any memory where there are too many.
-fn bytes_of(count: usize, unit: usize) -> usize {
-    if 1048576 < count {
-        return usize::MAX;
-    }
-    match unit {
-        1 => count,
-        4 => 4 * count,
-        _ => 8 * count,
-    }
-}
-
-// The n bytes from a place on; one that is too long counts as cut.
-fn take_at(
-    rt: &HostRuntime,
-    input: &mut [u8],
-    c: In,
-    message: &mut [u8],
-    at: usize,
-    n: usize,
-) -> In {
-    let end = message.len();
-    if end < at {
-        return app_recording::read::take_message(rt, input, c, message, usize::MAX);
-    }
-    app_recording::read::take_message(rt, input, c, &mut message[at..end], n)
-}
-
-// A part behind its count, or none.
-fn take_part(
-    rt: &HostRuntime,
-    input: &mut [u8],
-    c: In,
-    message: &mut [u8],
-    at: usize,
-    unit: usize,
-) -> Part {
+// A part behind its count, if the record has one, put at a place: where it ends. None where it is cut, has more than 1,048,576 things or finds no room.
+fn take_part(input: &mut Input, message: &mut [u8], at: usize, unit: usize) -> Option<usize> {
     if unit == 0 {
-        return Part { end: at, from: c };
+        return Some(at);
     }
-    let f = app_recording::read::number(rt, input, c);
-    let n = bytes_of(f.value, unit);
-    let from = take_at(rt, input, f.from, message, at, n);
-    Part {
-        end: std::num::wrapping_add_usize(at, n),
-        from: from,
+    let count = input.number()?;
+    if 1048576 < count {
+        return None;
     }
-}
-
-// A record, and where the input stands behind it.
-#[derive(Clone, Copy)]
-pub struct Came {
-    pub record: Record,
-    pub from: In,
-}
-
-// A record that is not there, or not whole.
-fn none(letter: u8, from: In) -> Came {
-    Came {
-        record: Record {
-            letter: letter,
-            one: 64,
-            two: 64,
-            three: 64,
-        },
-        from: from,
-    }
+    let end = at.checked_add(count.checked_mul(unit)?)?;
+    input.fill(message.get_mut(at..end)?)?;
+    Some(end)
 }
 
 // What stands behind a letter.
-fn take_parts(rt: &HostRuntime, input: &mut [u8], c: In, message: &mut [u8], letter: u8) -> Came {
-    let head = app_recording::read::take_message(rt, input, c, message, head_of(letter));
-    let a = take_part(rt, input, head, message, 64, first_of(letter));
-    let b = take_part(rt, input, a.from, message, a.end, second_of(letter));
-    let e = take_part(rt, input, b.from, message, b.end, third_of(letter));
-    let from = e.from;
-    if !from.whole {
-        return none(b'?', from);
-    }
-    Came {
-        record: Record {
-            letter: letter,
-            one: a.end,
-            two: b.end,
-            three: e.end,
-        },
-        from: from,
-    }
+fn take_parts(input: &mut Input, message: &mut [u8], letter: u8) -> Option<Record> {
+    let (kind, head, units) = shape_of(letter)?;
+    input.message(message, head)?;
+    let one = take_part(input, message, 64, units[0])?;
+    let two = take_part(input, message, one, units[1])?;
+    let three = take_part(input, message, two, units[2])?;
+    Some(Record {
+        kind,
+        one,
+        two,
+        three,
+    })
 }
 
-// The next record. An end of the input between two records is the end.
-pub fn take(rt: &HostRuntime, input: &mut [u8], c: In, message: &mut [u8]) -> Came {
-    let b = app_recording::read::next(rt, input, c);
-    let from = b.from;
-    if !from.whole {
-        return none(0, from);
+// A record is cut, asks for too much, or has a letter that is no record's.
+#[derive(Clone, Copy)]
+pub struct Bad;
+
+// The next record. An end of the input between two records is the end, and so is a byte 0 there.
+pub fn take(input: &mut Input, message: &mut [u8]) -> Result<Option<Record>, Bad>
+    ensures { Unit }
+{
+    match input.next() {
+        Some(0) | None => Ok(None),
+        Some(letter) => Ok(Some(take_parts(input, message, letter).ok_or(Bad)?)),
     }
-    take_parts(rt, input, from, message, b.value)
 }
 
 // The i-th number of a record, 0 where there is none.
@@ -169,13 +131,7 @@ pub fn figure(m: &[u8], i: usize) -> usize {
 
 // The bytes between two places, none where they are not there.
 fn between(m: &[u8], a: usize, e: usize) -> &[u8] {
-    if m.len() < e {
-        return &m[..0];
-    }
-    if e < a {
-        return &m[..0];
-    }
-    &m[a..e]
+    m.get(a..e).unwrap_or(&m[..0])
 }
 
 // The parts of a record.

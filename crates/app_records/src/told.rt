@@ -2,6 +2,20 @@
 // and acknowledgements ('a', 'd', 'i'), the checker ('c') and the planner ('p').
 use crate::taking::Record;
 
+// A reader on the bytes of the record, or on what was written last.
+#[derive(Clone, Copy, Debug, PartialEq, Eq)]
+pub enum Answered {
+    Component,
+    ComponentBack,
+    Settings,
+    SettingsBack,
+    Caps,
+    AckCap,
+    Ack,
+    Check,
+    Plan,
+}
+
 // The component reader on the part of a list that is lent; false where the recording asks for more than there is.
 fn component(mode: usize, code: &[u8], len: usize) -> bool {
     let mut space = [0i32; 8192];
@@ -17,33 +31,14 @@ fn component(mode: usize, code: &[u8], len: usize) -> bool {
     true
 }
 
-// The reader of settings that knows this version.
-fn settings(newest: usize, bytes: &[u8]) -> bool {
-    app_answers::cabinet::read_settings_call(app_recording::read::byte_of(newest), bytes);
-    true
-}
-
-// The container's reader, that of the frame acknowledge capability, that of the frame acknowledge message.
-fn capabilities(letter: u8, bytes: &[u8]) -> bool {
-    match letter {
-        b'a' => app_answers::capabilities::read_caps_call(bytes),
-        b'd' => app_answers::capabilities::read_ack_cap_call(bytes),
-        b'i' => app_answers::capabilities::read_ack_call(bytes),
-        _ => return false,
-    }
-    true
-}
-
 // Tile numbers into a list; how many there are, the largest number where they do not all fit.
 pub fn put_picks(bytes: &[u8], list: &mut [u32]) -> usize {
     let n = bytes.len() / 4;
     if list.len() < n {
         return usize::MAX;
     }
-    let mut i: usize = 0;
-    while i < n {
+    for i in 0..n {
         list[i] = app_recording::read::index_of(crate::taking::figure(bytes, i));
-        i += 1;
     }
     n
 }
@@ -84,29 +79,21 @@ fn plan(r: Record, m: &[u8]) -> bool {
     true
 }
 
-// A call on a message.
-fn read_part(r: Record, m: &[u8]) -> bool {
-    let letter = r.letter;
+// Where such a record stands in memory, and what was written last; false where the recording asks for more than there is.
+pub fn told(kind: Answered, r: Record, m: &[u8], last: &[u8]) -> bool {
     let bytes = crate::taking::one(m, r);
-    match letter {
-        b'C' => component(
-            crate::taking::figure(m, 0),
-            bytes,
-            crate::taking::figure(m, 1),
-        ),
-        b's' => settings(crate::taking::figure(m, 0), bytes),
-        _ => capabilities(letter, bytes),
+    let first = crate::taking::figure(m, 0);
+    let newest = app_recording::read::byte_of(first);
+    match kind {
+        Answered::Component => return component(first, bytes, crate::taking::figure(m, 1)),
+        Answered::ComponentBack => return component(first, last, 4096),
+        Answered::Check => return check(r, m),
+        Answered::Plan => return plan(r, m),
+        Answered::Settings => app_answers::cabinet::read_settings_call(newest, bytes),
+        Answered::SettingsBack => app_answers::cabinet::read_settings_call(newest, last),
+        Answered::Caps => app_answers::capabilities::read_caps_call(bytes),
+        Answered::AckCap => app_answers::capabilities::read_ack_cap_call(bytes),
+        Answered::Ack => app_answers::capabilities::read_ack_call(bytes),
     }
-}
-
-// Where such a record stands in memory, and what was written last.
-pub fn told(r: Record, m: &[u8], last: &[u8]) -> bool {
-    let letter = r.letter;
-    match letter {
-        b'D' => component(crate::taking::figure(m, 0), last, 4096),
-        b'S' => settings(crate::taking::figure(m, 0), last),
-        b'c' => check(r, m),
-        b'p' => plan(r, m),
-        _ => read_part(r, m),
-    }
+    true
 }

@@ -9,40 +9,43 @@ use frame_write::size::Job;
 use quants::Quants;
 use settings::Settings;
 
+#[derive(Clone, Copy, Debug, PartialEq, Eq)]
+pub enum Writer {
+    Component,
+    Headers,
+    Settings,
+    Caps,
+    AckCap,
+    Ack,
+    Frame,
+    FrameSets,
+    Short,
+}
+
 // Four bytes as a signed number.
 fn signed(v: usize) -> i32 {
-    if v < 2147483648 {
-        return v as i32;
+    match u32::try_from(v) {
+        Ok(bits) => bits.cast_signed(),
+        Err(_) => 0,
     }
-    if 4294967295 < v {
-        return 0;
-    }
-    -1 - (4294967295 - v) as i32
 }
 
 // A run of a list, from a place on, and where it ends; the largest number where it does not fit.
 fn put_run(value: usize, times: usize, list: &mut [i32], at: usize) -> usize {
-    if list.len() < at {
+    if list.len() < at || list.len() - at < times {
         return usize::MAX;
     }
-    if list.len() - at < times {
-        return usize::MAX;
-    }
-    app_recording::lent::fill_list(&mut list[at..at + times], signed(value));
+    list[at..at + times].fill(signed(value));
     at + times
 }
 
 // The numbers of a list, run by run; how many there are.
 fn put_runs(runs: &[u8], list: &mut [i32]) -> usize {
     let mut at: usize = 0;
-    let mut i: usize = 0;
-    let mut turns = runs.len() / 8;
-    while 0 < turns {
-        let value = crate::taking::figure(runs, i);
-        let times = crate::taking::figure(runs, std::num::wrapping_add_usize(i, 1));
+    for i in 0..runs.len() / 8 {
+        let value = crate::taking::figure(runs, 2 * i);
+        let times = crate::taking::figure(runs, 2 * i + 1);
         at = put_run(value, times, list, at);
-        i = std::num::wrapping_add_usize(i, 2);
-        turns -= 1;
     }
     at
 }
@@ -72,13 +75,12 @@ fn headers(m: &[u8], out: &mut [u8]) -> usize {
 
 // Ten quantisers at a place.
 fn quant_at(m: &[u8], at: usize) -> Quant {
-    let q = app_text::loading::first(app_calls::given::rest(m, at), 10);
-    if q.len() < 10 {
-        return Quant { v: [0; 10] };
+    let q = app_text::loading::first(app_text::loading::rest(m, at), 10);
+    let mut v = [0; 10];
+    if q.len() == 10 {
+        v.copy_from_slice(q);
     }
-    Quant {
-        v: [q[0], q[1], q[2], q[3], q[4], q[5], q[6], q[7], q[8], q[9]],
-    }
+    Quant { v }
 }
 
 // Luma's and chroma's, or one set that is both.
@@ -90,7 +92,7 @@ fn quants_at(m: &[u8], at: usize, two: bool) -> Quants {
             chroma: luma,
         };
     }
-    let chroma = quant_at(m, std::num::wrapping_add_usize(at, 10));
+    let chroma = quant_at(m, at.wrapping_add(10));
     Quants {
         luma: luma,
         chroma: chroma,
@@ -151,20 +153,6 @@ fn ack_of(m: &[u8]) -> Ack {
     }
 }
 
-// 'b', 'e', 'j': nothing is read back.
-fn capabilities(r: Record, m: &[u8], out: &mut [u8]) -> usize {
-    let letter = r.letter;
-    match letter {
-        b'b' => {
-            let c = caps_of(m, crate::taking::one(m, r));
-            app_answers::capabilities::write_caps_call(c, out);
-        }
-        b'e' => app_answers::capabilities::write_ack_cap_call(index(m, 0), out),
-        _ => app_answers::capabilities::write_ack_call(ack_of(m), out),
-    }
-    0
-}
-
 // What a frame writer is asked for.
 fn asked(m: &[u8], sets: bool) -> Asked {
     Asked {
@@ -217,51 +205,42 @@ fn short(r: Record, m: &[u8], out: &mut [u8]) -> usize {
     short_of(r, m, &list, n, out)
 }
 
-// The frame writers.
-fn frames(r: Record, m: &[u8], out: &mut [u8]) -> usize {
-    let letter = r.letter;
-    match letter {
-        b'Z' => frame(r, m, out, false),
-        b'y' => frame(r, m, out, true),
-        _ => short(r, m, out),
+// The writer on the output that is lent. Capabilities and acknowledgements are not read back.
+fn wrote_in(kind: Writer, r: Record, m: &[u8], out: &mut [u8]) -> usize {
+    match kind {
+        Writer::Component => {
+            return component(crate::taking::figure(m, 0), crate::taking::one(m, r), out);
+        }
+        Writer::Headers => return headers(m, out),
+        Writer::Settings => return cabinet(m, out),
+        Writer::Frame => return frame(r, m, out, false),
+        Writer::FrameSets => return frame(r, m, out, true),
+        Writer::Short => return short(r, m, out),
+        Writer::Caps => {
+            let c = caps_of(m, crate::taking::one(m, r));
+            app_answers::capabilities::write_caps_call(c, out);
+        }
+        Writer::AckCap => app_answers::capabilities::write_ack_cap_call(index(m, 0), out),
+        Writer::Ack => app_answers::capabilities::write_ack_call(ack_of(m), out),
     }
-}
-
-// Headers, a component, settings.
-fn small(r: Record, m: &[u8], out: &mut [u8]) -> usize {
-    let letter = r.letter;
-    match letter {
-        b'W' => component(crate::taking::figure(m, 0), crate::taking::one(m, r), out),
-        b'X' => headers(m, out),
-        _ => cabinet(m, out),
-    }
-}
-
-// The writer on the output that is lent.
-fn wrote_in(r: Record, m: &[u8], out: &mut [u8]) -> usize {
-    let letter = r.letter;
-    match letter {
-        b'Z' | b'y' | b'q' => frames(r, m, out),
-        b'b' | b'e' | b'j' => capabilities(r, m, out),
-        _ => small(r, m, out),
-    }
+    0
 }
 
 // Which number of a record is the output's length.
-fn room_of(letter: u8) -> usize {
-    match letter {
-        b'X' => 3,
-        b'j' => 9,
-        b'Z' | b'y' | b'q' => 7,
-        _ => 1,
+fn room_of(kind: Writer) -> usize {
+    match kind {
+        Writer::Headers => 3,
+        Writer::Ack => 9,
+        Writer::Frame | Writer::FrameSets | Writer::Short => 7,
+        Writer::Component | Writer::Settings | Writer::Caps | Writer::AckCap => 1,
     }
 }
 
 // Where such a record stands in memory, and the output.
-pub fn wrote(r: Record, m: &[u8], out: &mut [u8]) -> usize {
-    let room = crate::taking::figure(m, room_of(r.letter));
+pub fn wrote(kind: Writer, r: Record, m: &[u8], out: &mut [u8]) -> usize {
+    let room = crate::taking::figure(m, room_of(kind));
     if out.len() < room {
         return usize::MAX;
     }
-    wrote_in(r, m, &mut out[0..room])
+    wrote_in(kind, r, m, &mut out[0..room])
 }

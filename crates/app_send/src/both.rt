@@ -1,19 +1,20 @@
 // Two pictures of one size: the stream of the old one, then a short frame of the new one, of the tiles that are listed (02, request Eleven).
 ghost use Rattle.std.specs.Prelude.{◌≡◌, ◌-◌, ◌≤◌, length};
-ghost use Rattle.wire.specs.Wrote.{Wrote};
+ghost use Rattle.short_write.specs.Answer.{WroteShort};
 ghost use Rattle.app_send.specs.Stream.{Behind};
 ghost use Rattle.app_send.specs.Pair.{pair_of};
-ghost use Rattle.app_send.specs.Both.{next_index, next_task, short_fault_in, short_bytes, Changed, BothSent, nothing_of, FilesSent};
+ghost use Rattle.app_send.specs.Both.{next_index, next_task, short_fault_in, short_bytes, Changed, BothSent, FilesSent};
 
-use crate::{Made, Task};
+use crate::{Task, Unmade};
 use frame_write::size::Job;
+use plan::check::PlanRefusal;
 use settings::Settings;
-use wire::Writing;
 
-// What it came to; the bytes of the short frame, those that a full frame of the new picture would have had in its place, and how many tiles the short one has.
+// How many bytes of the output are the stream, and of those the short frame; the bytes that a full frame of the new picture would have had in its place,
+// and how many tiles the short one has.
 #[derive(Clone, Copy)]
 pub struct Both {
-    pub made: Made,
+    pub size: usize,
     pub short: usize,
     pub full: usize,
     pub tiles: usize,
@@ -55,19 +56,23 @@ fn next(t: Task) -> Task
 }
 
 // The short frame of the listed tiles.
-fn short_into(t: Task, old: &[u8], new: &[u8], picks: &[u32], out: &mut [u8]) -> Writing
-    ensures { Wrote (short_fault_in t old.now new.now picks.now (length out.old)) (short_bytes t new.now picks.now) out.old out.new result }
+fn short_into(
+    t: Task,
+    old: &[u8],
+    new: &[u8],
+    picks: &[u32],
+    out: &mut [u8],
+) -> Result<usize, PlanRefusal>
+    ensures { WroteShort (short_fault_in t old.now new.now picks.now (length out.old)) (short_bytes t new.now picks.now) out.old out.new result }
 {
     let mut list = [0i32; 4096];
     let mut scratch = [0i32; 4096];
-    let s = t.settings;
-    let q = s.quants;
     let job = Job {
         width: t.width,
         height: t.height,
-        mode: s.mode,
+        mode: t.settings.mode,
         index: t.index as usize,
-        quants: q,
+        quants: t.settings.quants,
     };
     short_write::write_frame_short(job, old, new, picks, &mut list, &mut scratch, out)
 }
@@ -80,7 +85,7 @@ fn short_behind(
     picks: &[u32],
     at: usize,
     out: &mut [u8],
-) -> Writing
+) -> Result<usize, PlanRefusal>
     requires { at ≤ length out.old }
     ensures { Behind (short_fault_in t old.now new.now picks.now (length out.old - at)) (short_bytes t new.now picks.now) at out.old out.new result }
 {
@@ -89,40 +94,33 @@ fn short_behind(
 }
 
 // Behind a stream that ends at a place: a full frame of the new picture for its length, and the short one in its place.
-fn change(t: Task, old: &[u8], new: &[u8], picks: &[u32], at: usize, out: &mut [u8]) -> Both
+fn change(
+    t: Task,
+    old: &[u8],
+    new: &[u8],
+    picks: &[u32],
+    at: usize,
+    out: &mut [u8],
+) -> Result<Both, Unmade>
     requires { at ≤ length out.old }
     ensures { Changed t old.now new.now picks.now at out.old out.new result }
 {
     let f = crate::frame_behind(t, new, at, out);
     let w = short_behind(t, old, new, picks, at, out);
-    Both {
-        made: crate::after(at, w),
-        short: wire::writing_length(w),
-        full: wire::writing_length(f),
+    Ok(Both {
+        size: crate::after(at, w)?,
+        short: wire::count_of(w),
+        full: wire::count_of(f),
         tiles: picks.len(),
-    }
-}
-
-fn nothing(m: Made) -> Both
-    ensures { result ≡ nothing_of m }
-{
-    Both {
-        made: m,
-        short: 0,
-        full: 0,
-        tiles: 0,
-    }
+    })
 }
 
 // Headers, the full frame of the old picture, the short one of the new.
-pub fn make(t: Task, old: &[u8], new: &[u8], picks: &[u32], out: &mut [u8]) -> Both
+pub fn make(t: Task, old: &[u8], new: &[u8], picks: &[u32], out: &mut [u8]) -> Result<Both, Unmade>
     ensures { BothSent t old.now new.now picks.now (length out.old) out.new result }
 {
-    let m = crate::make(t, old, out);
-    if m.number != 0 {
-        return nothing(m);
-    }
-    change(next(t), old, new, picks, m.size, out)
+    let size = crate::make(t, old, out)?;
+    change(next(t), old, new, picks, size, out)
 }
 
 // The pictures as files have them.
@@ -133,13 +131,10 @@ pub fn pictures(
     new: &[u8],
     picks: &[u32],
     out: &mut [u8],
-) -> Both
+) -> Result<Both, Unmade>
     ensures { FilesSent s index old.now new.now picks.now (length out.old) (pair_of old.now new.now) out.new result }
 {
-    let p = crate::pair::read(old, new);
-    if p.fault != 0 {
-        return nothing(crate::stopped(p.fault, 0));
-    }
+    let p = crate::pair::read(old, new)?;
     let t = Task {
         settings: s,
         index: index,
@@ -148,8 +143,8 @@ pub fn pictures(
     };
     make(
         t,
-        crate::rest(old, p.old),
-        crate::rest(new, p.new),
+        app_text::loading::rest(old, p.old),
+        app_text::loading::rest(new, p.new),
         picks,
         out,
     )

@@ -2,18 +2,23 @@
 // behind them (02, request Eleven). specs/Stream says it as an equation over the bytes of the pictures. No customer links it.
 #![tactic(auto)]
 
-ghost use Rattle.std.specs.Prelude.{◌≡◌, ◌+◌, ◌-◌, ◌≤◌, ◌<◌, length, drop};
-ghost use Rattle.wire.specs.Wrote.{Wrote, writing_length};
+ghost use Rattle.std.specs.Prelude.{◌≡◌, ◌+◌, ◌-◌, ◌≤◌, ◌<◌, length};
+ghost use Rattle.short_write.specs.Answer.{short_count, WroteShort};
 ghost use Rattle.app_pictures.specs.Ppm.{picture_of};
-ghost use Rattle.app_send.specs.Stream.{frame_fault, frame_bytes, stream_fault, stream_of, Sent, Behind, made_behind, stopped_at, PictureSent};
+ghost use Rattle.plan.specs.declared.check.PlanRefusal.TheVariants.{Common};
+ghost use Rattle.app_send.specs.declared.faults.Fault.TheVariants.{Picture};
+ghost use Rattle.app_send.specs.declared.Unmade.TheVariants.{Faulty, Refused};
+ghost use Rattle.app_send.specs.Stream.{frame_fault, frame_bytes, stream_fault, stream_of, Sent, Behind, made_behind, PictureSent};
 
 pub mod both;
 pub mod faults;
 pub mod pair;
 
-use app_pictures::ppm::Head;
+use crate::faults::Fault;
+use app_pictures::ppm::Unfit;
+use plan::check::PlanRefusal;
 use settings::Settings;
-use wire::Writing;
+use wire::Refusal;
 
 // What is to be made of a picture's pixels: by which settings, with which frame index, in which size.
 #[derive(Clone, Copy)]
@@ -24,59 +29,66 @@ pub struct Task {
     pub height: usize,
 }
 
-// What making a stream came to: the fault of a picture, 0 for none; 01's number; how many bytes of the output are the stream.
-#[derive(Clone, Copy)]
-pub struct Made {
-    pub fault: u8,
-    pub number: u8,
-    pub size: usize,
+// Why no stream is made: for what was to be sent, or because a writer refuses.
+#[derive(Clone, Copy, Debug, PartialEq, Eq)]
+pub enum Unmade {
+    Faulty(Fault),
+    Refused(PlanRefusal),
 }
 
-// Nothing goes out.
-pub fn stopped(fault: u8, number: u8) -> Made
-    ensures { result ≡ stopped_at fault number }
-{
-    Made {
-        fault: fault,
-        number: number,
-        size: 0,
+impl From<Fault> for Unmade {
+    ghost from_gives = { λ fault why. why ≡ Faulty fault };
+
+    fn from(fault: Fault) -> Unmade {
+        Unmade::Faulty(fault)
     }
 }
 
-// The bytes from a place on, none where it is past their end.
-pub fn rest(m: &[u8], at: usize) -> &[u8]
-    ensures { result.now ≡ drop at m.now }
-{
-    let end = m.len();
-    if end < at {
-        return &m[..0];
+impl From<Unfit> for Unmade {
+    ghost from_gives = { λ unfit why. why ≡ Faulty (Picture unfit) };
+
+    fn from(unfit: Unfit) -> Unmade {
+        Unmade::Faulty(Fault::Picture(unfit))
     }
-    &m[at..end]
 }
 
-// The frame.
-fn frame_into(t: Task, pixels: &[u8], out: &mut [u8]) -> Writing
-    ensures { Wrote (frame_fault t pixels.now (length out.old)) (frame_bytes t pixels.now) out.old out.new result }
+impl From<PlanRefusal> for Unmade {
+    ghost from_gives = { λ refusal why. why ≡ Refused refusal };
+
+    fn from(refusal: PlanRefusal) -> Unmade {
+        Unmade::Refused(refusal)
+    }
+}
+
+impl From<Refusal> for Unmade {
+    ghost from_gives = { λ refusal why. why ≡ Refused (Common refusal) };
+
+    fn from(refusal: Refusal) -> Unmade {
+        Unmade::Refused(PlanRefusal::Common(refusal))
+    }
+}
+
+// The frame. What it is refused by is one of the short frame's refusals too.
+fn frame_into(t: Task, pixels: &[u8], out: &mut [u8]) -> Result<usize, PlanRefusal>
+    ensures { WroteShort (frame_fault t pixels.now (length out.old)) (frame_bytes t pixels.now) out.old out.new result }
 {
     let mut list = [0i32; 4096];
     let mut scratch = [0i32; 4096];
-    let s = t.settings;
-    let q = s.quants;
-    frame_send::write_frame_sets(
+    Ok(frame_send::write_frame_sets(
         t.width,
         t.height,
-        s.mode,
-        q,
+        t.settings.mode,
+        t.settings.quants,
         t.index,
         pixels,
         &mut list,
         &mut scratch,
         out,
-    )
+    )?)
 }
 
 // The frame behind what stands in the output.
-pub fn frame_behind(t: Task, pixels: &[u8], at: usize, out: &mut [u8]) -> Writing
+pub fn frame_behind(t: Task, pixels: &[u8], at: usize, out: &mut [u8]) -> Result<usize, PlanRefusal>
     requires { at ≤ length out.old }
     ensures { Behind (frame_fault t pixels.now (length out.old - at)) (frame_bytes t pixels.now) at out.old out.new result }
 {
@@ -84,49 +96,32 @@ pub fn frame_behind(t: Task, pixels: &[u8], at: usize, out: &mut [u8]) -> Writin
     frame_into(t, pixels, &mut out[at..e])
 }
 
-// What a writer behind a place came to.
-pub fn after(at: usize, w: Writing) -> Made
-    requires { at + writing_length w < 18446744073709551616 }
+// How many bytes of the output are a stream, where a writer behind a place has ended it.
+pub fn after(at: usize, w: Result<usize, PlanRefusal>) -> Result<usize, Unmade>
+    requires { at + short_count w < 18446744073709551616 }
     ensures { result ≡ made_behind at w }
 {
-    let number = wire::writing_number(w);
-    if number != 0 {
-        return stopped(0, number);
-    }
-    Made {
-        fault: 0,
-        number: 0,
-        size: at + wire::writing_length(w),
-    }
+    Ok(at + w?)
 }
 
 // Headers and frame, one behind the other.
-pub fn make(t: Task, pixels: &[u8], out: &mut [u8]) -> Made
+pub fn make(t: Task, pixels: &[u8], out: &mut [u8]) -> Result<usize, Unmade>
     ensures { Sent 0 (stream_fault t pixels.now (length out.old)) (stream_of t pixels.now) out.new result }
 {
-    let s = t.settings;
-    let w = headers::write_headers(t.width, t.height, s.mode, out);
-    let number = wire::writing_number(w);
-    if number != 0 {
-        return stopped(0, number);
-    }
+    headers::write_headers(t.width, t.height, t.settings.mode, out)?;
     after(47, frame_behind(t, pixels, 47, out))
 }
 
 // A picture as a file has it.
-pub fn picture(s: Settings, index: u32, data: &[u8], out: &mut [u8]) -> Made
+pub fn picture(s: Settings, index: u32, data: &[u8], out: &mut [u8]) -> Result<usize, Unmade>
     ensures { PictureSent s index «data».now (length out.old) (picture_of «data».now) out.new result }
 {
-    match app_pictures::ppm::read_picture(data) {
-        Head::Good(width, height, at) => {
-            let t = Task {
-                settings: s,
-                index: index,
-                width: width,
-                height: height,
-            };
-            make(t, rest(data, at), out)
-        }
-        Head::Refused(fault) => stopped(fault, 0),
-    }
+    let head = app_pictures::ppm::read_picture(data)?;
+    let t = Task {
+        settings: s,
+        index: index,
+        width: head.width,
+        height: head.height,
+    };
+    make(t, app_text::loading::rest(data, head.at), out)
 }

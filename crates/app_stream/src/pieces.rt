@@ -1,6 +1,6 @@
 // The pieces that an input gives, one after the other: the next is read once the one before is at its end. specs/Pieces says what a program that goes by them, turn
 // by turn, comes to. What an input gives is the outside's, of which no contract can speak; that it ends is said by a piece without bytes.
-ghost use Rattle.std.specs.Prelude.{◌≡◌, drop};
+ghost use Rattle.std.specs.Prelude.{◌≡◌};
 ghost use Rattle.app_text.specs.First.{first_of};
 ghost use Rattle.app_stream.specs.Pieces.{Fills};
 
@@ -27,12 +27,9 @@ pub fn start() -> Piece
 
 // Reads at most so many bytes: how many came, 0 at the end of the input.
 fn read_piece(source: &mut impl Read, piece: &mut [u8], size: usize) -> usize {
-    if piece.len() < size {
-        return 0;
-    }
-    match source.read(&mut piece[0..size]) {
-        Ok(n) => n,
-        Err(_) => 0,
+    match piece.get_mut(..size) {
+        Some(part) => source.read(part).unwrap_or(0),
+        None => 0,
     }
 }
 
@@ -54,15 +51,4 @@ pub fn fill(p: Piece, source: &mut impl Read, size: usize, piece: &mut [u8]) -> 
         at: p.at - end,
         last: n == 0,
     }
-}
-
-// The bytes from a place on, none where it is past their end.
-pub fn rest(m: &[u8], at: usize) -> &[u8]
-    ensures { result.now ≡ drop at m.now }
-{
-    let end = m.len();
-    if end < at {
-        return &m[..0];
-    }
-    &m[at..end]
 }

@@ -41,10 +41,7 @@ fn frame_on(part: u8, kind: usize) -> bool
     ensures { result ≡ stays part kind }
 {
     if part == IN_FRAME {
-        if kind == 0xCCC5 {
-            return false;
-        }
-        return true;
+        return kind != 0xCCC5;
     }
     kind == 0xCCC4
 }
@@ -76,11 +73,7 @@ fn bytes_left(inside: bool, left: usize) -> Skip
 fn rest_of(head: usize) -> usize
     ensures { result ≡ behind head }
 {
-    let size = head / 65536;
-    if size < 6 {
-        return 0;
-    }
-    size - 6
+    (head / 65536).saturating_sub(6)
 }
 
 // Behind a head that the collector refused with 13.
@@ -90,7 +83,7 @@ pub fn begin(c: Collector) -> Skip
     bytes_left(frame_on(c.part, c.head % 65536), rest_of(c.head))
 }
 
-// What the collector says of a head by itself, however much room there is.
+// What the collector says of a head by itself, however much room there is: a number, as its record has it (`refused`).
 fn own_fault(head: usize) -> u8
     ensures { result ≡ own_fault head }
 {
@@ -153,13 +146,7 @@ fn byte_over(s: Skip, b: usize) -> Skip
 pub fn goes_on(s: Skip) -> bool
     ensures { result ≡ goes s }
 {
-    if 0 < s.left {
-        return true;
-    }
-    if s.inside {
-        return s.seen < 6;
-    }
-    false
+    0 < s.left || s.inside && s.seen < 6
 }
 
 // Passes over what belongs to it of some bytes.
@@ -167,16 +154,16 @@ pub fn pass_over(from: Skip, bytes: &[u8]) -> Skipped
     ensures { result ≡ skip_from from 0 bytes.now }
 {
     let mut s = from;
-    let mut at: usize = 0;
-    while at < bytes.len() {
-        if goes_on(s) {
-            s = byte_over(s, wire::byte_at(bytes, at));
-            at += 1;
-        } else {
+    for (at, b) in bytes.iter().enumerate() {
+        if !goes_on(s) {
             return Skipped { skip: s, taken: at };
         }
+        s = byte_over(s, *b as usize);
     }
-    Skipped { skip: s, taken: at }
+    Skipped {
+        skip: s,
+        taken: bytes.len(),
+    }
 }
 
 // How the collector goes on behind it: fresh; or at a head that cannot be passed over, refused as it would refuse it.

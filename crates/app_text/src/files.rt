@@ -50,26 +50,17 @@ impl AsRawFd for Target {
 
 // A name as a text.
 fn text_of(name: &[u8]) -> std::io::Result<&str> {
-    match std::str::from_utf8(name) {
-        Ok(text) => Ok(text),
-        Err(_) => Err(Error::from(ErrorKind::InvalidFilename)),
-    }
+    std::str::from_utf8(name).map_err(|_| Error::from(ErrorKind::InvalidFilename))
 }
 
 // Opens the file of a name for reading.
 pub fn open(rt: &HostRuntime, name: &[u8]) -> std::io::Result<File> {
-    match text_of(name) {
-        Ok(text) => File::open(rt, text),
-        Err(e) => Err(e),
-    }
+    File::open(rt, text_of(name)?)
 }
 
 // Opens the file of a name for writing: where it is there it is emptied, else it is made.
 pub fn create(rt: &HostRuntime, name: &[u8]) -> std::io::Result<File> {
-    match text_of(name) {
-        Ok(text) => File::create(rt, text),
-        Err(e) => Err(e),
-    }
+    File::create(rt, text_of(name)?)
 }
 
 // A line on standard error: the name of what failed, and why, in the system's words.

@@ -1,25 +1,19 @@
 // Reads a whole input, a file that an argument names or standard input, into a buffer, of which the first bytes are then what was read.
-ghost use Rattle.std.specs.Prelude.{◌≡◌, ◌≤◌, length};
+ghost use Rattle.std.specs.Prelude.{◌≡◌, ◌≤◌, length, drop, IfSome};
 ghost use Rattle.app_text.specs.First.{first_of};
 
 use crate::files::Source;
 use std::io::Read;
 use std::os::fd::AsRawFd;
 
-// How many bytes were read, and whether they are the whole input.
-#[derive(Clone, Copy)]
-pub struct Loaded {
-    pub n: usize,
-    pub whole: bool,
-}
-
-// Opens the file that argument i names, or standard input where i is 0; none where that failed, which is said.
-pub fn open_input(rt: &HostRuntime, to: i32, name: &[u8], i: usize) -> Option<Source>
+// Opens the file that argument i names, or standard input where there is no such argument; none where that failed, which is said.
+pub fn open_input(rt: &HostRuntime, to: i32, name: &[u8], i: Option<usize>) -> Option<Source>
     ensures { Unit }
 {
-    if i == 0 {
-        return Some(Source::Standard(rt.stdin()));
-    }
+    let i = match i {
+        Some(i) => i,
+        None => return Some(Source::Standard(rt.stdin())),
+    };
     let mut path = io::buffer();
     let n = crate::arguments::argument(rt, i, &mut path);
     match crate::files::open(rt, &path[..n]) {
@@ -48,35 +42,24 @@ fn is_end(to: i32, name: &[u8], source: &mut Source, too_long: &[u8]) -> bool {
     }
 }
 
-fn load_from(to: i32, name: &[u8], source: &mut Source, data: &mut [u8], too_long: &[u8]) -> Loaded
-    ensures { result.n ≤ length «data».new }
-{
-    let n = io::read_full(source.as_raw_fd(), data);
-    Loaded {
-        n: n,
-        whole: is_end(to, name, source, too_long),
-    }
-}
-
-// Reads the file that argument i names, standard input where i is 0. Where the file is not there, cannot be read or is longer than the buffer, one line says so,
-// and what was read is not the whole input.
+// Reads the file that argument i names, standard input where there is no such argument: how many bytes it has. Where the file is not there, cannot be read or
+// is longer than the buffer, one line says so.
 pub fn load(
     rt: &HostRuntime,
     to: i32,
     name: &[u8],
-    i: usize,
+    i: Option<usize>,
     data: &mut [u8],
     too_long: &[u8],
-) -> Loaded
-    ensures { result.n ≤ length «data».new }
+) -> Option<usize>
+    ensures { IfSome result (λ n. n ≤ length «data».new) }
 {
-    match open_input(rt, to, name, i) {
-        Some(source) => {
-            let mut from = source;
-            load_from(to, name, &mut from, data, too_long)
-        }
-        None => Loaded { n: 0, whole: false },
+    let mut source = open_input(rt, to, name, i)?;
+    let n = io::read_full(source.as_raw_fd(), data);
+    if is_end(to, name, &mut source, too_long) {
+        return Some(n);
     }
+    None
 }
 
 // The first n bytes, none where there are fewer.
@@ -87,4 +70,11 @@ pub fn first(s: &[u8], n: usize) -> &[u8]
         return &s[..0];
     }
     &s[..n]
+}
+
+// The bytes from a place on, none where it is past their end.
+pub fn rest(s: &[u8], at: usize) -> &[u8]
+    ensures { result.now ≡ drop at s.now }
+{
+    s.get(at..).unwrap_or(&s[..0])
 }

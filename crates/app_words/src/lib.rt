@@ -7,14 +7,14 @@ pub mod saving;
 ghost use Rattle.std.specs.Prelude.{◌≡◌, ◌+◌, ◌≤◌, length};
 ghost use Rattle.app_words.specs.Words.{decimal_of, hex_of, Put};
 
-// A text; the answer is the place behind it.
+// A text; the answer is the place behind it. `app_compare` has the same body under its own `Put`, which its theorems are about.
 pub fn put_text(out: &mut [u8], at: usize, text: &[u8]) -> usize
     requires { at + length text.now ≤ length out.old }
     ensures { Put out.old at text.now out.new result }
 {
-    let n = text.len();
-    collect::copy(out, at, text, 0, n);
-    at + n
+    let end = at + text.len();
+    out[at..end].copy_from_slice(text);
+    end
 }
 
 // A number in base 10.

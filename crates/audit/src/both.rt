@@ -4,55 +4,14 @@ ghost use Rattle.std.specs.Prelude.{◌≡◌};
 ghost use Rattle.tile_back.specs.Word.{Plane};
 
 use bands::Quant;
-
-fn same_lists(a: &[i32], b: &[i32]) -> bool {
-    if a.len() != b.len() {
-        return false;
-    }
-    let mut i: usize = 0;
-    while i < a.len() {
-        if a[i] != b[i] {
-            return false;
-        }
-        i += 1;
-    }
-    true
-}
-
-fn same_words(a: &[u16], b: &[u16]) -> bool {
-    if a.len() != b.len() {
-        return false;
-    }
-    let mut i: usize = 0;
-    while i < a.len() {
-        if a[i] != b[i] {
-            return false;
-        }
-        i += 1;
-    }
-    true
-}
-
-fn same_words_32(a: &[u32], b: &[u32]) -> bool {
-    if a.len() != b.len() {
-        return false;
-    }
-    let mut i: usize = 0;
-    while i < a.len() {
-        if a[i] != b[i] {
-            return false;
-        }
-        i += 1;
-    }
-    true
-}
+use plain::PlainWord;
 
 // The component calls: number, bits and list.
 pub fn component_same(mode: u8, code: &[u8], ours: &mut [i32], plain: &mut [i32]) -> bool
     ensures { Unit }
 {
-    app_recording::lent::fill_list(ours, 7);
-    app_recording::lent::fill_list(plain, 7);
+    ours.fill(7);
+    plain.fill(7);
     let r = code::read::read_component(mode, code, ours);
     let t = plain_code::read_component(mode, code, plain);
     if code::read::reading_number(r) != plain_code::reading_number(t) {
@@ -61,7 +20,7 @@ pub fn component_same(mode: u8, code: &[u8], ours: &mut [i32], plain: &mut [i32]
     if code::read::reading_bits(r) != code::read::reading_bits(t) {
         return false;
     }
-    same_lists(ours, plain)
+    *ours == *plain
 }
 
 // Where two answers differ.
@@ -90,8 +49,8 @@ fn plane(
     if !bands::is_good(q) {
         return 7;
     }
-    let n = tile_back::component_fault(mode, q, code, ours);
-    let m = plain::samples(mode, q, code, plain, tmp);
+    let n = wire::number_of(tile_back::component_fault(mode, q, code, ours));
+    let m = wire::number_of(plain::samples(mode, q, code, plain, tmp));
     if n != m {
         return DIFFER;
     }
@@ -99,14 +58,21 @@ fn plane(
         return n;
     }
     tile_back::samples(mode, q, code, ours, tmp);
-    if same_lists(ours, plain) {
+    if *ours == *plain {
         return 0;
     }
     DIFFER
 }
 
-// The pixels of row y, on a glass of 16 bits.
-fn row_same(ys: &[i32], cbs: &[i32], crs: &[i32], y: usize, row: &mut [u16], words: &[u16]) -> bool
+// The pixels of row y, on a glass of either size.
+fn row_same<W: PlainWord>(
+    ys: &[i32],
+    cbs: &[i32],
+    crs: &[i32],
+    y: usize,
+    row: &mut [W],
+    words: &[W],
+) -> bool
     requires { Plane ys.now × Plane cbs.now × Plane crs.now }
 {
     if row.len() != 64 {
@@ -120,90 +86,37 @@ fn row_same(ys: &[i32], cbs: &[i32], crs: &[i32], y: usize, row: &mut [u16], wor
     }
     tile_back::words_row(ys, cbs, crs, y, row);
     let a = 64 * y;
-    let b = a + 64;
-    same_words(row, &words[a..b])
+    row[..] == words[a..a + 64]
 }
 
-fn rows_same(ys: &[i32], cbs: &[i32], crs: &[i32], row: &mut [u16], words: &[u16]) -> bool
-    requires { Plane ys.now × Plane cbs.now × Plane crs.now }
-{
-    let mut y: usize = 0;
-    while y < 64 {
-        if !row_same(ys, cbs, crs, y, row, words) {
-            return false;
-        }
-        y += 1;
-    }
-    true
-}
-
-// The pixels of six planes, three of the product's and three of the plain decoder's, on a glass of 16 bits.
-fn pixels_same(ys: &[i32], cbs: &[i32], crs: &[i32], py: &[i32], pb: &[i32], pr: &[i32]) -> bool
-    requires { Plane ys.now × Plane cbs.now × Plane crs.now × Plane py.now × Plane pb.now × Plane pr.now }
-{
-    let mut row = [0u16; 64];
-    let mut words = [0u16; 4096];
-    plain::pixels(py, pb, pr, &mut words);
-    rows_same(ys, cbs, crs, &mut row, &words)
-}
-
-// The pixels of row y on a glass of 32 bits.
-fn row_same_32(
+// The pixels of six planes, three of the product's and three of the plain decoder's.
+fn pixels_same<W: PlainWord>(
     ys: &[i32],
     cbs: &[i32],
     crs: &[i32],
-    y: usize,
-    row: &mut [u32],
-    words: &[u32],
+    py: &[i32],
+    pb: &[i32],
+    pr: &[i32],
 ) -> bool
-    requires { Plane ys.now × Plane cbs.now × Plane crs.now }
-{
-    if row.len() != 64 {
-        return false;
-    }
-    if words.len() != 4096 {
-        return false;
-    }
-    if 64 <= y {
-        return false;
-    }
-    tile_back::words_row_32(ys, cbs, crs, y, row);
-    let a = 64 * y;
-    let b = a + 64;
-    same_words_32(row, &words[a..b])
-}
-
-fn rows_same_32(ys: &[i32], cbs: &[i32], crs: &[i32], row: &mut [u32], words: &[u32]) -> bool
-    requires { Plane ys.now × Plane cbs.now × Plane crs.now }
-{
-    let mut y: usize = 0;
-    while y < 64 {
-        if !row_same_32(ys, cbs, crs, y, row, words) {
-            return false;
-        }
-        y += 1;
-    }
-    true
-}
-
-// The pixels of six planes, three of the product's and three of the plain decoder's on a glass of 32 bits.
-fn pixels_same_32(ys: &[i32], cbs: &[i32], crs: &[i32], py: &[i32], pb: &[i32], pr: &[i32]) -> bool
     requires { Plane ys.now × Plane cbs.now × Plane crs.now × Plane py.now × Plane pb.now × Plane pr.now }
 {
-    let mut row = [0u32; 64];
-    let mut words = [0u32; 4096];
-    plain::pixels_32(py, pb, pr, &mut words);
-    rows_same_32(ys, cbs, crs, &mut row, &words)
+    let black = W::of(0, 0, 0);
+    let mut row = [black; 64];
+    let mut words = [black; 4096];
+    plain::pixels(py, pb, pr, &mut words);
+    for y in 0..64 {
+        if !row_same(ys, cbs, crs, y, &mut row, &words) {
+            return false;
+        }
+    }
+    true
 }
 
 // On both.
 fn both_same(ys: &[i32], cbs: &[i32], crs: &[i32], py: &[i32], pb: &[i32], pr: &[i32]) -> bool
     requires { Plane ys.now × Plane cbs.now × Plane crs.now × Plane py.now × Plane pb.now × Plane pr.now }
 {
-    if pixels_same(ys, cbs, crs, py, pb, pr) {
-        return pixels_same_32(ys, cbs, crs, py, pb, pr);
-    }
-    false
+    pixels_same::<u16>(ys, cbs, crs, py, pb, pr) && pixels_same::<u32>(ys, cbs, crs, py, pb, pr)
 }
 
 // One tile: 0 where samples and pixels are the same, these on either glass, the first refusal's number where both refuse with that, else DIFFER.

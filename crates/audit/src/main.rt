@@ -7,169 +7,119 @@ mod both;
 mod tiles;
 
 use crate::tiles::Count;
-use app_recording::read::In;
+use app_recording::read::Input;
 use app_text::lines::OUT;
 
-// What goes on from record to record: the input, what was compared, and whether it goes on.
-#[derive(Clone, Copy)]
-struct Desk {
-    from: In,
-    count: Count,
-    go: bool,
-}
-
-fn at_desk(c: In, count: Count) -> Desk {
-    Desk {
-        from: c,
-        count: count,
-        go: c.whole,
-    }
-}
-
 // Numbers that nobody asks for.
-fn skip(rt: &HostRuntime, input: &mut [u8], c: In, n: usize) -> In {
-    let mut from = c;
-    let mut left = n;
-    while 0 < left && from.whole {
-        let f = app_recording::read::number(rt, input, from);
-        from = f.from;
-        left -= 1;
+fn skip(input: &mut Input, n: usize) -> Option<()> {
+    for _ in 0..n {
+        input.number()?;
     }
-    from
+    Some(())
 }
 
 // A message that nobody asks for.
-fn pass(rt: &HostRuntime, input: &mut [u8], c: In, message: &mut [u8]) -> In {
-    let f = app_recording::read::number(rt, input, c);
-    app_recording::read::take_message(rt, input, f.from, message, f.value)
+fn pass(input: &mut Input, message: &mut [u8]) -> Option<()> {
+    let n = input.number()?;
+    input.message(message, n)?;
+    Some(())
 }
 
 // The component calls on the part of a list that is lent; a recording that asks for more than there is counts nothing.
 fn component_on(c: Count, mode: usize, code: &[u8], n: usize) -> Count {
     let mut ours = [0i32; 8192];
     let mut plain = [0i32; 8192];
-    let a: &mut [i32] = &mut ours;
-    let b: &mut [i32] = &mut plain;
-    if a.len() < n {
-        return c;
+    match (ours.get_mut(..n), plain.get_mut(..n)) {
+        (Some(a), Some(b)) => {
+            crate::tiles::component(c, app_recording::read::byte_of(mode), code, a, b)
+        }
+        _ => c,
     }
-    if b.len() < n {
-        return c;
-    }
-    crate::tiles::component(
-        c,
-        app_recording::read::byte_of(mode),
-        code,
-        &mut a[0..n],
-        &mut b[0..n],
-    )
 }
 
 // 'C': mode, list length, bytes.
-fn component(rt: &HostRuntime, d: Desk, input: &mut [u8], message: &mut [u8]) -> Desk {
-    let g = app_recording::read::take_three(rt, input, d.from);
-    let from = app_recording::read::take_message(rt, input, g.from, message, g.c);
-    if !from.whole {
-        return at_desk(from, d.count);
-    }
-    let count = component_on(d.count, g.a, app_text::loading::first(message, g.c), g.b);
-    at_desk(from, count)
+fn component(c: Count, input: &mut Input, message: &mut [u8]) -> Option<Count> {
+    let [mode, len, n] = input.numbers::<3>()?;
+    let code = input.message(message, n)?;
+    Some(component_on(c, mode, code, len))
 }
 
 // 'F': three list lengths, bytes.
-fn frame(rt: &HostRuntime, d: Desk, input: &mut [u8], message: &mut [u8]) -> Desk {
-    let g = app_recording::read::take_four(rt, input, d.from);
-    let from = app_recording::read::take_message(rt, input, g.from, message, g.d);
-    if !from.whole {
-        return at_desk(from, d.count);
-    }
-    let count = crate::tiles::frame(d.count, app_text::loading::first(message, g.d));
-    at_desk(from, count)
+fn frame(c: Count, input: &mut Input, message: &mut [u8]) -> Option<Count> {
+    let [_, _, _, n] = input.numbers::<4>()?;
+    let bytes = input.message(message, n)?;
+    Some(crate::tiles::frame(c, bytes))
 }
 
 // 'W': mode, room, and a list run by run.
-fn writer(rt: &HostRuntime, d: Desk, input: &mut [u8]) -> Desk {
-    let g = app_recording::read::take_three(rt, input, d.from);
-    let from = skip(rt, input, g.from, g.c);
-    let last = skip(rt, input, from, g.c);
-    at_desk(last, d.count)
+fn writer(input: &mut Input) -> Option<()> {
+    let [_, _, runs] = input.numbers::<3>()?;
+    skip(input, runs)?;
+    skip(input, runs)
 }
 
 // 'Z': eight numbers, ten quantisers, bytes.
-fn frame_writer(rt: &HostRuntime, d: Desk, input: &mut [u8], message: &mut [u8]) -> Desk {
-    let from = skip(rt, input, d.from, 8);
-    let t = app_recording::read::take_ten(rt, input, from);
-    let last = pass(rt, input, t.from, message);
-    at_desk(last, d.count)
+fn frame_writer(input: &mut Input, message: &mut [u8]) -> Option<()> {
+    let mut quantisers = [0u8; 10];
+    skip(input, 8)?;
+    input.fill(&mut quantisers)?;
+    pass(input, message)
 }
 
-// One record, by its letter.
-fn record(rt: &HostRuntime, d: Desk, letter: u8, input: &mut [u8], message: &mut [u8]) -> Desk {
+// A record that is no component read and no frame, by its letter; none where it is not known, which is said, or cut.
+// A letter is met in one match and kept nowhere: an enum of the kinds would only be a second match.
+fn other(letter: u8, input: &mut Input, message: &mut [u8]) -> Option<()> {
     match letter {
-        b'N' | b'Y' => d,
-        b'D' => at_desk(skip(rt, input, d.from, 1), d.count),
-        b'P' => at_desk(skip(rt, input, d.from, 2), d.count),
-        b'G' => at_desk(skip(rt, input, d.from, 3), d.count),
-        b'R' | b'X' => at_desk(skip(rt, input, d.from, 4), d.count),
-        b'H' => at_desk(pass(rt, input, d.from, message), d.count),
-        b'C' => component(rt, d, input, message),
-        b'F' => frame(rt, d, input, message),
-        b'W' => writer(rt, d, input),
-        b'Z' => frame_writer(rt, d, input, message),
-        _ => unknown(d),
+        b'N' | b'Y' => Some(()),
+        b'D' => skip(input, 1),
+        b'P' => skip(input, 2),
+        b'G' => skip(input, 3),
+        b'R' | b'X' => skip(input, 4),
+        b'H' => pass(input, message),
+        b'W' => writer(input),
+        b'Z' => frame_writer(input, message),
+        _ => {
+            app_text::lines::say(
+                OUT,
+                b"a record that audit does not know: the rest is not compared\n",
+            );
+            None
+        }
     }
 }
 
-fn unknown(d: Desk) -> Desk {
-    app_text::lines::say(
-        OUT,
-        b"a record that audit does not know: the rest is not compared\n",
-    );
-    stopped(d)
-}
-
-fn stopped(d: Desk) -> Desk {
-    let c = d.from;
-    let count = d.count;
-    Desk {
-        from: c,
-        count: count,
-        go: false,
+// The next record, and what was compared with it; none where there is none, or none that is whole and known.
+fn record(c: Count, input: &mut Input, message: &mut [u8]) -> Option<Count> {
+    match input.next()? {
+        b'C' => component(c, input, message),
+        b'F' => frame(c, input, message),
+        letter => {
+            other(letter, input, message)?;
+            Some(c)
+        }
     }
 }
 
-// An end of the input between two records is the end.
-fn step(rt: &HostRuntime, d: Desk, input: &mut [u8], message: &mut [u8]) -> Desk {
-    let b = app_recording::read::next(rt, input, d.from);
-    let from = b.from;
-    if !from.whole {
-        return stopped(d);
+// A proved loop ends, and nothing says that an input does: the turns are counted up to a number that no run comes to.
+fn run(input: &mut Input, message: &mut [u8; 1048576]) -> Count {
+    let mut c = Count {
+        components: 0,
+        tiles: 0,
+        differ: 0,
+    };
+    for _ in 0..u64::MAX {
+        match record(c, input, message) {
+            Some(more) => c = more,
+            None => return c,
+        }
     }
-    record(rt, at_desk(from, d.count), b.value, input, message)
-}
-
-// A proved loop ends, and nothing says that an input does: the turns are counted down from a number that no run uses up.
-fn run(rt: &HostRuntime, input: &mut [u8], message: &mut [u8; 1048576]) -> Count {
-    let mut d = at_desk(
-        app_recording::read::start(),
-        Count {
-            components: 0,
-            tiles: 0,
-            differ: 0,
-        },
-    );
-    let mut turns = u64::MAX;
-    while 0 < turns && d.go {
-        d = step(rt, d, input, message);
-        turns -= 1;
-    }
-    d.count
+    c
 }
 
 fn main(rt: HostRuntime) {
-    let mut input = [0u8; 65536];
+    let mut lent = [0u8; 65536];
     let mut message = [0u8; 1048576];
-    let c = run(&rt, &mut input, &mut message);
+    let c = run(&mut Input::new(rt.stdin(), &mut lent), &mut message);
     app_text::lines::say_number(OUT, b"", c.components);
     app_text::lines::say_number(OUT, b" components, ", c.tiles);
     if c.differ == 0 {

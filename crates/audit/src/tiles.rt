@@ -13,28 +13,20 @@ pub struct Count {
 }
 
 fn more(n: u64, by: bool) -> u64 {
-    if by {
-        if n < 1000000000000 {
-            return n + 1;
-        }
+    if by && n < 1000000000000 {
+        return n + 1;
     }
     n
-}
-
-fn wide(b: u8) -> usize
-    ensures { result < 256 }
-{
-    b as usize
 }
 
 // A byte of a message, 0 past its end; two and four of them, low byte first.
 fn byte(m: &[u8], at: usize) -> usize
     ensures { result < 256 }
 {
-    if at < m.len() {
-        return wide(m[at]);
+    match m.get(at) {
+        Some(b) => usize::from(*b),
+        None => 0,
     }
-    0
 }
 
 fn two(m: &[u8], at: usize) -> usize
@@ -141,14 +133,12 @@ fn tiles(c: Count, m: &[u8], mode: u8, sets: usize, first: usize, n: usize) -> C
 {
     let mut count = c;
     let mut at = first;
-    let mut left = n;
-    while 0 < left {
+    for _ in 0..n {
         if m.len() <= at {
             return count;
         }
         count = tile(count, m, mode, sets, at);
         at = behind(m, at);
-        left -= 1;
     }
     count
 }

@@ -3,18 +3,20 @@
 // Judging multiplies and stores nothing; summing and scaling judge nothing and answer nothing (02, request Eight).
 #![tactic(auto)]
 
-ghost use Rattle.std.specs.Prelude.{◌≡◌, ℕ, ◌+◌, ◌<◌, ◌≤◌, ◌^◌, pos, ◌+ℤ◌, ◌-ℤ◌, ◌*ℤ◌, length, get_or, take, drop};
+ghost use Rattle.std.specs.Prelude.{◌≡◌, ℕ, ◌+◌, ◌-◌, ◌<◌, ◌≤◌, ◌^◌, pos, ◌+ℤ◌, ◌-ℤ◌, ◌*ℤ◌, length, get_or, take, drop};
 ghost use Rattle.std.specs.Int.Signed.{shr_z};
-ghost use Rattle.whole.specs.Row.{◌⇒◌∣◌};
 ghost use Rattle.whole.specs.laws.Near.{Near};
 ghost use Rattle.whole.specs.Tab.{at, table};
 ghost use Rattle.whole.specs.laws.Tab.{AllNear};
-ghost use Rattle.bands.specs.Bands.{quant_of, QuantGood, is_good, band_at, sum_to, summed, scaled_by, coefficients_fault};
-ghost use Rattle.bands.specs.Rounding.{round_at, diff_at, rounded_by};
+ghost use Rattle.wire.specs.Refusal.{number_of};
+ghost use Rattle.bands.specs.Bands.{quant_of, quant_at, QuantGood, is_good, band_at, sum_to, summed, scaled_by, coefficients_fault};
+ghost use Rattle.bands.specs.Rounding.{round_z, round_at, diff_at, rounded_by};
 ghost use Rattle.bands.specs.laws.Steps.{over_of, overs, limit_of, limit_at};
 
+use wire::Refusal;
+
 // A quantiser set: ten values in the set's order.
-#[derive(Clone, Copy)]
+#[derive(Clone, Copy, PartialEq, Eq)]
 pub struct Quant {
     pub v: [u8; 10],
 }
@@ -56,32 +58,21 @@ struct Band {
 fn band_at(k: usize) -> Band
     ensures { result ≡ band_at k }
 {
-    if k < 1024 {
-        return Band { set: 8, end: 1024 };
-    }
-    if k < 2048 {
-        return Band { set: 7, end: 2048 };
-    }
-    if k < 3072 {
-        return Band { set: 9, end: 3072 };
-    }
-    if k < 3328 {
-        return Band { set: 5, end: 3328 };
-    }
-    if k < 3584 {
-        return Band { set: 4, end: 3584 };
-    }
-    if k < 3840 {
-        return Band { set: 6, end: 3840 };
-    }
-    if k < 3904 {
-        return Band { set: 2, end: 3904 };
-    }
-    if k < 3968 {
-        return Band { set: 1, end: 3968 };
-    }
-    if k < 4032 {
-        return Band { set: 3, end: 4032 };
+    let before = [
+        Band { set: 8, end: 1024 },
+        Band { set: 7, end: 2048 },
+        Band { set: 9, end: 3072 },
+        Band { set: 5, end: 3328 },
+        Band { set: 4, end: 3584 },
+        Band { set: 6, end: 3840 },
+        Band { set: 2, end: 3904 },
+        Band { set: 1, end: 3968 },
+        Band { set: 3, end: 4032 },
+    ];
+    for b in before {
+        if k < b.end {
+            return b;
+        }
     }
     Band { set: 0, end: 4096 }
 }
@@ -107,19 +98,47 @@ fn power(k: u32) -> i32
     (1u32 << k) as i32
 }
 
-fn wide(b: u8) -> u32
-    ensures { result ≡ b }
-{
-    b as u32
-}
-
 // The quantiser of a band.
 fn quant_of(q: Quant, b: Band) -> u32
     requires { QuantGood q.v × (b.set < 10) }
     ensures { (result ≡ get_or q.v b.set 0) × (6 ≤ result) × (result ≤ 15) }
 {
-    let i = b.set;
-    wide(q.v[i])
+    u32::from(q.v[b.set])
+}
+
+// ---- what is done to every value, by its band's quantiser
+
+// To every value of a part.
+fn each_value<F: Fn(i32) -> i32>(part: &mut [i32], f: F)
+    requires near { AllNear 268435456 part.old }
+    requires can { (k : ℕ) → k < length part.old → F.pre f (at part.old k) }
+    ensures { (k : ℕ) → k < length part.old → F.post f (at part.old k) (at part.new k) }
+{
+    for v in part.iter_mut() {
+        *v = f(*v);
+    }
+}
+
+// To every value of a list, band by band: a step is as long as its band.
+fn each_band<F: Fn(u32, i32) -> i32>(work: &mut [i32], q: Quant, f: F)
+    requires good { (length work.old ≡ 4096) × AllNear 268435456 work.old × QuantGood q.v }
+    requires can { (k : ℕ) → k < 4096 → F.pre f (quant_at q.v k) (at work.old k) }
+    ensures { (k : ℕ) → k < 4096 → F.post f (quant_at q.v k) (at work.old k) (at work.new k) }
+{
+    let mut from = 0;
+    while from < 4096 {
+        let b = band_at(from);
+        let to = b.end;
+        let n = quant_of(q, b);
+        each_value(
+            &mut work[from..to],
+            |v: i32| -> i32
+                requires { F.pre f n v }
+                ensures { F.post f n v result }
+            { f(n, v) },
+        );
+        from = to;
+    }
 }
 
 // ---- on the reader's way, to draw
@@ -130,11 +149,9 @@ fn sum_part(part: &mut [i32])
     ensures { part.new ≡ table 64 (λ (i : ℕ). sum_to (at part.old) (i + 1)) }
 {
     let mut s = 0;
-    let mut i = 0;
-    while i < part.len() {
-        s = plus(s, part[i]);
-        part[i] = s;
-        i += 1;
+    for v in part.iter_mut() {
+        s = plus(s, *v);
+        *v = s;
     }
 }
 
@@ -146,31 +163,19 @@ pub fn sum_up(work: &mut [i32])
     sum_part(&mut work[4032..4096]);
 }
 
-// One band times a factor.
-fn scale_band(part: &mut [i32], m: i32)
-    requires { AllNear 32767 part.old × Near 16384 m }
-    ensures { part.new ≡ table (length part.old) (λ (i : ℕ). at part.old i *ℤ m) }
-{
-    let mut i = 0;
-    while i < part.len() {
-        part[i] = times(part[i], m);
-        i += 1;
-    }
-}
-
 // Scaling, band by band.
 pub fn scale_up(work: &mut [i32], q: Quant)
     requires { (length work.old ≡ 4096) × AllNear 32767 work.old × QuantGood q.v }
     ensures { work.new ≡ scaled_by q.v work.old }
 {
-    let mut from = 0;
-    while from < 4096 {
-        let b = band_at(from);
-        let to = b.end;
-        let n = quant_of(q, b);
-        scale_band(&mut work[from..to], power(n - 1));
-        from = to;
-    }
+    each_band(
+        work,
+        q,
+        |n: u32, v: i32| -> i32
+            requires { (6 ≤ n) × (n ≤ 15) × Near 32767 v }
+            ensures { result ≡ v *ℤ pos (2 ^ (n - 1)) }
+        { times(v, power(n - 1)) },
+    );
 }
 
 // ---- on both ways: a list judged, place by place
@@ -183,21 +188,12 @@ fn limit(n: u32) -> u16
     32767u16 >> (n - 1)
 }
 
-fn one(b: bool) -> u32
-    ensures { result ≡ (b ⇒ 1 ∣ 0) }
-{
-    if b {
-        return 1;
-    }
-    0
-}
-
 // 1 where v is above m in size, else 0: a sum of two tests, so that a loop over a band has no branch.
 fn over(v: i32, m: u16) -> u32
     ensures { result ≡ over_of m v }
 {
     let most = m as i32;
-    one(v > most) + one(v < 0 - most)
+    u32::from(v > most) + u32::from(v < -most)
 }
 
 // How many of a band are above a limit in size.
@@ -206,32 +202,28 @@ fn count_over(part: &[i32], m: u16) -> u32
     ensures { result ≡ overs (λ (i : ℕ). m) (at part.now) (length part.now) }
 {
     let mut bad = 0;
-    let mut i = 0;
-    while i < part.len() {
-        bad += over(part[i], m);
-        i += 1;
+    for v in part {
+        bad += over(*v, m);
     }
     bad
 }
 
-// How many of LL3's running sums are above a limit in size.
+// How many of LL3's running sums are above a limit in size. A loop of its own: one count over any numbers has a longer contract than both.
 fn count_sums(part: &[i32], m: u16) -> u32
     requires { (length part.now ≡ 64) × AllNear 32767 part.now }
     ensures { result ≡ overs (λ (i : ℕ). m) (λ (i : ℕ). sum_to (at part.now) (i + 1)) 64 }
 {
     let mut sum = 0;
     let mut bad = 0;
-    let mut i = 0;
-    while i < part.len() {
-        let v = part[i];
-        sum = plus(sum, v);
+    for v in part {
+        sum = plus(sum, *v);
         bad += over(sum, m);
-        i += 1;
     }
     bad
 }
 
-// The nine bands before LL3: how many of their values would leave the range when scaled.
+// The nine bands before LL3: how many of their values would leave the range when scaled. The walk is `each_band`'s,
+// which stores: judging stores nothing.
 fn count_bands(work: &[i32], q: Quant) -> u32
     requires { (length work.now ≡ 4096) × QuantGood q.v }
     ensures { result ≡ overs (limit_at q.v) (at work.now) 4032 }
@@ -248,22 +240,22 @@ fn count_bands(work: &[i32], q: Quant) -> u32
     bad
 }
 
-// A list judged as its reader does and its writer must: its coefficients, LL3's sums and the scaled values, 0 or 9.
-pub fn judge(work: &[i32], q: Quant) -> u8
+// A list judged as its reader does and its writer must: its coefficients, LL3's sums and the scaled values, fine or out of range.
+pub fn judge(work: &[i32], q: Quant) -> Result<(), Refusal>
     requires { (length work.now ≡ 4096) × QuantGood q.v }
-    ensures { result ≡ coefficients_fault q.v work.now }
+    ensures { number_of result ≡ coefficients_fault q.v work.now }
 {
     if count_bands(work, q) != 0 {
-        return 9;
+        return Err(Refusal::Range);
     }
     if count_over(&work[4032..4096], 32767) != 0 {
-        return 9;
+        return Err(Refusal::Range);
     }
     let n = quant_of(q, band_at(4032));
     if count_sums(&work[4032..4096], limit(n)) != 0 {
-        return 9;
+        return Err(Refusal::Range);
     }
-    0
+    Ok(())
 }
 
 // ---- on the writer's way
@@ -275,31 +267,19 @@ fn rounded(v: i32, half: i32, k: u32) -> i32
     (v + half) >> k
 }
 
-// One band rounded: half of the divisor added, then shifted down.
-fn round_band(part: &mut [i32], half: i32, k: u32)
-    requires { AllNear 268435456 part.old × Near 8192 half × (k < 31) }
-    ensures { part.new ≡ table (length part.old) (λ (i : ℕ). shr_z (at part.old i +ℤ half) (2 ^ k)) }
-{
-    let mut i = 0;
-    while i < part.len() {
-        part[i] = rounded(part[i], half, k);
-        i += 1;
-    }
-}
-
-// Rounding, band by band.
+// Rounding, band by band: half of the divisor added, then shifted down.
 fn round_bands(work: &mut [i32], q: Quant)
     requires { (length work.old ≡ 4096) × AllNear 268435456 work.old × QuantGood q.v }
     ensures { work.new ≡ table 4096 (round_at q.v (at work.old)) }
 {
-    let mut from = 0;
-    while from < 4096 {
-        let b = band_at(from);
-        let to = b.end;
-        let n = quant_of(q, b);
-        round_band(&mut work[from..to], power(n - 2), n - 1);
-        from = to;
-    }
+    each_band(
+        work,
+        q,
+        |n: u32, v: i32| -> i32
+            requires { (6 ≤ n) × (n ≤ 15) × Near 268435456 v }
+            ensures { result ≡ round_z n v }
+        { rounded(v, power(n - 2), n - 1) },
+    );
 }
 
 fn minus(a: i32, b: i32) -> i32
@@ -315,12 +295,10 @@ fn difference_part(part: &mut [i32])
     ensures { part.new ≡ table 64 (diff_at (at part.old)) }
 {
     let mut last = 0;
-    let mut i = 0;
-    while i < part.len() {
-        let v = part[i];
-        part[i] = minus(v, last);
-        last = v;
-        i += 1;
+    for v in part.iter_mut() {
+        let here = *v;
+        *v = minus(here, last);
+        last = here;
     }
 }
 
@@ -337,16 +315,5 @@ pub fn round_all(work: &mut [i32], q: Quant)
 pub fn is_good(q: Quant) -> bool
     ensures { result ≡ is_good q.v }
 {
-    let mut i = 0;
-    while i < 10 {
-        let x = q.v[i];
-        if x < 6 {
-            return false;
-        }
-        if x > 15 {
-            return false;
-        }
-        i += 1;
-    }
-    true
+    q.v.iter().all(|x| 6 <= *x && *x <= 15)
 }

@@ -11,12 +11,8 @@ ghost use Rattle.bits.specs.Pen.{Ready, Put, Closed};
 pub mod wide;
 pub mod word;
 
-// What reading a number finds: the number and the place of the bit past it, or too few bits.
-#[derive(Clone, Copy)]
-pub enum Num {
-    Got(usize, usize),
-    Cut,
-}
+// A number that was read, and the place of the bit past it.
+pub type Num = (usize, usize);
 
 // The next byte's place, the bits that wait for it as a number, and how many they are.
 #[derive(Clone, Copy)]
@@ -35,59 +31,48 @@ pub fn digit(s: &[u8], at: usize) -> usize
 }
 
 // The ones from place `from` on, and the place past the zero after them.
-pub fn ones(s: &[u8], from: usize) -> Num
+pub fn ones(s: &[u8], from: usize) -> Option<Num>
     requires { length s.now ≤ 65535 }
     ensures { result ≡ ones_of 0 from (drop from (bits_of s.now)) }
 {
-    let mut v: usize = 0;
-    let mut at = from;
-    while at < s.len() * 8 {
-        match word::ones_in(word::ahead(s, at), 0) {
-            Num::Cut => {
-                v += 57;
-                at += 57;
+    let end = s.len() * 8;
+    for at in (from..end).step_by(57) {
+        if let Some((m, _)) = word::ones_in(word::ahead(s, at), 0) {
+            if end - at <= m {
+                return None;
             }
-            Num::Got(m, next) => {
-                if s.len() * 8 - at <= m {
-                    return Num::Cut;
-                }
-                return Num::Got(v + m, at + m + 1);
-            }
+            return Some((at - from + m, at + m + 1));
         }
     }
-    Num::Cut
+    None
 }
 
 // The k bits from place `from` on, as a number.
-pub fn number(s: &[u8], from: usize, k: usize) -> Num
+pub fn number(s: &[u8], from: usize, k: usize) -> Option<Num>
     requires { (length s.now ≤ 65535) × (k ≤ 32) }
     ensures { result ≡ num_of k 0 from (drop from (bits_of s.now)) }
 {
     if k == 0 {
-        return Num::Got(0, from);
+        return Some((0, from));
     }
     if s.len() * 8 < k {
-        return Num::Cut;
+        return None;
     }
     if s.len() * 8 - k < from {
-        return Num::Cut;
+        return None;
     }
     let n = word::ahead(s, from) >> (57 - k);
-    Num::Got(n as usize, from + k)
+    Some((n as usize, from + k))
 }
 
 // A GR number: v ones, a zero, k bits b; it is v * 2^k + b.
-pub fn golomb(s: &[u8], from: usize, k: usize) -> Num
+pub fn golomb(s: &[u8], from: usize, k: usize) -> Option<Num>
     requires { (length s.now ≤ 65535) × (k ≤ 10) }
     ensures { result ≡ gr_of k from (bits_of s.now) }
 {
-    match ones(s, from) {
-        Num::Cut => Num::Cut,
-        Num::Got(v, at) => match number(s, at, k) {
-            Num::Cut => Num::Cut,
-            Num::Got(b, next) => Num::Got((v << k) + b, next),
-        },
-    }
+    let (v, at) = ones(s, from)?;
+    let (b, next) = number(s, at, k)?;
+    Some(((v << k) + b, next))
 }
 
 // Appends the k low bits of v.
@@ -95,18 +80,15 @@ pub fn put_bits(out: &mut [u8], p: Pen, k: usize, v: usize) -> Pen
     requires { Ready (length out.old) p k × (k ≤ 32) }
     ensures { Put out.old p out.new result (num_bits k v) }
 {
-    let mut at = p.at;
-    let mut n = p.n + k;
+    let n = p.n + k;
     let acc = (p.acc << k) + v % (1usize << k);
-    while 8 <= n {
-        n -= 8;
-        out[at] = ((acc >> n) % 256) as u8;
-        at += 1;
+    for i in 0..n / 8 {
+        out[p.at + i] = ((acc >> (n - 8 * (i + 1))) % 256) as u8;
     }
     Pen {
-        at: at,
-        acc: acc % (1usize << n),
-        n: n,
+        at: p.at + n / 8,
+        acc: acc % (1usize << (n % 8)),
+        n: n % 8,
     }
 }
 
@@ -115,12 +97,9 @@ pub fn finish(out: &mut [u8], p: Pen) -> usize
     requires { Ready (length out.old) p 0 }
     ensures { Closed out.old p out.new result }
 {
-    let at = p.at;
-    let acc = p.acc;
-    let n = p.n;
-    if n == 0 {
-        return at;
+    if p.n == 0 {
+        return p.at;
     }
-    out[at] = ((acc << (8 - n)) % 256) as u8;
-    at + 1
+    out[p.at] = ((p.acc << (8 - p.n)) % 256) as u8;
+    p.at + 1
 }

@@ -24,20 +24,15 @@ pub fn put(out: &mut [u8], p: Pen, k: usize, v: usize) -> Pen
     requires { ReadyWide (length out.old) p k × (k ≤ 32) × (v < 2 ^ k) }
     ensures { PutWide out.old p out.new result (num_bits k v) }
 {
-    let at = p.at;
     let n = p.n + k;
     let acc = (p.acc << k) + v;
     if n < 32 {
-        return Pen {
-            at: at,
-            acc: acc,
-            n: n,
-        };
+        return Pen { at: p.at, acc, n };
     }
     let left = n - 32;
-    put_four(out, at, acc >> left);
+    put_four(out, p.at, acc >> left);
     Pen {
-        at: at + 4,
+        at: p.at + 4,
         acc: acc % (1usize << left),
         n: left,
     }
@@ -49,11 +44,10 @@ fn put_ones(out: &mut [u8], p: Pen, v: usize) -> Pen
     ensures { PutWide out.old p out.new result (replicate v true) }
 {
     let mut q = p;
-    let mut left = v;
-    while 32 < left {
+    for i in 0..v / 32 {
         q = put(out, q, 32, 4294967295);
-        left -= 32;
     }
+    let left = v % 32;
     put(out, q, left, (1usize << left) - 1)
 }
 
@@ -71,13 +65,10 @@ pub fn close(out: &mut [u8], p: Pen) -> Pen
     requires { ReadyWide (length out.old) p 0 }
     ensures { Put out.old (empty_at p.at) out.new result (num_bits p.n p.acc) }
 {
-    let at = p.at;
-    let acc = p.acc;
-    let n = p.n;
     let q = Pen {
-        at: at,
+        at: p.at,
         acc: 0,
         n: 0,
     };
-    crate::put_bits(out, q, n, acc)
+    crate::put_bits(out, q, p.n, p.acc)
 }

@@ -2,9 +2,8 @@
 // wherever in a byte they begin), and what is read inside them: a number, a run of ones, a GR number, the zeros that they begin with.
 // The contracts are those of the readings at a place of a slice, of the bits `num_bits 57 w`.
 ghost use Rattle.std.specs.Prelude.{◌≡◌, ◌+◌, ◌*◌, ◌/◌, ◌<◌, ◌≤◌, min, length, drop};
-ghost use Rattle.bits.specs.Bits.{bits_of, num_bits, ones_of, num_of, gr_of};
+ghost use Rattle.bits.specs.Bits.{got, bits_of, num_bits, ones_of, num_of, gr_of};
 ghost use Rattle.bits.specs.Word.{four_of, front_ones, front_zeros, horner, padded};
-ghost use Rattle.bits.specs.declared.Num.TheVariants.{Got};
 
 use crate::Num;
 
@@ -26,7 +25,7 @@ fn four(s: &[u8], j: usize) -> u64
 // The 57 bits from place `at` on, as a number.
 pub fn look(s: &[u8], at: usize) -> u64
     requires { at / 8 + 8 ≤ length s.now }
-    ensures { Got result (at + 57) ≡ num_of 57 0 at (drop at (bits_of s.now)) }
+    ensures { got result (at + 57) ≡ num_of 57 0 at (drop at (bits_of s.now)) }
 {
     let j = at / 8;
     let w = four(s, j) * 4294967296 + four(s, j + 4);
@@ -39,19 +38,10 @@ fn all_of(s: &[u8]) -> u64
     ensures { result ≡ horner 0 s.now }
 {
     let mut w: u64 = 0;
-    let mut i: usize = 0;
-    while i < s.len() {
-        w = w * 256 + wide(s[i]);
-        i += 1;
+    for b in s {
+        w = w * 256 + wide(*b);
     }
     w
-}
-
-// The smaller of two numbers.
-fn least(a: usize, b: usize) -> usize
-    ensures { result ≡ min a b }
-{
-    if a < b { a } else { b }
 }
 
 // The 57 bits from place `at` on, zeros past the end, as a number: of the eight bytes there, of the last eight, or of all where there are fewer.
@@ -62,7 +52,7 @@ pub fn ahead(s: &[u8], at: usize) -> u64
     if s.len() < 8 {
         return (all_of(s) << (64 - 8 * s.len() + at)) >> 7;
     }
-    let j = least(at / 8, s.len() - 8);
+    let j = (at / 8).min(s.len() - 8);
     let w = four(s, j) * 4294967296 + four(s, j + 4);
     (w << (at - 8 * j)) >> 7
 }
@@ -71,20 +61,20 @@ pub fn ahead(s: &[u8], at: usize) -> u64
 // (in two steps, since k may be 0).
 fn bits_in(w: u64, at: usize, k: usize) -> usize
     requires { (at + k ≤ 57) × (k ≤ 32) }
-    ensures { Got result (at + k) ≡ num_of k 0 at (drop at (num_bits 57 w)) }
+    ensures { got result (at + k) ≡ num_of k 0 at (drop at (num_bits 57 w)) }
 {
     ((((w << 7) << at) >> 1) >> (63 - k)) as usize
 }
 
 // The k bits at place `at` of the 57 bits w, as a number.
-pub fn number_in(w: u64, at: usize, k: usize) -> Num
+pub fn number_in(w: u64, at: usize, k: usize) -> Option<Num>
     requires { (at ≤ 57) × (k ≤ 32) }
     ensures { result ≡ num_of k 0 at (drop at (num_bits 57 w)) }
 {
     if 57 - at < k {
-        return Num::Cut;
+        return None;
     }
-    Num::Got(bits_in(w, at, k), at + k)
+    Some((bits_in(w, at, k), at + k))
 }
 
 // How many ones stand at place `at` of the 57 bits w: the leading zeros of the complement.
@@ -96,29 +86,29 @@ fn ones_at(w: u64, at: usize) -> usize
 }
 
 // The ones from place `at` of the 57 bits w on, and the place past the zero after them.
-pub fn ones_in(w: u64, at: usize) -> Num
+pub fn ones_in(w: u64, at: usize) -> Option<Num>
     requires { at ≤ 57 }
     ensures { result ≡ ones_of 0 at (drop at (num_bits 57 w)) }
 {
     let m = ones_at(w, at);
     if m < 57 - at {
-        return Num::Got(m, at + m + 1);
+        return Some((m, at + m + 1));
     }
-    Num::Cut
+    None
 }
 
 // A GR number at place `at` of the 57 bits w. Whether it lies in them is one test, of all its bits.
-pub fn golomb_in(w: u64, at: usize, k: usize) -> Num
+pub fn golomb_in(w: u64, at: usize, k: usize) -> Option<Num>
     requires { (at ≤ 57) × (k ≤ 10) }
     ensures { result ≡ gr_of k at (num_bits 57 w) }
 {
     let v = ones_at(w, at);
     let used = v + 1 + k;
     if 57 - at < used {
-        return Num::Cut;
+        return None;
     }
     let b = bits_in(w, at + v + 1, k);
-    Num::Got((v << k) + b, at + used)
+    Some(((v << k) + b, at + used))
 }
 
 // How many zeros the 57 bits w begin with.

@@ -1,17 +1,15 @@
 -- The six calls as a customer sees them: what was given, what was answered, what lent memory holds afterwards (marked '), and that the
 -- call's promise, which is its `ensures`, holds of them. Nothing else is known of a call. First the panel's own, then the same six for C, and
 -- the frame writers over two sets and of listed tiles.
-use Rattle.std.specs.Prelude.{ℕ, ◌≡◌, refl, List, ℤ, take}
-use Rattle.wire.specs.declared.Writing.{Writing}
-use Rattle.wire.specs.Wrote.{writing_length}
+use Rattle.std.specs.Prelude.{ℕ, ◌≡◌, refl, List, ℤ, take, Result}
+use Rattle.wire.specs.Refusal.{count_of}
+use Rattle.wire.specs.declared.Refusal.{Refusal}
 use Rattle.session.specs.declared.Session.{Session}
-use Rattle.session.specs.declared.HeaderReading.{HeaderReading}
 use Rattle.session.specs.Header.{header_record, header_reading}
 use Rattle.headers.specs.Headers.{HeadersWritten}
 use Rattle.code.specs.declared.read.Reading.{Reading}
 use Rattle.code.specs.Read.{ComponentRead}
 use Rattle.code_write.specs.Write.{ComponentWritten}
-use Rattle.frame.specs.declared.call.FrameReading.{FrameReading}
 use Rattle.frame.specs.Frame.{FrameRead}
 use Rattle.frame_write.specs.FrameWrite.{FrameWritten}
 use Rattle.panel.specs.Edge.{ReadHeaderCall, frame_answer, ReadFrameCall, ReadComponentCall, WriteComponentCall, WriteHeadersCall, WriteFrameCall}
@@ -22,7 +20,7 @@ use Rattle.panel.specs.Short.{WriteShortCall}
 pub record ReadHeader : Type 0 where
   pub session : Session
   pub message : List ℕ
-  pub answer : HeaderReading
+  pub answer : Result Session Refusal
   pub promise : answer ≡ header_reading session message
 
 -- the record after it
@@ -44,7 +42,7 @@ pub record ReadFrame : Type 0 where
   pub cb' : List ℤ
   pub cr' : List ℤ
   pub scratch' : List ℤ
-  pub answer : FrameReading
+  pub answer : Result ℕ Refusal
   pub promise : FrameRead word session message picture y cb cr scratch picture' y' cb' cr' scratch' answer
 
 -- read_component
@@ -62,7 +60,7 @@ pub record WriteComponent : Type 0 where
   pub list : List ℤ
   pub out : List ℕ
   pub out' : List ℕ
-  pub answer : Writing
+  pub answer : Result ℕ Refusal
   pub promise : ComponentWritten mode list out out' answer
 
 -- write_headers
@@ -72,7 +70,7 @@ pub record WriteHeaders : Type 0 where
   pub mode : ℕ
   pub out : List ℕ
   pub out' : List ℕ
-  pub answer : Writing
+  pub answer : Result ℕ Refusal
   pub promise : HeadersWritten width height mode out out' answer
 
 -- write_frame
@@ -89,12 +87,12 @@ pub record WriteFrame : Type 0 where
   pub list' : List ℤ
   pub scratch' : List ℤ
   pub out' : List ℕ
-  pub answer : Writing
+  pub answer : Result ℕ Refusal
   pub promise : FrameWritten width height mode quant index pixels list list' scratch scratch' out out' answer
 
 -- what a writer has written: its output up to the length that it says
-abbrev pub sent_by : Writing → List ℕ → List ℕ
-sent_by answer out' = take (writing_length answer) out'
+abbrev pub sent_by : Result ℕ Refusal → List ℕ → List ℕ
+sent_by answer out' = take (count_of answer) out'
 
 -- ---- for C (panel/src/edge.rt): `number` is what is returned; `tiles`, `bits` or `size` is what stands behind the last reference; and `session` is the record
 -- behind its reference before the call, `session'` after it

@@ -1,13 +1,12 @@
 -- The frame acknowledge message of 001, 2.2.3.1, TS_FRAME_ACKNOWLEDGE_PDU: its last two parts, shareDataHeader (18 bytes) and frameID (4). The parts in
 -- front are the link's own.
-use Rattle.std.specs.Prelude.{ℕ, ◌+◌, ◌*◌, ◌/◌, ◌%◌, ◌<◌, List, ◌∷◌, ◌++◌, leb, eqb}
+use Rattle.std.specs.Prelude.{ℕ, ◌+◌, ◌*◌, ◌/◌, ◌%◌, ◌<◌, List, ◌∷◌, ◌++◌, leb, eqb, Result, Ok, Err}
 use Rattle.whole.specs.Row.{◌!◌⨾◌}
 use Rattle.wire.specs.Le.{bytes16, bytes32}
-use Rattle.caps.specs.Walk.{Layout, gives, refuse, field, walk, ended}
+use Rattle.caps.specs.Walk.{Layout, gives, refuse, field, walk, answered}
 use Rattle.caps.specs.declared.walk.Width.TheVariants.{One, Two, Four}
 use Rattle.caps.specs.declared.Ack.{Ack}
-use Rattle.caps.specs.declared.read.AckReading.{AckReading}
-use Rattle.caps.specs.declared.read.AckReading.TheVariants.{Taken, Refused}
+use Rattle.wire.specs.declared.Refusal.{Refusal}
 
 -- totalLength counts these 22 bytes. pduType: "The type subfield .. MUST be set to PDUTYPE_DATAPDU (0x0007)", the low four bits; the upper twelve are the
 -- version, which is any. "The pduType2 field .. MUST be set to PDUTYPE2_FRAME_ACKNOWLEDGE (0x38)". Everything else is kept and not judged
@@ -41,17 +40,13 @@ ack_of a =
     bytes16 22 ++ (bytes16 (7 + 16 * a.version) ++ (bytes16 a.source ++ (bytes32 a.share ++ (a.pad ∷ a.stream ∷
     (bytes16 a.uncompressed ++ (0x38 ∷ a.compression ∷ (bytes16 a.compressed ++ bytes32 a.frame)))))))
 
-unfoldable pub read_ack : List ℕ → AckReading
-read_ack m = ended Taken Refused (walk ack m)
+unfoldable pub read_ack : List ℕ → Result Ack Refusal
+read_ack m = answered (walk ack m)
 
--- its number, and the fields, of which a refusal gives none: all are 0
-unfoldable pub ack_number : AckReading → ℕ
-ack_number (Taken a) = 0
-ack_number (Refused n) = n
-
-unfoldable pub ack_fields : AckReading → Ack
-ack_fields (Taken a) = a
-ack_fields (Refused n) = record { version = 0; source = 0; share = 0; pad = 0; stream = 0; uncompressed = 0; compression = 0; compressed = 0; frame = 0 }
+-- its fields, of which a refusal gives none: all are 0
+abbrev pub ack_fields : Result Ack Refusal → Ack
+ack_fields (Ok a) = a
+ack_fields (Err refusal) = record { version = 0; source = 0; share = 0; pad = 0; stream = 0; uncompressed = 0; compression = 0; compressed = 0; frame = 0 }
 
 -- what the writer refuses: a version has twelve bits, else 5; 13 is room
 unfoldable pub ack_fault : ℕ → ℕ → ℕ

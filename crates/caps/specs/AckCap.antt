@@ -1,11 +1,10 @@
 -- The frame acknowledge capability of 001, 2.2.1.3, TS_FRAME_ACKNOWLEDGE_CAPABILITYSET: 8 bytes.
-use Rattle.std.specs.Prelude.{ℕ, ◌<◌, List, ◌++◌, leb, eqb}
+use Rattle.std.specs.Prelude.{ℕ, ◌<◌, List, ◌++◌, leb, eqb, Result, Ok, Err}
 use Rattle.whole.specs.Row.{◌!◌⨾◌}
 use Rattle.wire.specs.Le.{bytes16, bytes32}
-use Rattle.caps.specs.Walk.{Layout, gives, refuse, field, walk, ended}
+use Rattle.caps.specs.Walk.{Layout, gives, refuse, field, walk, answered}
 use Rattle.caps.specs.declared.walk.Width.TheVariants.{Two, Four}
-use Rattle.caps.specs.declared.read.AckCapReading.{AckCapReading}
-use Rattle.caps.specs.declared.read.AckCapReading.TheVariants.{Taken, Refused}
+use Rattle.wire.specs.declared.Refusal.{Refusal}
 
 -- lengthCapability counts type and length too, as in every capability set; the count is any
 unfoldable pub ack_cap : Layout ℕ
@@ -18,17 +17,13 @@ ack_cap =
 unfoldable pub ack_cap_of : ℕ → List ℕ
 ack_cap_of count = bytes16 0x001E ++ (bytes16 8 ++ bytes32 count)
 
-unfoldable pub read_ack_cap : List ℕ → AckCapReading
-read_ack_cap m = ended Taken Refused (walk ack_cap m)
+unfoldable pub read_ack_cap : List ℕ → Result ℕ Refusal
+read_ack_cap m = answered (walk ack_cap m)
 
--- its number, and the count, which is 0 where the message is refused
-unfoldable pub ack_cap_number : AckCapReading → ℕ
-ack_cap_number (Taken count) = 0
-ack_cap_number (Refused n) = n
-
-unfoldable pub ack_cap_count : AckCapReading → ℕ
-ack_cap_count (Taken count) = count
-ack_cap_count (Refused n) = 0
+-- its count, which is 0 where the message is refused
+abbrev pub ack_cap_count : Result ℕ Refusal → ℕ
+ack_cap_count (Ok count) = count
+ack_cap_count (Err refusal) = 0
 
 -- what the writer refuses: 13 is room
 unfoldable pub ack_cap_fault : ℕ → ℕ

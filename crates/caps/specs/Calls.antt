@@ -1,22 +1,20 @@
 -- The six calls as a customer sees them: what was given, what was answered, what lent memory holds afterwards (marked '), and that the call's promise,
 -- which is its `ensures`, holds of them. Nothing else is known of a call but that its numbers fit their types.
-use Rattle.std.specs.Prelude.{ℕ, ◌<◌, ◌≡◌, List, eqb, length, take}
+use Rattle.std.specs.Prelude.{ℕ, ◌<◌, ◌≡◌, List, eqb, length, take, Result}
 use Rattle.whole.specs.Row.{◌⇒◌∣◌}
-use Rattle.wire.specs.Wrote.{writing_length, Wrote}
-use Rattle.wire.specs.declared.Writing.{Writing}
+use Rattle.wire.specs.Refusal.{count_of}
+use Rattle.wire.specs.Wrote.{Wrote}
+use Rattle.wire.specs.declared.Refusal.{Refusal}
 use Rattle.caps.specs.Walk.{Bytes}
 use Rattle.caps.specs.Caps.{Entries, no_entry, one_entry, two_entries, caps_with, entries_in, read_caps, caps_of, caps_fault}
 use Rattle.caps.specs.AckCap.{read_ack_cap, ack_cap_of, ack_cap_fault}
 use Rattle.caps.specs.Ack.{read_ack, ack_of, ack_fault}
 use Rattle.caps.specs.declared.Caps.{Caps}
 use Rattle.caps.specs.declared.Ack.{Ack}
-use Rattle.caps.specs.declared.read.CapsReading.{CapsReading}
-use Rattle.caps.specs.declared.read.AckCapReading.{AckCapReading}
-use Rattle.caps.specs.declared.read.AckReading.{AckReading}
 
 -- what a writer has written: its output up to the length that it says
-abbrev pub sent_by : Writing → List ℕ → List ℕ
-sent_by answer out' = take (writing_length answer) out'
+abbrev pub sent_by : Result ℕ Refusal → List ℕ → List ℕ
+sent_by answer out' = take (count_of answer) out'
 
 -- ---- the container
 
@@ -24,7 +22,7 @@ sent_by answer out' = take (writing_length answer) out'
 pub record ReadCaps : Type 0 where
   pub message : List ℕ
   pub bytes : Bytes message
-  pub answer : CapsReading
+  pub answer : Result Caps Refusal
   pub promise : answer ≡ read_caps message
 
 -- the numbers of a struct fit their types
@@ -39,7 +37,7 @@ pub record WriteCaps : Type 0 where
   pub fit : CapsFit caps
   pub out : List ℕ
   pub out' : List ℕ
-  pub answer : Writing
+  pub answer : Result ℕ Refusal
   pub promise : Wrote (caps_fault caps (length out)) (caps_of caps) out out' answer
 
 -- the entries past n are no fields, and come back as 0 0
@@ -58,7 +56,7 @@ fields_of c = caps_with c.flags (there (entries_in c))
 pub record ReadAckCap : Type 0 where
   pub message : List ℕ
   pub bytes : Bytes message
-  pub answer : AckCapReading
+  pub answer : Result ℕ Refusal
   pub promise : answer ≡ read_ack_cap message
 
 -- write_ack_cap
@@ -67,7 +65,7 @@ pub record WriteAckCap : Type 0 where
   pub fit : count < 4294967296
   pub out : List ℕ
   pub out' : List ℕ
-  pub answer : Writing
+  pub answer : Result ℕ Refusal
   pub promise : Wrote (ack_cap_fault (length out)) (ack_cap_of count) out out' answer
 
 -- ---- the frame acknowledge message
@@ -76,7 +74,7 @@ pub record WriteAckCap : Type 0 where
 pub record ReadAck : Type 0 where
   pub message : List ℕ
   pub bytes : Bytes message
-  pub answer : AckReading
+  pub answer : Result Ack Refusal
   pub promise : answer ≡ read_ack message
 
 pub record AckFit (a : Ack) : Type 0 where
@@ -95,5 +93,5 @@ pub record WriteAck : Type 0 where
   pub fit : AckFit ack
   pub out : List ℕ
   pub out' : List ℕ
-  pub answer : Writing
+  pub answer : Result ℕ Refusal
   pub promise : Wrote (ack_fault ack.version (length out)) (ack_of ack) out out' answer

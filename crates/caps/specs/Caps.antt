@@ -1,16 +1,16 @@
 -- The client capability container of 001, 2.2.1.1 to 2.2.1.1.1.1.1: its four layouts, each as a table that is walked and as bytes.
 -- 02, Twelve: "Each layout's fixed fields refuse with 5, lengths with 4, missing bytes with 1, in wire order; at most two entries, else 6."
 -- (01 is this project's scope document, 02 its change requests, 001 is MS-RDPRFX: README, "What 01 is".)
-use Rattle.std.specs.Prelude.{ℕ, ◌+◌, ◌*◌, ◌<◌, ◌≡◌, Bool, true, false, List, [], ◌∷◌, ◌++◌, leb, eqb}
+use Rattle.std.specs.Prelude.{ℕ, ◌+◌, ◌*◌, ◌<◌, ◌≡◌, Bool, true, false, List, [], ◌∷◌, ◌++◌, leb, eqb, Result, Ok, Err}
 use Rattle.whole.specs.Row.{◌!◌⨾◌, ◌⇒◌∣◌}
 use Rattle.wire.specs.Le.{bytes16, bytes32}
 use Rattle.wire.specs.Mode.{is_mode}
-use Rattle.caps.specs.Walk.{Layout, gives, refuse, field, ◌then◌, walk, ended}
+use Rattle.caps.specs.Walk.{Layout, gives, refuse, field, ◌then◌, walk, answered}
 use Rattle.caps.specs.declared.walk.Width.TheVariants.{One, Two, Four}
 use Rattle.caps.specs.declared.Entry.{Entry}
+pub use Rattle.caps.specs.declared.Entries.{Entries}
 use Rattle.caps.specs.declared.Caps.{Caps}
-use Rattle.caps.specs.declared.read.CapsReading.{CapsReading}
-use Rattle.caps.specs.declared.read.CapsReading.TheVariants.{Taken, Refused}
+use Rattle.wire.specs.declared.Refusal.{Refusal}
 
 -- ---- an entry, TS_RFX_ICAP: "the set of codec properties that the decoder supports"
 
@@ -29,11 +29,6 @@ unfoldable pub entry_of : Entry → List ℕ
 entry_of e = bytes16 0x0100 ++ (bytes16 0x0040 ++ (e.flags ∷ 1 ∷ 1 ∷ e.mode ∷ []))
 
 -- ---- the entries of a capset: how many, and the two places; an entry that is not there is 0 0
-
-pub record Entries : Type 0 where
-  pub n : ℕ
-  pub first : Entry
-  pub second : Entry
 
 abbrev pub entries_over : ℕ → Entry → Entry → Entries
 entries_over n first second = record { n = n; first = first; second = second }
@@ -112,17 +107,13 @@ caps_of c = bytes32 (33 + 8 * c.n) ++ (bytes32 c.flags ++ (bytes32 (21 + 8 * c.n
 
 -- ---- what the reader answers
 
-unfoldable pub read_caps : List ℕ → CapsReading
-read_caps m = ended Taken Refused (walk container m)
+unfoldable pub read_caps : List ℕ → Result Caps Refusal
+read_caps m = answered (walk container m)
 
--- its number, and the fields, of which a refusal gives none: all are 0
-unfoldable pub caps_number : CapsReading → ℕ
-caps_number (Taken c) = 0
-caps_number (Refused n) = n
-
-unfoldable pub caps_fields : CapsReading → Caps
-caps_fields (Taken c) = c
-caps_fields (Refused n) = caps_with 0 no_entry
+-- its fields, of which a refusal gives none: all are 0
+abbrev pub caps_fields : Result Caps Refusal → Caps
+caps_fields (Ok c) = c
+caps_fields (Err refusal) = caps_with 0 no_entry
 
 -- ---- what the writer refuses, in wire order: "at most two entries, else 6"; an entropyBits that is neither of the two is 5; 13 is room
 

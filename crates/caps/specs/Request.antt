@@ -1,12 +1,12 @@
 -- 02's request Twelve over the calls, sentence by sentence: what a caller can rely on. `request_twelve` (specs/laws/Request) proves all of it.
 -- "Sessions and frames are unaffected": nothing of them is named in this crate, a reader lends no memory, a writer its output alone.
 -- (01 is this project's scope document, 02 its change requests, 001 is MS-RDPRFX: README, "What 01 is".)
-use Rattle.std.specs.Prelude.{ℕ, ◌+◌, ◌*◌, ◌%◌, ◌≤◌, ◌<◌, ◌≡◌, Bool, true, List, ◌∷◌, ◌++◌, ◌≢◌, eqb, length, take}
+use Rattle.std.specs.Prelude.{ℕ, ◌+◌, ◌*◌, ◌%◌, ◌≤◌, ◌<◌, ◌≡◌, Bool, true, List, ◌∷◌, ◌++◌, ◌≢◌, eqb, length, take, Result, Ok, Err}
 use Rattle.whole.specs.Row.{◌⇒◌∣◌}
 use Rattle.wire.specs.Le.{bytes16, bytes32}
-use Rattle.wire.specs.Wrote.{writing_number}
-use Rattle.wire.specs.declared.Writing.{Writing}
-use Rattle.wire.specs.declared.Writing.TheVariants.{Done, Refused as NotWritten}
+use Rattle.wire.specs.Refusal.{refusal_number, refusal_of, number_of}
+use Rattle.wire.specs.declared.Refusal.{Refusal}
+use Rattle.wire.specs.declared.Refusal.TheVariants.{Cut, Length, Field, TooBig}
 use Rattle.caps.specs.Walk.{Stopped, walk, Both}
 use Rattle.caps.specs.Caps.{entry, entry_of, capset, capset_of, block, block_of, container, caps_of, read_caps, GoodEntry, GoodIn, GoodCaps}
 use Rattle.caps.specs.AckCap.{ack_cap, ack_cap_of, read_ack_cap, GoodAckCap}
@@ -15,12 +15,6 @@ use Rattle.caps.specs.Calls.{sent_by, ReadCaps, WriteCaps, fields_of, ReadAckCap
 use Rattle.caps.specs.declared.Entry.{Entry}
 use Rattle.caps.specs.declared.Caps.{Caps}
 use Rattle.caps.specs.declared.Ack.{Ack}
-use Rattle.caps.specs.declared.read.CapsReading.{CapsReading}
-use Rattle.caps.specs.declared.read.CapsReading.TheVariants.{Taken, Refused}
-use Rattle.caps.specs.declared.read.AckCapReading.{AckCapReading}
-use Rattle.caps.specs.declared.read.AckCapReading.TheVariants.{Taken as TakenCap, Refused as RefusedCap}
-use Rattle.caps.specs.declared.read.AckReading.{AckReading}
-use Rattle.caps.specs.declared.read.AckReading.TheVariants.{Taken as TakenAck, Refused as RefusedAck}
 
 -- the numbers that a reader can say: "fixed fields refuse with 5, lengths with 4, missing bytes with 1"; "at most two entries, else 6"
 unfoldable pub read_number : ℕ → Bool
@@ -38,30 +32,30 @@ ack_says n =
     eqb n 5
 
 -- bytes that were read, written again: all of them, and the same
-pub record Again (m out' : List ℕ) (w : Writing) : Type 0 where
-  pub done : w ≡ Done (length m)
+pub record Again (m out' : List ℕ) (w : Result ℕ Refusal) : Type 0 where
+  pub done : w ≡ Ok (length m)
   pub sent : sent_by w out' ≡ m
 
--- ---- what holds of each of the three messages: R and W are calls of its reader and its writer, F its fields, A what the reader answers
+-- ---- what holds of each of the three messages: R and W are calls of its reader and its writer, F its fields
 
 pub record Kept
-    {R W F A : Type 0}
-    (message : R → List ℕ) (answer : R → A) (fields : W → F) (out out' : W → List ℕ) (wrote : W → Writing)
-    (taken : F → A) (refused : ℕ → A) (there : F → F) (says : ℕ → Bool)
+    {R W F : Type 0}
+    (message : R → List ℕ) (answer : R → Result F Refusal) (fields : W → F) (out out' : W → List ℕ) (wrote : W → Result ℕ Refusal)
+    (there : F → F) (says : ℕ → Bool)
     : Type 0 where
   -- one answer alone, and one content of lent memory, meet the promise of a call
   pub one_reading : (r s : R) → message r ≡ message s → answer r ≡ answer s
   pub one_writing : (w v : W) → fields w ≡ fields v → out w ≡ out v → (wrote w ≡ wrote v) × (out' w ≡ out' v)
   -- "Writing then reading gives the fields back"
-  pub back : (w : W) (r : R) → writing_number (wrote w) ≡ 0 → message r ≡ sent_by (wrote w) (out' w) → answer r ≡ taken (there (fields w))
+  pub back : (w : W) (r : R) → number_of (wrote w) ≡ 0 → message r ≡ sent_by (wrote w) (out' w) → answer r ≡ Ok (there (fields w))
   -- "any accepted bytes, written again from their fields, come out the same, flags that aren't judged included"
-  pub same : (r : R) (w : W) → answer r ≡ taken (fields w) → length (message r) ≤ length (out w) → Again (message r) (out' w) (wrote w)
+  pub same : (r : R) (w : W) → answer r ≡ Ok (fields w) → length (message r) ≤ length (out w) → Again (message r) (out' w) (wrote w)
   -- "missing bytes with 1": whatever is accepted is cut by every end before its own
-  pub cut : (r s : R) (a : F) (k : ℕ) → answer r ≡ taken a → k < length (message r) → message s ≡ take k (message r) → answer s ≡ refused 1
+  pub cut : (r s : R) (a : F) (k : ℕ) → answer r ≡ Ok a → k < length (message r) → message s ≡ take k (message r) → answer s ≡ Err Cut
   -- "lengths with 4": bytes after it
-  pub longer : (r s : R) (a : F) (b : ℕ) (more : List ℕ) → answer r ≡ taken a → message s ≡ message r ++ b ∷ more → answer s ≡ refused 4
+  pub longer : (r s : R) (a : F) (b : ℕ) (more : List ℕ) → answer r ≡ Ok a → message s ≡ message r ++ b ∷ more → answer s ≡ Err Length
   -- and no other numbers
-  pub numbers : (r : R) (n : ℕ) → answer r ≡ refused n → says n ≡ true
+  pub numbers : (r : R) (refusal : Refusal) → answer r ≡ Err refusal → says (refusal_number refusal) ≡ true
 
 -- ---- "Each layout's fixed fields refuse with 5, lengths with 4, .. in wire order": where the fields before it are as they should be, a field that is not is
 -- refused, whatever follows
@@ -118,32 +112,36 @@ pub record BlockRefuses : Type 0 where
 pub record ContainerRefuses : Type 0 where
   pub length :
       (size flags capsLength : ℕ) (more : List ℕ) → size < 4294967296 → flags < 4294967296 → capsLength < 4294967296 → size ≢ 12 + capsLength →
-      read_caps (bytes32 size ++ (bytes32 flags ++ (bytes32 capsLength ++ more))) ≡ Refused 4
+      read_caps (bytes32 size ++ (bytes32 flags ++ (bytes32 capsLength ++ more))) ≡ Err Length
   -- and what the block refuses
   pub inside :
       (flags capsLength k : ℕ) (more : List ℕ) → flags < 4294967296 → 12 + capsLength < 4294967296 → walk (block capsLength) more ≡ Stopped k →
-      read_caps (bytes32 (12 + capsLength) ++ (bytes32 flags ++ (bytes32 capsLength ++ more))) ≡ Refused k
+      read_caps (bytes32 (12 + capsLength) ++ (bytes32 flags ++ (bytes32 capsLength ++ more))) ≡ Err (refusal_of k)
+  -- and the number said is the one that the block stopped with
+  pub inside_number :
+      (flags capsLength k : ℕ) (more : List ℕ) → flags < 4294967296 → 12 + capsLength < 4294967296 → walk (block capsLength) more ≡ Stopped k →
+      number_of (read_caps (bytes32 (12 + capsLength) ++ (bytes32 flags ++ (bytes32 capsLength ++ more)))) ≡ k
 
 pub record AckCapRefuses : Type 0 where
-  pub type : (v : ℕ) (more : List ℕ) → v < 65536 → v ≢ 0x001E → read_ack_cap (bytes16 v ++ more) ≡ RefusedCap 5
-  pub length : (v : ℕ) (more : List ℕ) → v < 65536 → v ≢ 8 → read_ack_cap (bytes16 0x001E ++ (bytes16 v ++ more)) ≡ RefusedCap 4
+  pub type : (v : ℕ) (more : List ℕ) → v < 65536 → v ≢ 0x001E → read_ack_cap (bytes16 v ++ more) ≡ Err Field
+  pub length : (v : ℕ) (more : List ℕ) → v < 65536 → v ≢ 8 → read_ack_cap (bytes16 0x001E ++ (bytes16 v ++ more)) ≡ Err Length
 
 pub record AckRefuses : Type 0 where
-  pub total_length : (v : ℕ) (more : List ℕ) → v < 65536 → v ≢ 22 → read_ack (bytes16 v ++ more) ≡ RefusedAck 4
-  pub type : (v : ℕ) (more : List ℕ) → v < 65536 → v % 16 ≢ 7 → read_ack (bytes16 22 ++ (bytes16 v ++ more)) ≡ RefusedAck 5
+  pub total_length : (v : ℕ) (more : List ℕ) → v < 65536 → v ≢ 22 → read_ack (bytes16 v ++ more) ≡ Err Length
+  pub type : (v : ℕ) (more : List ℕ) → v < 65536 → v % 16 ≢ 7 → read_ack (bytes16 22 ++ (bytes16 v ++ more)) ≡ Err Field
   pub second_type :
       (a : Ack) (v : ℕ) (more : List ℕ) → GoodAck a → v < 256 → v ≢ 0x38 →
       read_ack (bytes16 22 ++ (bytes16 (7 + 16 * a.version) ++ (bytes16 a.source ++ (bytes32 a.share ++ (a.pad ∷ a.stream ∷
-      (bytes16 a.uncompressed ++ (v ∷ more))))))) ≡ RefusedAck 5
+      (bytes16 a.uncompressed ++ (v ∷ more))))))) ≡ Err Field
 
 pub record RequestTwelve : Type 0 where
   -- "the client capability container, .. the frame acknowledge capability and the frame acknowledge message"
-  pub of_container : Kept {R = ReadCaps} {W = WriteCaps} {F = Caps} {A = CapsReading}
-      (λ r. r.message) (λ r. r.answer) (λ w. w.caps) (λ w. w.out) (λ w. w.out') (λ w. w.answer) Taken Refused fields_of read_number
-  pub of_ack_cap : Kept {R = ReadAckCap} {W = WriteAckCap} {F = ℕ} {A = AckCapReading}
-      (λ r. r.message) (λ r. r.answer) (λ w. w.count) (λ w. w.out) (λ w. w.out') (λ w. w.answer) TakenCap RefusedCap (λ n. n) ack_says
-  pub of_ack : Kept {R = ReadAck} {W = WriteAck} {F = Ack} {A = AckReading}
-      (λ r. r.message) (λ r. r.answer) (λ w. w.ack) (λ w. w.out) (λ w. w.out') (λ w. w.answer) TakenAck RefusedAck (λ a. a) ack_says
+  pub of_container : Kept {R = ReadCaps} {W = WriteCaps} {F = Caps}
+      (λ r. r.message) (λ r. r.answer) (λ w. w.caps) (λ w. w.out) (λ w. w.out') (λ w. w.answer) fields_of read_number
+  pub of_ack_cap : Kept {R = ReadAckCap} {W = WriteAckCap} {F = ℕ}
+      (λ r. r.message) (λ r. r.answer) (λ w. w.count) (λ w. w.out) (λ w. w.out') (λ w. w.answer) (λ n. n) ack_says
+  pub of_ack : Kept {R = ReadAck} {W = WriteAck} {F = Ack}
+      (λ r. r.message) (λ r. r.answer) (λ w. w.ack) (λ w. w.out) (λ w. w.out') (λ w. w.answer) (λ a. a) ack_says
   -- "its capset and its entries", and every layout by itself: its reading and its writing are inverse, both ways
   pub entry_both : Both entry GoodEntry entry_of
   pub capset_both : (capsLength : ℕ) → Both (capset capsLength) (GoodIn capsLength) capset_of
@@ -166,6 +164,6 @@ pub record RequestTwelve : Type 0 where
       → 2 < n
       → read_caps (bytes32 (20 + size) ++ (bytes32 flags ++ (bytes32 (8 + size) ++ (bytes16 0xCBC0 ++ (bytes32 8 ++ (bytes16 1 ++
       (bytes16 0xCBC1 ++ (bytes32 size ++ (1 ∷ (bytes16 0xCFC0 ++ (bytes16 n ++ more)))))))))))
-      ≡ Refused 6
+      ≡ Err TooBig
   -- and written
-  pub too_many_written : (w : WriteCaps) → 2 < w.caps.n → w.answer ≡ NotWritten 6
+  pub too_many_written : (w : WriteCaps) → 2 < w.caps.n → w.answer ≡ Err TooBig

@@ -1,11 +1,12 @@
--- Where the code's walk stands, step by step: what its functions promise.
-use Rattle.std.specs.Prelude.{ℕ, ◌+◌, Bool, List, leb, eqb, length, drop}
+-- What the code's walk promises, step by step: what is left of the message in front of a step is m, and behind it m'.
+use Rattle.std.specs.Prelude.{ℕ, ◌≡◌, ◌≢◌, ◌⊎◌, ◌<◌, ◌≤◌, List, eqb, length, drop, Result, MatchResult}
 use Rattle.whole.specs.Row.{◌!◌⨾◌}
 use Rattle.wire.specs.Le.{byte_at, le16, le32}
-use Rattle.caps.specs.Walk.{size, Layout, Walked, Stopped, walk}
+use Rattle.wire.specs.Refusal.{refusal_number}
+use Rattle.wire.specs.declared.Refusal.{Refusal}
+use Rattle.caps.specs.Walk.{size, most, Layout, Came, Stopped, walk}
 use Rattle.caps.specs.declared.walk.Width.{Width}
 use Rattle.caps.specs.declared.walk.Width.TheVariants.{One, Two, Four}
-use Rattle.caps.specs.declared.walk.Step.{Step}
 
 -- the number of a field at a place
 unfoldable pub number_at : Width → List ℕ → ℕ → ℕ
@@ -13,33 +14,36 @@ number_at One m at = byte_at m at
 number_at Two m at = le16 m at
 number_at Four m at = le32 m at
 
-abbrev pub stands : ℕ → ℕ → ℕ → Step
-stands fault at value = record { fault = fault; at = at; value = value }
+-- a field whose number is v stands in front of m'
+pub record Here (w : Width) (m m' : List ℕ) (v : ℕ) : Type 0 where
+  pub there : size w ≤ length m
+  pub is : v ≡ number_at w m 0
+  pub fits : v < most w
+  pub left : m' ≡ drop (size w) m
 
-abbrev pub start : Step
-start = stands 0 0 0
+-- its bytes are not all there
+pub record Short (w : Width) (m : List ℕ) (n : ℕ) : Type 0 where
+  pub short : length m < size w
+  pub cut : n ≡ 1
 
-unfoldable pub next_of : Width → List ℕ → Step → Step
-next_of w m s =
-    eqb s.fault 0 ! stands s.fault s.at 0 ⨾
-    leb (s.at + size w) (length m) ! stands 1 s.at 0 ⨾
-    stands 0 (s.at + size w) (number_at w m s.at)
+-- the next field
+abbrev pub Next : Width → List ℕ → List ℕ → Result ℕ Refusal → Type 0
+Next w m m' r = MatchResult r (Here w m m') (λ e. Short w m (refusal_number e))
 
-unfoldable pub judge_of : Bool → ℕ → Step → Step
-judge_of good n s =
-    eqb s.fault 0 ! s ⨾
-    good ! stands n s.at 0 ⨾
-    s
+-- a field with another value than the fixed one
+pub record Other (w : Width) (v n : ℕ) (m : List ℕ) (k : ℕ) : Type 0 where
+  pub there : size w ≤ length m
+  pub not : number_at w m 0 ≢ v
+  pub refused : k ≡ n
 
-unfoldable pub fixed_of : Width → ℕ → ℕ → List ℕ → Step → Step
-fixed_of w v n m s = judge_of (eqb (next_of w m s).value v) n (next_of w m s)
+-- a field with a fixed value
+abbrev pub Fixed : {A : Type 0} → Width → ℕ → ℕ → List ℕ → List ℕ → Result A Refusal → Type 0
+Fixed w v n m m' r = MatchResult r (λ _. Here w m m' v) (λ e. Short w m (refusal_number e) ⊎ Other w v n m (refusal_number e))
 
-unfoldable pub finish_of : List ℕ → Step → ℕ
-finish_of m s =
-    eqb s.fault 0 ! s.fault ⨾
-    leb (length m) s.at ! 4 ⨾
-    0
+-- the end of the message
+unfoldable pub ends : List ℕ → ℕ
+ends m = eqb (length m) 0 ! 4 ⨾ 0
 
--- what a layout comes to from where the walk stands
-unfoldable pub left : {A : Type 0} → Layout A → List ℕ → Step → Walked A
-left l m s = eqb s.fault 0 ! Stopped s.fault ⨾ walk l (drop s.at m)
+-- what a layout comes to
+abbrev pub Reads : {A : Type 0} → Layout A → List ℕ → List ℕ → Result A Refusal → Type 0
+Reads l m m' r = MatchResult r (λ a. walk l m ≡ Came a m') (λ e. walk l m ≡ Stopped (refusal_number e))

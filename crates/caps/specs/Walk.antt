@@ -1,9 +1,11 @@
 -- How a layout is read: one walk along the wire, field by field. 02, Twelve: "fixed fields refuse with 5, lengths with 4, missing bytes with 1, in wire
 -- order".
 -- (01 is this project's scope document, 02 its change requests, 001 is MS-RDPRFX: README, "What 01 is".)
-use Rattle.std.specs.Prelude.{ℕ, ◌<◌, ◌≡◌, List, [], ◌∷◌, ◌++◌, leb, eqb, length, get_or, drop}
+use Rattle.std.specs.Prelude.{ℕ, ◌<◌, ◌≡◌, List, [], ◌∷◌, ◌++◌, leb, eqb, length, get_or, drop, Result, Ok, Err}
 use Rattle.whole.specs.Row.{◌!◌⨾◌}
 use Rattle.wire.specs.Le.{byte_at, le16, le32, bytes16, bytes32}
+use Rattle.wire.specs.Refusal.{refusal_of}
+use Rattle.wire.specs.declared.Refusal.{Refusal}
 use Rattle.caps.specs.declared.walk.Width.{Width}
 use Rattle.caps.specs.declared.walk.Width.TheVariants.{One, Two, Four}
 
@@ -68,6 +70,13 @@ walk (field w next) m =
 unfoldable pub ended : {A R : Type 0} → (A → R) → (ℕ → R) → Walked A → R
 ended taken refused (Came a rest) = eqb (length rest) 0 ! refused 4 ⨾ taken a
 ended taken refused (Stopped n) = refused n
+
+-- what a reader answers
+abbrev pub refused_by : {A : Type 0} → ℕ → Result A Refusal
+refused_by n = Err (refusal_of n)
+
+abbrev pub answered : {A : Type 0} → Walked A → Result A Refusal
+answered w = ended Ok refused_by w
 
 -- ---- a layout's law, both ways: "Writing then reading gives the fields back, and any accepted bytes, written again from their fields, come out the same,
 -- flags that aren't judged included"

@@ -8,14 +8,22 @@ pub mod walk;
 pub mod write;
 
 // One entry of the container's capset: its flags, which nobody judges, and entropyBits, 1 (RLGR1) or 4 (RLGR3). One that is not there is 0 0.
-#[derive(Clone, Copy)]
+#[derive(Clone, Copy, Default)]
 pub struct Entry {
     pub flags: u8,
     pub mode: u8,
 }
 
-// The fields of a container: captureFlags, how many entries there are, and the entries.
+// The entries of a capset: how many there are, and the two places.
 #[derive(Clone, Copy)]
+pub struct Entries {
+    pub n: u8,
+    pub first: Entry,
+    pub second: Entry,
+}
+
+// The fields of a container: captureFlags, how many entries there are, and the entries.
+#[derive(Clone, Copy, Default)]
 pub struct Caps {
     pub flags: u32,
     pub n: u8,
@@ -24,7 +32,7 @@ pub struct Caps {
 }
 
 // The fields of a frame acknowledge message: the version, which is the upper twelve bits of pduType, and then in wire order.
-#[derive(Clone, Copy)]
+#[derive(Clone, Copy, Default)]
 pub struct Ack {
     pub version: u16,
     pub source: u16,

@@ -1,273 +1,200 @@
 // The three readers: each is one walk along the wire (specs/Walk) by its table (specs/Caps, specs/AckCap, specs/Ack). They lend no memory and keep no
 // state; a refusal gives no fields.
 ghost use Rattle.std.specs.Prelude.{◌≡◌};
-ghost use Rattle.caps.specs.Walk.{gives};
-ghost use Rattle.caps.specs.Step.{left};
-ghost use Rattle.caps.specs.Caps.{entry, entries, entries_over, block, read_caps, caps_number, caps_fields};
-ghost use Rattle.caps.specs.AckCap.{read_ack_cap, ack_cap_number, ack_cap_count};
-ghost use Rattle.caps.specs.Ack.{read_ack, ack_number, ack_fields};
+ghost use Rattle.caps.specs.Step.{Reads};
+ghost use Rattle.caps.specs.Caps.{entry, entries, capset, block, container, read_caps, caps_fields};
+ghost use Rattle.caps.specs.AckCap.{ack_cap, read_ack_cap, ack_cap_count};
+ghost use Rattle.caps.specs.Ack.{ack, read_ack, ack_fields};
 
-use crate::walk::{Step, Width, begin, finish, fixed, judge, next};
-use crate::{Ack, Caps, Entry};
+use crate::walk::{Width, finish, fixed, next};
+use crate::{Ack, Caps, Entries, Entry};
+use wire::Refusal;
 
-// What reading a container came to: its fields, or the number of the first fault.
-#[derive(Clone, Copy)]
-pub enum CapsReading {
-    Taken(Caps),
-    Refused(u8),
-}
+// "at most two entries, else 6"
+const MOST: usize = 2;
 
-// The same of a frame acknowledge capability: its maxUnacknowledgedFrameCount.
-#[derive(Clone, Copy)]
-pub enum AckCapReading {
-    Taken(u32),
-    Refused(u8),
-}
-
-// The same of a frame acknowledge message.
-#[derive(Clone, Copy)]
-pub enum AckReading {
-    Taken(Ack),
-    Refused(u8),
-}
-
-// An entry, and where the walk stands behind it.
-#[derive(Clone, Copy)]
-struct Entered {
-    entry: Entry,
-    step: Step,
-}
-
-// How many entries a capset says it has, and where the walk stands in front of them.
-#[derive(Clone, Copy)]
-struct Counted {
-    n: usize,
-    step: Step,
-}
-
-// The entries, and where the walk stands behind them.
-#[derive(Clone, Copy)]
-struct Listed {
-    n: u8,
-    first: Entry,
-    second: Entry,
-    step: Step,
-}
-
-fn read_entry(m: &[u8], s: Step) -> Entered
-    ensures { left entry m.now s ≡ left (gives result.entry) m.now result.step }
+fn read_entry(rest: &mut &[u8]) -> Result<Entry, Refusal>
+    ensures { Reads entry rest.old.now rest.new.now result }
 {
-    let version = fixed(m, s, Width::Two, 0x0100, 5);
-    let tile = fixed(m, version, Width::Two, 0x0040, 5);
-    let flags = next(m, tile, Width::One);
-    let colour = fixed(m, flags, Width::One, 1, 5);
-    let transform = fixed(m, colour, Width::One, 1, 5);
-    let mode = next(m, transform, Width::One);
-    let end = judge(mode, wire::is_mode(mode.value), 5);
-    Entered {
-        entry: Entry {
-            flags: flags.value as u8,
-            mode: mode.value as u8,
-        },
-        step: end,
+    fixed(rest, Width::Two, 0x0100, Refusal::Field)?;
+    fixed(rest, Width::Two, 0x0040, Refusal::Field)?;
+    let flags = next(rest, Width::One)?;
+    fixed(rest, Width::One, 1, Refusal::Field)?;
+    fixed(rest, Width::One, 1, Refusal::Field)?;
+    let mode = next(rest, Width::One)?;
+    if !wire::is_mode(mode) {
+        return Err(Refusal::Field);
     }
+    Ok(Entry {
+        flags: flags as u8,
+        mode: mode as u8,
+    })
 }
 
-// TS_RFX_CAPS and the capset, up to the entries.
-fn read_block(m: &[u8], s: Step, inner: usize) -> Counted
-    ensures { left (block inner) m.now s ≡ left (entries result.n) m.now result.step }
-{
-    let kind = fixed(m, s, Width::Two, 0xCBC0, 5);
-    let eight = fixed(m, kind, Width::Four, 8, 4);
-    let one = fixed(m, eight, Width::Two, 1, 5);
-    let set = fixed(m, one, Width::Two, 0xCBC1, 5);
-    let length = next(m, set, Width::Four);
-    let inside = judge(length, inner == 8 + length.value, 4);
-    let codec = fixed(m, inside, Width::One, 1, 5);
-    let set_kind = fixed(m, codec, Width::Two, 0xCFC0, 5);
-    let count = next(m, set_kind, Width::Two);
-    let few = judge(count, count.value <= 2, 6);
-    let each = fixed(m, few, Width::Two, 8, 4);
-    let end = judge(each, length.value == 13 + 8 * count.value, 4);
-    Counted {
-        n: count.value,
-        step: end,
-    }
-}
-
-fn read_entries(m: &[u8], s: Step, n: usize) -> Listed
-    ensures { left (entries n) m.now s ≡ left (gives (entries_over result.n result.first result.second)) m.now result.step }
+fn read_entries(rest: &mut &[u8], n: usize) -> Result<Entries, Refusal>
+    ensures { Reads (entries n) rest.old.now rest.new.now result }
 {
     let absent = Entry { flags: 0, mode: 0 };
     if n == 0 {
-        return Listed {
+        return Ok(Entries {
             n: 0,
             first: absent,
             second: absent,
-            step: s,
-        };
+        });
     }
-    let a = read_entry(m, s);
-    let first = a.entry;
-    let behind = a.step;
+    let first = read_entry(rest)?;
     if n == 1 {
-        return Listed {
+        return Ok(Entries {
             n: 1,
-            first: first,
+            first,
             second: absent,
-            step: behind,
-        };
+        });
     }
-    let b = read_entry(m, behind);
-    let second = b.entry;
-    let end = b.step;
-    Listed {
+    let second = read_entry(rest)?;
+    Ok(Entries {
         n: 2,
-        first: first,
-        second: second,
-        step: end,
-    }
-}
-
-// Reads the client capability container, which is the whole message.
-pub fn read_caps(m: &[u8]) -> CapsReading
-    ensures { result ≡ read_caps m.now }
-{
-    let length = next(m, begin(), Width::Four);
-    let flags = next(m, length, Width::Four);
-    let inner = next(m, flags, Width::Four);
-    let inside = judge(inner, length.value == 12 + inner.value, 4);
-    let counted = read_block(m, inside, inner.value);
-    let listed = read_entries(m, counted.step, counted.n);
-    let number = finish(m, listed.step);
-    if number != 0 {
-        return CapsReading::Refused(number);
-    }
-    let first = listed.first;
-    let second = listed.second;
-    CapsReading::Taken(Caps {
-        flags: flags.value as u32,
-        n: listed.n,
-        first: first,
-        second: second,
+        first,
+        second,
     })
 }
 
-// Reads the frame acknowledge capability, which is the whole message.
-pub fn read_ack_cap(m: &[u8]) -> AckCapReading
+// By capsLength, which speaks of it.
+fn read_capset(rest: &mut &[u8], inner: usize) -> Result<Entries, Refusal>
+    ensures { Reads (capset inner) rest.old.now rest.new.now result }
+{
+    fixed(rest, Width::Two, 0xCBC1, Refusal::Field)?;
+    let length = next(rest, Width::Four)?;
+    if inner != 8 + length {
+        return Err(Refusal::Length);
+    }
+    fixed(rest, Width::One, 1, Refusal::Field)?;
+    fixed(rest, Width::Two, 0xCFC0, Refusal::Field)?;
+    let count = next(rest, Width::Two)?;
+    if count > MOST {
+        return Err(Refusal::TooBig);
+    }
+    fixed(rest, Width::Two, 8, Refusal::Length)?;
+    if length != 13 + 8 * count {
+        return Err(Refusal::Length);
+    }
+    read_entries(rest, count)
+}
+
+// TS_RFX_CAPS and the capset.
+fn read_block(rest: &mut &[u8], inner: usize) -> Result<Entries, Refusal>
+    ensures { Reads (block inner) rest.old.now rest.new.now result }
+{
+    fixed(rest, Width::Two, 0xCBC0, Refusal::Field)?;
+    fixed(rest, Width::Four, 8, Refusal::Length)?;
+    fixed(rest, Width::Two, 1, Refusal::Field)?;
+    read_capset(rest, inner)
+}
+
+fn read_container(rest: &mut &[u8]) -> Result<Caps, Refusal>
+    ensures { Reads container rest.old.now rest.new.now result }
+{
+    let length = next(rest, Width::Four)?;
+    let flags = next(rest, Width::Four)?;
+    let inner = next(rest, Width::Four)?;
+    if length != 12 + inner {
+        return Err(Refusal::Length);
+    }
+    let listed = read_block(rest, inner)?;
+    Ok(Caps {
+        flags: flags as u32,
+        n: listed.n,
+        first: listed.first,
+        second: listed.second,
+    })
+}
+
+fn read_ack_cap_fields(rest: &mut &[u8]) -> Result<u32, Refusal>
+    ensures { Reads ack_cap rest.old.now rest.new.now result }
+{
+    fixed(rest, Width::Two, 0x001E, Refusal::Field)?;
+    fixed(rest, Width::Two, 8, Refusal::Length)?;
+    let count = next(rest, Width::Four)?;
+    Ok(count as u32)
+}
+
+fn read_ack_message(rest: &mut &[u8]) -> Result<Ack, Refusal>
+    ensures { Reads ack rest.old.now rest.new.now result }
+{
+    fixed(rest, Width::Two, 22, Refusal::Length)?;
+    let kind = next(rest, Width::Two)?;
+    if kind % 16 != 7 {
+        return Err(Refusal::Field);
+    }
+    let source = next(rest, Width::Two)?;
+    let share = next(rest, Width::Four)?;
+    let pad = next(rest, Width::One)?;
+    let stream = next(rest, Width::One)?;
+    let uncompressed = next(rest, Width::Two)?;
+    fixed(rest, Width::One, 0x38, Refusal::Field)?;
+    let compression = next(rest, Width::One)?;
+    let compressed = next(rest, Width::Two)?;
+    let frame = next(rest, Width::Four)?;
+    Ok(Ack {
+        version: (kind / 16) as u16,
+        source: source as u16,
+        share: share as u32,
+        pad: pad as u8,
+        stream: stream as u8,
+        uncompressed: uncompressed as u16,
+        compression: compression as u8,
+        compressed: compressed as u16,
+        frame: frame as u32,
+    })
+}
+
+// Reads the client capability container, which is the whole message. The three readers are alike; one over a function for the fields would have its clause for
+// any layout, and be no shorter.
+pub fn read_caps(m: &[u8]) -> Result<Caps, Refusal>
+    ensures { result ≡ read_caps m.now }
+{
+    let mut rest = m;
+    let caps = read_container(&mut rest)?;
+    finish(rest)?;
+    Ok(caps)
+}
+
+// Reads the frame acknowledge capability, which is the whole message: its maxUnacknowledgedFrameCount.
+pub fn read_ack_cap(m: &[u8]) -> Result<u32, Refusal>
     ensures { result ≡ read_ack_cap m.now }
 {
-    let kind = fixed(m, begin(), Width::Two, 0x001E, 5);
-    let length = fixed(m, kind, Width::Two, 8, 4);
-    let count = next(m, length, Width::Four);
-    let number = finish(m, count);
-    if number != 0 {
-        return AckCapReading::Refused(number);
-    }
-    AckCapReading::Taken(count.value as u32)
+    let mut rest = m;
+    let count = read_ack_cap_fields(&mut rest)?;
+    finish(rest)?;
+    Ok(count)
 }
 
 // Reads the frame acknowledge message from its shareDataHeader on, which is the whole message.
-pub fn read_ack(m: &[u8]) -> AckReading
+pub fn read_ack(m: &[u8]) -> Result<Ack, Refusal>
     ensures { result ≡ read_ack m.now }
 {
-    let total = fixed(m, begin(), Width::Two, 22, 4);
-    let kind = next(m, total, Width::Two);
-    let typed = judge(kind, kind.value % 16 == 7, 5);
-    let source = next(m, typed, Width::Two);
-    let share = next(m, source, Width::Four);
-    let pad = next(m, share, Width::One);
-    let stream = next(m, pad, Width::One);
-    let uncompressed = next(m, stream, Width::Two);
-    let kind2 = fixed(m, uncompressed, Width::One, 0x38, 5);
-    let compression = next(m, kind2, Width::One);
-    let compressed = next(m, compression, Width::Two);
-    let frame = next(m, compressed, Width::Four);
-    let number = finish(m, frame);
-    if number != 0 {
-        return AckReading::Refused(number);
-    }
-    AckReading::Taken(Ack {
-        version: (kind.value / 16) as u16,
-        source: source.value as u16,
-        share: share.value as u32,
-        pad: pad.value as u8,
-        stream: stream.value as u8,
-        uncompressed: uncompressed.value as u16,
-        compression: compression.value as u8,
-        compressed: compressed.value as u16,
-        frame: frame.value as u32,
-    })
+    let mut rest = m;
+    let fields = read_ack_message(&mut rest)?;
+    finish(rest)?;
+    Ok(fields)
 }
 
-// The number of the first fault, 0 where there is none; and the fields, all 0 where the message is refused.
-pub fn caps_number(r: CapsReading) -> u8
-    ensures { result ≡ caps_number r }
-{
-    match r {
-        CapsReading::Taken(caps) => 0,
-        CapsReading::Refused(number) => number,
-    }
-}
-
-pub fn caps_fields(r: CapsReading) -> Caps
+// The fields, all 0 where the message is refused.
+pub fn caps_fields(r: Result<Caps, Refusal>) -> Caps
     ensures { result ≡ caps_fields r }
 {
-    match r {
-        CapsReading::Taken(caps) => caps,
-        CapsReading::Refused(number) => Caps {
-            flags: 0,
-            n: 0,
-            first: Entry { flags: 0, mode: 0 },
-            second: Entry { flags: 0, mode: 0 },
-        },
-    }
+    r.unwrap_or_default()
 }
 
 // The same of a frame acknowledge capability.
-pub fn ack_cap_number(r: AckCapReading) -> u8
-    ensures { result ≡ ack_cap_number r }
-{
-    match r {
-        AckCapReading::Taken(count) => 0,
-        AckCapReading::Refused(number) => number,
-    }
-}
-
-pub fn ack_cap_count(r: AckCapReading) -> u32
+pub fn ack_cap_count(r: Result<u32, Refusal>) -> u32
     ensures { result ≡ ack_cap_count r }
 {
-    match r {
-        AckCapReading::Taken(count) => count,
-        AckCapReading::Refused(number) => 0,
-    }
+    r.unwrap_or(0)
 }
 
 // The same of a frame acknowledge message.
-pub fn ack_number(r: AckReading) -> u8
-    ensures { result ≡ ack_number r }
-{
-    match r {
-        AckReading::Taken(ack) => 0,
-        AckReading::Refused(number) => number,
-    }
-}
-
-pub fn ack_fields(r: AckReading) -> Ack
+pub fn ack_fields(r: Result<Ack, Refusal>) -> Ack
     ensures { result ≡ ack_fields r }
 {
-    match r {
-        AckReading::Taken(ack) => ack,
-        AckReading::Refused(number) => Ack {
-            version: 0,
-            source: 0,
-            share: 0,
-            pad: 0,
-            stream: 0,
-            uncompressed: 0,
-            compression: 0,
-            compressed: 0,
-            frame: 0,
-        },
-    }
+    r.unwrap_or_default()
 }

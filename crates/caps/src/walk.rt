@@ -1,7 +1,10 @@
-// One walk along the wire, field by field: the fault (0 while there is none), the place of the next field, and the number of the last one.
-ghost use Rattle.std.specs.Prelude.{◌≡◌, ◌+◌, ◌≤◌, ◌<◌, length, leb};
+// One walk along the wire, field by field: each is read off the front of what is left of the message.
+ghost use Rattle.std.specs.Prelude.{◌≡◌, ◌+◌, ◌≤◌, ◌<◌, length};
+ghost use Rattle.wire.specs.Refusal.{number_of, refusal_number};
 ghost use Rattle.caps.specs.Walk.{size, most};
-ghost use Rattle.caps.specs.Step.{number_at, stands, start, next_of, judge_of, fixed_of, finish_of};
+ghost use Rattle.caps.specs.Step.{number_at, Next, Fixed, ends};
+
+use wire::Refusal;
 
 // A field has one, two or four bytes.
 #[derive(Clone, Copy)]
@@ -9,14 +12,6 @@ pub enum Width {
     One,
     Two,
     Four,
-}
-
-// Where the walk stands. After a fault it stays, and its number is 0.
-#[derive(Clone, Copy)]
-pub struct Step {
-    pub fault: u8,
-    pub at: usize,
-    pub value: usize,
 }
 
 pub fn size(w: Width) -> usize
@@ -41,87 +36,35 @@ pub fn number(m: &[u8], at: usize, w: Width) -> usize
     }
 }
 
-// Where every walk starts.
-pub fn begin() -> Step
-    ensures { result ≡ start }
-{
-    Step {
-        fault: 0,
-        at: 0,
-        value: 0,
-    }
-}
-
-// Where a walk stops.
-fn stop(fault: u8, at: usize) -> Step
-    ensures { result ≡ stands fault at 0 }
-{
-    Step {
-        fault: fault,
-        at: at,
-        value: 0,
-    }
-}
-
-// Do n bytes stand at a place?
-fn there(len: usize, at: usize, n: usize) -> bool
-    ensures { result ≡ leb (at + n) len }
-{
-    if len < n {
-        return false;
-    }
-    at <= len - n
-}
-
 // The next field: one whose bytes are not all there is 1.
-pub fn next(m: &[u8], s: Step, w: Width) -> Step
-    ensures { (result ≡ next_of w m.now s) × (result.value < most w) }
+pub fn next(rest: &mut &[u8], w: Width) -> Result<usize, Refusal>
+    ensures { Next w rest.old.now rest.new.now result }
 {
-    let at = s.at;
-    if s.fault != 0 {
-        return stop(s.fault, at);
-    }
+    let m = *rest;
     let n = size(w);
-    if there(m.len(), at, n) {
-        return Step {
-            fault: 0,
-            at: at + n,
-            value: number(m, at, w),
-        };
+    if m.len() < n {
+        return Err(Refusal::Cut);
     }
-    stop(1, at)
-}
-
-// A test on what has been read, and the number where it fails.
-pub fn judge(s: Step, good: bool, n: u8) -> Step
-    ensures { result ≡ judge_of good n s }
-{
-    if s.fault != 0 {
-        return s;
-    }
-    if good {
-        return s;
-    }
-    stop(n, s.at)
+    *rest = &m[n..];
+    Ok(number(m, 0, w))
 }
 
 // A field with a fixed value.
-pub fn fixed(m: &[u8], s: Step, w: Width, v: usize, n: u8) -> Step
-    ensures { result ≡ fixed_of w v n m.now s }
+pub fn fixed(rest: &mut &[u8], w: Width, v: usize, otherwise: Refusal) -> Result<(), Refusal>
+    ensures { Fixed w v (refusal_number otherwise) rest.old.now rest.new.now result }
 {
-    let t = next(m, s, w);
-    judge(t, t.value == v, n)
+    if next(rest, w)? != v {
+        return Err(otherwise);
+    }
+    Ok(())
 }
 
 // The end of the message: bytes after the last field are 4.
-pub fn finish(m: &[u8], s: Step) -> u8
-    ensures { result ≡ finish_of m.now s }
+pub fn finish(rest: &[u8]) -> Result<(), Refusal>
+    ensures { number_of result ≡ ends rest.now }
 {
-    if s.fault != 0 {
-        return s.fault;
+    if !rest.is_empty() {
+        return Err(Refusal::Length);
     }
-    if s.at < m.len() {
-        return 4;
-    }
-    0
+    Ok(())
 }

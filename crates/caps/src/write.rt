@@ -2,13 +2,14 @@
 // past the length.
 ghost use Rattle.std.specs.Prelude.{◌≡◌, [], ◌∷◌, ◌++◌, ◌+◌, ◌*◌, ◌≤◌, ◌<◌, length};
 ghost use Rattle.wire.specs.Le.{bytes16, bytes32, patch, written};
+ghost use Rattle.wire.specs.Refusal.{number_of};
 ghost use Rattle.wire.specs.Wrote.{Wrote};
-ghost use Rattle.caps.specs.Caps.{entry_of, entries_of, entries_in, entries_over, caps_of, modes_good, caps_fault};
+ghost use Rattle.caps.specs.Caps.{entry_of, entries_of, entries_in, caps_of, modes_good, caps_fault};
 ghost use Rattle.caps.specs.AckCap.{ack_cap_of, ack_cap_fault};
 ghost use Rattle.caps.specs.Ack.{ack_of, ack_fault};
 
-use crate::{Ack, Caps, Entry};
-use wire::Writing;
+use crate::{Ack, Caps, Entries, Entry};
+use wire::Refusal;
 
 // The container's three fields, and those of TS_RFX_CAPS.
 fn put_front(out: &mut [u8], flags: u32, n: usize)
@@ -44,76 +45,77 @@ fn put_entry(out: &mut [u8], at: usize, e: Entry)
     wire::put_two8(out, at + 6, 1, e.mode);
 }
 
-fn put_entries(out: &mut [u8], n: usize, first: Entry, second: Entry)
-    requires { (n ≤ 2) × (33 + 8 * n ≤ length out.old) }
-    ensures { out.new ≡ patch out.old 33 (entries_of (entries_over n first second)) }
+fn put_entries(out: &mut [u8], s: Entries)
+    requires { (s.n ≤ 2) × (33 + 8 * s.n ≤ length out.old) }
+    ensures { out.new ≡ patch out.old 33 (entries_of s) }
 {
-    if n == 0 {
+    if s.n == 0 {
         return;
     }
-    put_entry(out, 33, first);
-    if n == 1 {
+    put_entry(out, 33, s.first);
+    if s.n == 1 {
         return;
     }
-    put_entry(out, 41, second);
+    put_entry(out, 41, s.second);
+}
+
+fn entries_in(c: Caps) -> Entries
+    ensures { result ≡ entries_in c }
+{
+    Entries {
+        n: c.n,
+        first: c.first,
+        second: c.second,
+    }
 }
 
 fn put_caps(out: &mut [u8], c: Caps)
     requires { (c.n ≤ 2) × (33 + 8 * c.n ≤ length out.old) }
     ensures { out.new ≡ written (caps_of c) out.old }
 {
-    let n = c.n as usize;
-    let first = c.first;
-    let second = c.second;
-    put_front(out, c.flags, n);
-    put_capset(out, n);
-    put_entries(out, n, first, second);
+    put_front(out, c.flags, c.n as usize);
+    put_capset(out, c.n as usize);
+    put_entries(out, entries_in(c));
 }
 
 // Are the modes of the entries that are there RLGR1 or RLGR3?
-fn modes_good(n: usize, first: Entry, second: Entry) -> bool
-    ensures { result ≡ modes_good (entries_over n first second) }
+fn modes_good(s: Entries) -> bool
+    ensures { result ≡ modes_good s }
 {
-    if n == 0 {
+    if s.n == 0 {
         return true;
     }
-    if wire::is_mode(first.mode as usize) {
-        if n == 1 {
-            return true;
-        }
-        return wire::is_mode(second.mode as usize);
+    if !wire::is_mode(s.first.mode as usize) {
+        return false;
     }
-    false
+    if s.n == 1 {
+        return true;
+    }
+    wire::is_mode(s.second.mode as usize)
 }
 
-fn caps_fault(c: Caps, room: usize) -> u8
-    ensures { result ≡ caps_fault c room }
+fn caps_fault(c: Caps, room: usize) -> Result<(), Refusal>
+    ensures { number_of result ≡ caps_fault c room }
 {
-    let n = c.n as usize;
-    let first = c.first;
-    let second = c.second;
-    if 2 < n {
-        return 6;
+    if c.n > 2 {
+        return Err(Refusal::TooBig);
     }
-    if modes_good(n, first, second) {
-        if room < 33 + 8 * n {
-            return 13;
-        }
-        return 0;
+    if !modes_good(entries_in(c)) {
+        return Err(Refusal::Field);
     }
-    5
+    if room < 33 + 8 * c.n as usize {
+        return Err(Refusal::Room);
+    }
+    Ok(())
 }
 
 // Writes the client capability container. An entry past n is ignored.
-pub fn write_caps(c: Caps, out: &mut [u8]) -> Writing
+pub fn write_caps(c: Caps, out: &mut [u8]) -> Result<usize, Refusal>
     ensures { Wrote (caps_fault c (length out.old)) (caps_of c) out.old out.new result }
 {
-    let number = caps_fault(c, out.len());
-    if number != 0 {
-        return Writing::Refused(number);
-    }
+    caps_fault(c, out.len())?;
     put_caps(out, c);
-    Writing::Done(33 + 8 * c.n as usize)
+    Ok(33 + 8 * c.n as usize)
 }
 
 fn put_ack_cap(out: &mut [u8], count: u32)
@@ -125,14 +127,14 @@ fn put_ack_cap(out: &mut [u8], count: u32)
 }
 
 // Writes the frame acknowledge capability.
-pub fn write_ack_cap(count: u32, out: &mut [u8]) -> Writing
+pub fn write_ack_cap(count: u32, out: &mut [u8]) -> Result<usize, Refusal>
     ensures { Wrote (ack_cap_fault (length out.old)) (ack_cap_of count) out.old out.new result }
 {
     if out.len() < 8 {
-        return Writing::Refused(13);
+        return Err(Refusal::Room);
     }
     put_ack_cap(out, count);
-    Writing::Done(8)
+    Ok(8)
 }
 
 // The message up to streamId.
@@ -165,26 +167,23 @@ fn put_ack(out: &mut [u8], a: Ack)
     put_ack_back(out, a);
 }
 
-fn ack_fault(version: u16, room: usize) -> u8
-    ensures { result ≡ ack_fault version room }
+fn ack_fault(version: u16, room: usize) -> Result<(), Refusal>
+    ensures { number_of result ≡ ack_fault version room }
 {
-    if 4095 < version {
-        return 5;
+    if version > 4095 {
+        return Err(Refusal::Field);
     }
     if room < 22 {
-        return 13;
+        return Err(Refusal::Room);
     }
-    0
+    Ok(())
 }
 
 // Writes the frame acknowledge message from its shareDataHeader on.
-pub fn write_ack(a: Ack, out: &mut [u8]) -> Writing
+pub fn write_ack(a: Ack, out: &mut [u8]) -> Result<usize, Refusal>
     ensures { Wrote (ack_fault a.version (length out.old)) (ack_of a) out.old out.new result }
 {
-    let number = ack_fault(a.version, out.len());
-    if number != 0 {
-        return Writing::Refused(number);
-    }
+    ack_fault(a.version, out.len())?;
     put_ack(out, a);
-    Writing::Done(22)
+    Ok(22)
 }

@@ -5,6 +5,7 @@
 use app_text::lines::OUT;
 use bands::Quant;
 use session::Session;
+use wire::Refusal;
 
 fn told(name: &[u8], good: bool) {
     app_text::lines::say(OUT, name);
@@ -19,26 +20,21 @@ fn told(name: &[u8], good: bool) {
 
 // The first number, then zeros?
 fn holds(list: &[i32], first: i32) -> bool {
-    if list.len() != 4096 {
-        return false;
+    match list.split_first() {
+        Some((x, rest)) => {
+            rest.len() == 4095 && *x == first && app_recording::lent::all_are(rest, 0)
+        }
+        None => false,
     }
-    if list[0] != first {
-        return false;
-    }
-    app_recording::lent::all_are(&list[1..4096], 0)
 }
 
 // The component reader, on a list of 7s: its number, the bits that it reports, and the list that it leaves.
 fn reads(mode: u8, code: &[u8], number: u8, bits: usize, first: i32) -> bool {
     let mut list = [7i32; 4096];
     let r = panel::read_component(mode, code, &mut list);
-    if code::read::reading_number(r) != number {
-        return false;
-    }
-    if code::read::reading_bits(r) != bits {
-        return false;
-    }
-    holds(&list, first)
+    code::read::reading_number(r) == number
+        && code::read::reading_bits(r) == bits
+        && holds(&list, first)
 }
 
 // The component writer, on a first number and zeros: just these bytes, and 13 with one byte less.
@@ -46,12 +42,8 @@ fn writes(mode: u8, first: i32, code: &[u8]) -> bool {
     let mut list = [0i32; 4096];
     list[0] = first;
     let mut out = [0xA5u8; 8];
-    let w = panel::write_component(mode, &list, &mut out);
-    let n = wire::writing_length(w);
-    if n > 8 {
-        return false;
-    }
-    check::same(&out[0..n], code)
+    let n = wire::count_of(panel::write_component(mode, &list, &mut out));
+    app_text::loading::first(&out, n) == code
 }
 
 fn writes_short(mode: u8, first: i32) -> bool {
@@ -59,10 +51,7 @@ fn writes_short(mode: u8, first: i32) -> bool {
     list[0] = first;
     let mut out = [0xA5u8; 3];
     let w = panel::write_component(mode, &list, &mut out);
-    if wire::writing_number(w) != 13 {
-        return false;
-    }
-    check::same(&out, &[0xA5, 0xA5, 0xA5])
+    w == Err(Refusal::Room) && out == [0xA5, 0xA5, 0xA5]
 }
 
 fn zeros(mode: u8) {
@@ -116,14 +105,8 @@ fn headers() {
     ];
     let mut out = [0xA5u8; 47];
     let w = panel::write_headers(64, 64, 4, &mut out);
-    told(
-        b"headers for 64 x 64, RLGR3, done",
-        wire::writing_length(w) == 47,
-    );
-    told(
-        b"headers for 64 x 64, RLGR3, bytes",
-        check::same(&out, &want),
-    );
+    told(b"headers for 64 x 64, RLGR3, done", w == Ok(47));
+    told(b"headers for 64 x 64, RLGR3, bytes", out == want);
     let f = app_calls::calls::headers_back(session::of_numbers(0, 0, 0, 0), &out);
     told(b"headers read back", is_record(f.session, 4, 64, 64, 4));
     told(
@@ -135,14 +118,14 @@ fn headers() {
 // The header writer's number for a width.
 fn width_written(width: usize) -> u8 {
     let mut out = [0xA5u8; 47];
-    wire::writing_number(panel::write_headers(width, 1, 1, &mut out))
+    wire::number_of(panel::write_headers(width, 1, 1, &mut out))
 }
 
 // The header reader's number for a channels block with this width.
 fn width_read(low: u8, high: u8) -> u8 {
     let s = session::of_numbers(2, 0, 0, 0);
     let block: [u8; 12] = [0xC2, 0xCC, 12, 0, 0, 0, 1, 0, low, high, 1, 0];
-    session::header_number(panel::read_header(s, &block))
+    wire::number_of(panel::read_header(s, &block))
 }
 
 fn widths() {
@@ -172,7 +155,7 @@ fn record_of(headers: u8, mode: u8, columns: u8, rows: u8, words: u32, glass: u8
 fn context_read(columns: u8, rows: u8, words: u32, glass: u8) -> u8 {
     let s = record_of(3, 0, columns, rows, words, glass);
     let block: [u8; 13] = [0xC3, 0xCC, 13, 0, 0, 0, 1, 0xFF, 0, 0x40, 0, 0x28, 0x28];
-    session::header_number(panel::read_header(s, &block))
+    wire::number_of(panel::read_header(s, &block))
 }
 
 // The frame call's number with such a record, on a message that is cut, with a picture that is too short: 12 comes before both.
@@ -193,7 +176,7 @@ fn sync_read(columns: u8, rows: u8, words: u32, glass: u8, kept: u8) -> bool {
     let block: [u8; 12] = [0xC0, 0xCC, 12, 0, 0, 0, 0xCA, 0xAC, 0xCC, 0xCA, 0, 1];
     let h = panel::read_header(before, &block);
     let s = session::header_record(h, before);
-    session::header_number(h) == 0 && is_record(s, 1, 0, 0, 0) && is_sized(s, 0, 0, 0, kept)
+    wire::number_of(h) == 0 && is_record(s, 1, 0, 0, 0) && is_sized(s, 0, 0, 0, kept)
 }
 
 fn records() {
@@ -261,11 +244,11 @@ fn quant_with(first: u8) -> Quant {
 // The frame writer, 64 x 64, RLGR3, all pixels alike: the length of the frame, 0 where it is refused.
 fn sent(q: Quant, out: &mut [u8]) -> usize {
     let mut pixels = [0u8; 12288];
-    app_recording::lent::fill_bytes(&mut pixels, 200);
+    pixels.fill(200);
     let mut list = [7i32; 4096];
     let mut scratch = [7i32; 4096];
     let w = panel::write_frame(64, 64, 4, q, 1, &pixels, &mut list, &mut scratch, out);
-    wire::writing_length(w)
+    wire::count_of(w)
 }
 
 // The frame writer's number for a first quantiser.
@@ -285,7 +268,7 @@ fn quant_sent(first: u8) -> u8 {
         &mut scratch,
         &mut out,
     );
-    wire::writing_number(w)
+    wire::number_of(w)
 }
 
 // The frame call on a message: its number.
@@ -295,7 +278,7 @@ fn shown_by(s: Session, message: &[u8], picture: &mut [u16]) -> u8 {
     let mut cr = [7i32; 4096];
     let mut scratch = [7i32; 4096];
     let f = panel::read_frame(s, message, picture, &mut y, &mut cb, &mut cr, &mut scratch);
-    frame::call::frame_number(f)
+    wire::number_of(f)
 }
 
 // The same with the record of our own frames.
@@ -306,7 +289,7 @@ fn shown(message: &[u8], picture: &mut [u16]) -> u8 {
 // The number for our own frame with one byte of it changed, and whether the picture is as it was: 99 where it is not.
 fn shown_changed(frame: &mut [u8], at: usize, byte: u8) -> u8 {
     let mut picture = [0x1234u16; 4096];
-    let before = app_recording::lent::hash_words(&picture);
+    let before = app_recording::lent::hash(&picture);
     if frame.len() <= at {
         return 98;
     }
@@ -314,7 +297,7 @@ fn shown_changed(frame: &mut [u8], at: usize, byte: u8) -> u8 {
     frame[at] = byte;
     let number = shown(frame, &mut picture);
     frame[at] = old;
-    if app_recording::lent::hash_words(&picture) != before {
+    if app_recording::lent::hash(&picture) != before {
         return 99;
     }
     number
@@ -353,22 +336,17 @@ fn frame_cases(frame: &mut [u8]) {
 
 // Bytes into a part of the output, where there is room.
 fn put(out: &mut [u8], at: usize, from: &[u8]) {
-    if out.len() < at {
-        return;
+    if let Some(part) = out.get_mut(at..at.wrapping_add(from.len())) {
+        part.copy_from_slice(from);
     }
-    if out.len() - at < from.len() {
-        return;
-    }
-    let end = at + from.len();
-    out[at..end].copy_from_slice(from);
 }
 
 // The number for the first n bytes of a message.
 fn shown_first(message: &[u8], n: usize, picture: &mut [u16]) -> u8 {
-    if message.len() < n {
-        return 98;
+    match message.get(..n) {
+        Some(first) => shown(first, picture),
+        None => 98,
     }
-    shown(&message[0..n], picture)
 }
 
 // The number for our own frame with no rectangles: its region's block is 8 bytes shorter (blockLen at 16, count at 23, rectangles from 25 on).
@@ -397,7 +375,7 @@ fn region_cases(frame: &mut [u8]) {
     told(
         b"no rectangles: the picture of one over all",
         shown(frame, &mut whole) == 0
-            && app_recording::lent::hash_words(&picture) == app_recording::lent::hash_words(&whole),
+            && app_recording::lent::hash(&picture) == app_recording::lent::hash(&whole),
     );
 }
 

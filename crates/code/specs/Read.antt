@@ -5,7 +5,8 @@ use Rattle.whole.specs.Row.{◌!◌⨾◌}
 use Rattle.wire.specs.Mode.{is_mode}
 use Rattle.bits.specs.Bits.{bits_of}
 use Rattle.code.specs.Fold.{unfold_z}
-use Rattle.code.specs.ReadList.{Walked, whole, bad, read_list, refusal_number}
+use Rattle.code.specs.ReadList.{Walked, whole, bad, read_list}
+use Rattle.wire.specs.Refusal.{refusal_number, refusal_of}
 use Rattle.code.specs.declared.read.Reading.{Reading}
 use Rattle.code.specs.declared.read.Reading.TheVariants.{Done, Tail, Refused}
 
@@ -14,13 +15,13 @@ use Rattle.code.specs.declared.read.Reading.TheVariants.{Done, Tail, Refused}
 unfoldable pub reading_number : Reading → ℕ
 reading_number (Done bits) = 0
 reading_number (Tail bits) = 11
-reading_number (Refused number) = number
+reading_number (Refused r) = refusal_number r
 
 -- "The component reader reports the code's length in bits on 0 and 11, else 0."
 unfoldable pub reading_bits : Reading → ℕ
 reading_bits (Done bits) = bits
 reading_bits (Tail bits) = bits
-reading_bits (Refused number) = 0
+reading_bits (Refused r) = 0
 
 -- ---- the code
 
@@ -35,7 +36,7 @@ clean bs = ltb (length bs) 8 ! false ⨾ no_ones bs
 
 -- what reading the 4,096 values of a code says of the whole
 unfoldable pub end_reading : List Bool → Walked → Reading
-end_reading B (bad r) = Refused (refusal_number r)
+end_reading B (bad r) = Refused r
 end_reading B (whole xs at) = clean (drop at B) ! Tail at ⨾ Done at
 
 -- and what it leaves: "fills it with zeros on 1, 9, 10, 11"
@@ -62,7 +63,7 @@ shell_fault mode n len =
 
 unfoldable pub after_shell : ℕ → Reading → Reading
 after_shell zero r = r
-after_shell (suc n) r = Refused (suc n)
+after_shell (suc n) r = Refused (refusal_of (suc n))
 
 -- the answer of a call: of the mode, the list's length and the bytes
 unfoldable pub reading : ℕ → ℕ → List ℕ → Reading

@@ -2,13 +2,12 @@
 // defined in specs/Code from the list alone; specs/Laws says that it is read back, and that whatever is taken is the code of the list handed back.
 ghost use Rattle.std.specs.Prelude.{◌≡◌, ◌+◌, ◌*◌, ◌-◌, ◌/◌, ◌<◌, ◌≤◌, length, drop};
 ghost use Rattle.std.specs.Int.Signed.{mag};
-ghost use Rattle.bits.specs.Bits.{bits_of, gr_of, num_of};
-ghost use Rattle.bits.specs.declared.Num.TheVariants.{Got};
+ghost use Rattle.bits.specs.Bits.{got, bits_of, gr_of, num_of};
 ghost use Rattle.code.specs.Fold.{fold_z, unfold_z};
 ghost use Rattle.code.specs.Code.{kr_after, kp_one, kp_two, raised, size};
-ghost use Rattle.code.specs.ReadList.{refusal_number, one_elem, two_elem, judge_two, judge_run, run_first, run_elem, elem_of};
+ghost use Rattle.code.specs.ReadList.{one_elem, two_elem, judge_two, judge_run, run_first, run_elem, elem_of};
 
-use bits::Num;
+use wire::Refusal;
 
 // Where a walk through a code stands: the place of the next bit, and the two running parameters.
 #[derive(Clone, Copy)]
@@ -27,32 +26,12 @@ pub enum Item {
     Twin(usize, usize),
 }
 
-// Why an element is refused: 01's numbers 1, 9 and 10.
-#[derive(Clone, Copy)]
-pub enum Refusal {
-    Cut,
-    Range,
-    Overrun,
-}
-
-// One code element: zeros, one value after some zeros, two values, or a refusal; with the state past it. Values are folded.
+// One code element: zeros, one value after some zeros, or two values; with the state past it. Values are folded.
 #[derive(Clone, Copy)]
 pub enum Element {
     Zeros(usize, State),
     One(usize, usize, State),
     Two(usize, usize, State),
-    Refused(Refusal),
-}
-
-// 01's number of a refusal.
-pub fn refusal_number(r: Refusal) -> u8
-    ensures { result ≡ refusal_number r }
-{
-    match r {
-        Refusal::Cut => 1,
-        Refusal::Range => 9,
-        Refusal::Overrun => 10,
-    }
 }
 
 // "Even is g/2, odd is -(g+1)/2."
@@ -88,7 +67,7 @@ pub fn kr_after(krp: usize, g: usize) -> usize
     if v < 2 {
         if v == 1 { krp } else { less(krp, 2) }
     } else {
-        if 80 - krp < v { 80 } else { krp + v }
+        krp + v.min(80 - krp)
     }
 }
 
@@ -97,14 +76,14 @@ pub fn more(kp: usize, d: usize) -> usize
     requires { (kp ≤ 80) × (d ≤ 80) }
     ensures { result ≡ raised d kp }
 {
-    if 80 < kp + d { 80 } else { kp + d }
+    (kp + d).min(80)
 }
 
 // kp and d less, at least 0.
 pub fn less(kp: usize, d: usize) -> usize
     ensures { result ≡ kp - d }
 {
-    if kp < d { 0 } else { kp - d }
+    kp.saturating_sub(d)
 }
 
 // kp after a single value, and after a pair.
@@ -127,39 +106,25 @@ pub fn kp_two(kp: usize, a: usize, b: usize) -> usize
 }
 
 // A single value judged: the GR number g.
-pub fn judge_one(c: State, g: usize, next: usize) -> Element
+pub fn judge_one(c: State, g: usize, next: usize) -> Result<Element, Refusal>
     requires { (c.kp ≤ 80) × (c.krp ≤ 80) }
-    ensures { result ≡ one_elem c.kp c.krp (Got g next) }
+    ensures { result ≡ one_elem c.kp c.krp (got g next) }
 {
-    let kp = c.kp;
-    let krp = c.krp;
     if 65534 < g {
-        return Element::Refused(Refusal::Range);
+        return Err(Refusal::Range);
     }
-    let kq = kp_one(kp, g);
-    let kr = kr_after(krp, g);
-    Element::One(
-        0,
-        g,
-        State {
-            at: next,
-            kp: kq,
-            krp: kr,
-        },
-    )
+    let kp = kp_one(c.kp, g);
+    let krp = kr_after(c.krp, g);
+    Ok(Element::One(0, g, State { at: next, kp, krp }))
 }
 
 // An element with k = 0 in RLGR1.
-fn single(s: &[u8], c: State) -> Element
+fn single(s: &[u8], c: State) -> Result<Element, Refusal>
     requires { (length s.now ≤ 65535) × (c.kp ≤ 80) × (c.krp ≤ 80) }
     ensures { result ≡ one_elem c.kp c.krp (gr_of (c.krp / 8) c.at (bits_of s.now)) }
 {
-    let at = c.at;
-    let krp = c.krp;
-    match bits::golomb(s, at, krp / 8) {
-        Num::Cut => Element::Refused(Refusal::Cut),
-        Num::Got(g, next) => judge_one(c, g, next),
-    }
+    let (g, next) = bits::golomb(s, c.at, c.krp / 8).ok_or(Refusal::Cut)?;
+    judge_one(c, g, next)
 }
 
 // How many bits g has, none for 0.
@@ -170,143 +135,105 @@ pub fn bit_size(g: usize) -> usize
 }
 
 // A pair judged: the sum g, the first half a.
-pub fn judge_pair(c: State, left: usize, g: usize, a: usize, next: usize) -> Element
+pub fn judge_pair(
+    c: State,
+    left: usize,
+    g: usize,
+    a: usize,
+    next: usize,
+) -> Result<Element, Refusal>
     requires { (c.kp ≤ 80) × (c.krp ≤ 80) }
     ensures { result ≡ judge_two c.kp c.krp left g a next }
 {
-    let kp = c.kp;
-    let krp = c.krp;
     if g < a {
-        return Element::Refused(Refusal::Range);
+        return Err(Refusal::Range);
     }
     let b = g - a;
-    if 65534 < a {
-        return Element::Refused(Refusal::Range);
+    if 65534 < a || 65534 < b {
+        return Err(Refusal::Range);
     }
-    if 65534 < b {
-        return Element::Refused(Refusal::Range);
+    if left < 2 && 0 < b {
+        return Err(Refusal::Overrun);
     }
-    if left < 2 {
-        if 0 < b {
-            return Element::Refused(Refusal::Overrun);
-        }
-    }
-    let kq = kp_two(kp, a, b);
-    let kr = kr_after(krp, g);
-    Element::Two(
-        a,
-        b,
-        State {
-            at: next,
-            kp: kq,
-            krp: kr,
-        },
-    )
+    let kp = kp_two(c.kp, a, b);
+    let krp = kr_after(c.krp, g);
+    Ok(Element::Two(a, b, State { at: next, kp, krp }))
 }
 
 // An element with k = 0 in RLGR3.
-fn pair(s: &[u8], c: State, left: usize) -> Element
+fn pair(s: &[u8], c: State, left: usize) -> Result<Element, Refusal>
     requires { (length s.now ≤ 65535) × (c.kp ≤ 80) × (c.krp ≤ 80) }
     ensures { result ≡ two_elem c.kp c.krp left (bits_of s.now) (gr_of (c.krp / 8) c.at (bits_of s.now)) }
 {
-    let at = c.at;
-    let krp = c.krp;
-    match bits::golomb(s, at, krp / 8) {
-        Num::Cut => Element::Refused(Refusal::Cut),
-        Num::Got(g, mid) => {
-            let n = bit_size(g);
-            match bits::number(s, mid, n) {
-                Num::Cut => Element::Refused(Refusal::Cut),
-                Num::Got(a, next) => judge_pair(c, left, g, a, next),
-            }
-        }
-    }
+    let (g, mid) = bits::golomb(s, c.at, c.krp / 8).ok_or(Refusal::Cut)?;
+    let (a, next) = bits::number(s, mid, bit_size(g)).ok_or(Refusal::Cut)?;
+    judge_pair(c, left, g, a, next)
 }
 
 // A run's value judged: z zeros, the sign, the magnitude less 1.
-pub fn judge_run(c: State, left: usize, z: usize, sign: usize, g: usize, next: usize) -> Element
+pub fn judge_run(
+    c: State,
+    left: usize,
+    z: usize,
+    sign: usize,
+    g: usize,
+    next: usize,
+) -> Result<Element, Refusal>
     requires { (c.kp ≤ 80) × (c.krp ≤ 80) × (sign < 2) }
     ensures { result ≡ judge_run c.kp c.krp left z sign g next }
 {
-    let kp = c.kp;
-    let krp = c.krp;
     if 32766 < g {
-        return Element::Refused(Refusal::Range);
+        return Err(Refusal::Range);
     }
     if left <= z {
-        return Element::Refused(Refusal::Overrun);
+        return Err(Refusal::Overrun);
     }
-    let kq = less(kp, 6);
-    let kr = kr_after(krp, g);
-    Element::One(
-        z,
-        2 * (g + 1) - sign,
-        State {
-            at: next,
-            kp: kq,
-            krp: kr,
-        },
-    )
+    let kp = less(c.kp, 6);
+    let krp = kr_after(c.krp, g);
+    Ok(Element::One(z, 2 * (g + 1) - sign, State { at: next, kp, krp }))
 }
 
 // The bits of a run after its 1.
-fn run_value(s: &[u8], c: State, left: usize, from: usize) -> Element
+fn run_value(s: &[u8], c: State, left: usize, from: usize) -> Result<Element, Refusal>
     requires { (length s.now ≤ 65535) × (c.kp ≤ 80) × (c.krp ≤ 80) }
     ensures { result ≡ run_first c.kp c.krp left (bits_of s.now) (num_of (c.kp / 8) 0 from (drop from (bits_of s.now))) }
 {
-    let kp = c.kp;
-    let krp = c.krp;
-    match bits::number(s, from, kp / 8) {
-        Num::Cut => Element::Refused(Refusal::Cut),
-        Num::Got(z, mid) => match bits::number(s, mid, 1) {
-            Num::Cut => Element::Refused(Refusal::Cut),
-            Num::Got(sign, late) => match bits::golomb(s, late, krp / 8) {
-                Num::Cut => Element::Refused(Refusal::Cut),
-                Num::Got(g, next) => judge_run(c, left, z, sign, g, next),
-            },
-        },
-    }
+    let (z, mid) = bits::number(s, from, c.kp / 8).ok_or(Refusal::Cut)?;
+    let (sign, late) = bits::number(s, mid, 1).ok_or(Refusal::Cut)?;
+    let (g, next) = bits::golomb(s, late, c.krp / 8).ok_or(Refusal::Cut)?;
+    judge_run(c, left, z, sign, g, next)
 }
 
 // An element in run mode.
-fn run(s: &[u8], c: State, left: usize) -> Element
+fn run(s: &[u8], c: State, left: usize) -> Result<Element, Refusal>
     requires { (length s.now ≤ 65535) × (c.kp ≤ 80) × (c.krp ≤ 80) }
     ensures { result ≡ run_elem c.kp c.krp left (bits_of s.now) (num_of 1 0 c.at (drop c.at (bits_of s.now))) }
 {
-    let at = c.at;
-    let kp = c.kp;
-    let krp = c.krp;
-    match bits::number(s, at, 1) {
-        Num::Cut => Element::Refused(Refusal::Cut),
-        Num::Got(b, next) => {
-            if b == 0 {
-                return Element::Zeros(
-                    1usize << (kp / 8),
-                    State {
-                        at: next,
-                        kp: more(kp, 4),
-                        krp: krp,
-                    },
-                );
-            }
-            run_value(s, c, left, next)
-        }
+    let (b, next) = bits::number(s, c.at, 1).ok_or(Refusal::Cut)?;
+    if b == 0 {
+        return Ok(Element::Zeros(
+            1usize << (c.kp / 8),
+            State {
+                at: next,
+                kp: more(c.kp, 4),
+                krp: c.krp,
+            },
+        ));
     }
+    run_value(s, c, left, next)
 }
 
 // One code element.
-pub fn read_element(s: &[u8], rlgr3: bool, c: State, left: usize) -> Element
+pub fn read_element(s: &[u8], rlgr3: bool, c: State, left: usize) -> Result<Element, Refusal>
     requires { (length s.now ≤ 65535) × (c.kp ≤ 80) × (c.krp ≤ 80) }
     ensures { result ≡ elem_of rlgr3 c.kp c.krp left c.at (bits_of s.now) }
 {
-    let kp = c.kp;
-    if kp < 8 {
-        if rlgr3 {
-            pair(s, c, left)
-        } else {
-            single(s, c)
-        }
+    if 8 <= c.kp {
+        return run(s, c, left);
+    }
+    if rlgr3 {
+        pair(s, c, left)
     } else {
-        run(s, c, left)
+        single(s, c)
     }
 }

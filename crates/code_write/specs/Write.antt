@@ -1,13 +1,13 @@
 -- The component writer: what it answers and what it leaves, for every input. 01, "Numbers the fitter sees" and "Component writer: 2, 9, 6, 13."
 -- (01 is this project's scope document, 02 its change requests, 001 is MS-RDPRFX: README, "What 01 is".)
-use Rattle.std.specs.Prelude.{ℕ, zero, suc, ◌≡◌, Bool, true, false, List, [], ◌∷◌, leb, eqb, ℤ, nat_abs, length}
+use Rattle.std.specs.Prelude.{ℕ, zero, suc, ◌≡◌, Bool, true, false, List, [], ◌∷◌, leb, eqb, ℤ, nat_abs, length, Result, Ok, Err}
 use Rattle.whole.specs.Row.{◌!◌⨾◌, ◌⨟◌}
 use Rattle.wire.specs.Mode.{is_mode}
 use Rattle.wire.specs.Wrote.{Wrote}
-use Rattle.wire.specs.declared.Writing.{Writing}
+use Rattle.wire.specs.Refusal.{refusal_of, number_of, count_of}
+use Rattle.wire.specs.declared.Refusal.{Refusal}
 use Rattle.code.specs.OneCode.{code}
 use Rattle.code_write.specs.Pack.{packed}
-use Rattle.code_write.specs.declared.call.Sized.{Sized}
 
 -- ---- the bytes
 
@@ -40,15 +40,15 @@ write_fault mode zs room =
 -- ---- what the functions promise
 
 -- the writer: its output as it was and as it is, and its answer
-abbrev pub ComponentWritten : ℕ → List ℤ → List ℕ → List ℕ → Writing → Type 0
+abbrev pub ComponentWritten : ℕ → List ℤ → List ℕ → List ℕ → Result ℕ Refusal → Type 0
 ComponentWritten mode zs out out' r = Wrote (write_fault mode zs (length out)) (bytes_of mode zs) out out' r
 
--- measured by itself: the refusal and no size, or the size in bytes
-unfoldable pub sized_of : ℕ → ℕ → Sized
-sized_of zero bytes = record { number = 0; size = bytes }
-sized_of (suc n) bytes = record { number = suc n; size = 0 }
+-- measured by itself: the refusal, or the size in bytes
+unfoldable pub sized_of : ℕ → ℕ → Result ℕ Refusal
+sized_of zero bytes = Ok bytes
+sized_of (suc n) bytes = Err (refusal_of (suc n))
 
 -- what measures: the refusal, and where there is none the size in bytes
-pub record Measures (refusal bytes : ℕ) (r : Sized) : Type 0 where
-  pub number : r.number ≡ refusal
-  pub size : r.number ≡ 0 → r.size ≡ bytes
+pub record Measures (refusal bytes : ℕ) (r : Result ℕ Refusal) : Type 0 where
+  pub number : number_of r ≡ refusal
+  pub size : number_of r ≡ 0 → count_of r ≡ bytes

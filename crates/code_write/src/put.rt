@@ -37,14 +37,6 @@ fn folded_or(xs: &[i32], i: usize) -> usize
     if i < xs.len() { folded_at(xs, i) } else { 0 }
 }
 
-// The place past `most` places from i on, or past the last of n.
-fn run_end(n: usize, i: usize, most: usize) -> usize
-    requires { i ≤ n }
-    ensures { result ≡ min n (i + most) }
-{
-    if n - i < most { n } else { i + most }
-}
-
 // Do four zeros stand from place j on?
 fn four(xs: &[i32], j: usize) -> bool
     requires { InRange (map fold_z xs.now) × (j + 4 ≤ length xs.now) }
@@ -65,7 +57,8 @@ fn four(xs: &[i32], j: usize) -> bool
     true
 }
 
-// A place up to `end` before which, from i on, stand only zeros: they are passed four at a time.
+// A place up to `end` before which, from i on, stand only zeros: they are passed four at a time. (A `while`: the last step is not taken where fewer are left,
+// so a `step_by` reads no plainer.)
 fn fours(xs: &[i32], i: usize, end: usize) -> usize
     requires { InRange (map fold_z xs.now) × (i ≤ end) × (end ≤ length xs.now) }
     ensures { Zeros (map fold_z xs.now) i result × (result ≤ end) }
@@ -85,15 +78,13 @@ fn zeros_from(xs: &[i32], i: usize, most: usize) -> usize
     requires { (length xs.now ≤ 4096) × InRange (map fold_z xs.now) × (i ≤ length xs.now) }
     ensures { result ≡ min most (zeros_of (drop i (map fold_z xs.now))) }
 {
-    let end = run_end(xs.len(), i, most);
-    let mut j = fours(xs, i, end);
-    while j < end {
+    let end = code::read::clipped(xs.len(), i, most);
+    for j in fours(xs, i, end)..end {
         if folded_at(xs, j) != 0 {
             return j - i;
         }
-        j += 1;
     }
-    j - i
+    end - i
 }
 
 // The item at place i in run mode: a full run, which may pass the end, or some zeros and the value after them.
@@ -138,8 +129,9 @@ fn gr_word(k: usize, n: usize, v: usize) -> usize
     (((1usize << v) - 1) << (k + 1)) + n % (1usize << k)
 }
 
-// A single value: a GR number, most often of few ones.
-fn put_single(out: &mut [u8], p: Pen, krp: usize, n: usize) -> Pen
+// A GR number, most often of few ones. (Put where it is called: as a function by itself it costs the writer a quarter more instructions.)
+#[inline(always)]
+fn put_gr(out: &mut [u8], p: Pen, krp: usize, n: usize) -> Pen
     requires { ReadyWide (length out.old) p (gr_len (krp / 8) n) × (krp ≤ 80) }
     ensures { PutWide out.old p out.new result (gr_bits (krp / 8) n) }
 {
@@ -158,13 +150,7 @@ fn put_run(out: &mut [u8], p: Pen, kp: usize, krp: usize, z: usize, v: usize) ->
 {
     let h = kp / 8;
     let q = bits::wide::put(out, p, h + 2, ((1usize << h) + z) * 2 + v % 2);
-    let k = krp / 8;
-    let g = (v - 1) / 2;
-    let u = g >> k;
-    if u < 22 {
-        return bits::wide::put(out, q, u + (k + 1), gr_word(k, g, u));
-    }
-    bits::wide::put_gr(out, q, k, g)
+    put_gr(out, q, krp, (v - 1) / 2)
 }
 
 // A pair: the sum, then the first in as many bits as the sum has.
@@ -172,15 +158,8 @@ fn put_twin(out: &mut [u8], p: Pen, krp: usize, a: usize, b: usize) -> Pen
     requires { ReadyWide (length out.old) p (length (pair_bits krp a b)) × (krp ≤ 80) × (a ≤ 65534) × (b ≤ 65534) }
     ensures { PutWide out.old p out.new result (pair_bits krp a b) }
 {
-    let g = a + b;
-    let n = code::element::bit_size(g);
-    let k = krp / 8;
-    let u = g >> k;
-    if u < 22 {
-        let q = bits::wide::put(out, p, u + (k + 1), gr_word(k, g, u));
-        return bits::wide::put(out, q, n, a);
-    }
-    let q = bits::wide::put_gr(out, p, k, g);
+    let n = code::element::bit_size(a + b);
+    let q = put_gr(out, p, krp, a + b);
     bits::wide::put(out, q, n, a)
 }
 
@@ -253,7 +232,7 @@ fn run_turn(out: &mut [u8], s: Stand, xs: &[i32], rlgr3: bool) -> Stand
     let kp = s.kp;
     let full = 1usize << (kp / 8);
     let z = zeros_from(xs, i, full);
-    if run_end(xs.len(), i, full) <= i + z {
+    if code::read::clipped(xs.len(), i, full) <= i + z {
         return Stand {
             pen: bits::wide::put(out, s.pen, 1, 0),
             i: i + full,
@@ -294,7 +273,7 @@ fn single_turn(out: &mut [u8], s: Stand, xs: &[i32]) -> Stand
     let i = s.i;
     let v = folded_at(xs, i);
     Stand {
-        pen: put_single(out, s.pen, s.krp, v),
+        pen: put_gr(out, s.pen, s.krp, v),
         i: i + 1,
         kp: code::element::kp_one(s.kp, v),
         krp: code::element::kr_after(s.krp, v),
@@ -326,6 +305,7 @@ pub fn put_list(out: &mut [u8], p: Pen, xs: &[i32], rlgr3: bool) -> Pen
         kp: 8,
         krp: 8,
     };
+    // (A `while`, here and in `list_size`: how many places a turn covers is its item's.)
     while s.i < xs.len() {
         s = put_turn(out, s, xs, rlgr3);
     }

@@ -3,11 +3,16 @@
 -- (01 is this project's scope document, 02 its change requests, 001 is MS-RDPRFX: README, "What 01 is".)
 use Rattle.std.specs.Prelude.{ℕ, zero, suc, ◌+◌, ◌-◌, ◌*◌, ◌/◌, ◌%◌, ◌^◌, List, [], ◌∷◌, ◌++◌, Bool, true, false, length, take, ltb, leb, eqb}
 use Rattle.wire.specs.Le.{patch}
+use Rattle.wire.specs.Refusal.{refusal_of as by_number}
 use Rattle.whole.specs.Row.{◌!◌⨾◌, ◌⇒◌∣◌, ◌⨟◌}
 use Rattle.collect.specs.declared.Collector.{Collector}
 use Rattle.collect.specs.declared.Collected.{Collected}
 use Rattle.collect.specs.declared.Took.{Took}
 use Rattle.collect.specs.declared.Collected.TheVariants.{More, Header, Frame, Refused}
+
+-- a refusal, by its number
+abbrev pub refused_by : ℕ → Collected
+refused_by n = Refused (by_number n)
 
 -- ---- the record
 
@@ -112,7 +117,7 @@ gathered s bs = settled s.collector.part (s.collector.held + length bs) s.collec
 unfoldable pub head_done : ℕ → ℕ → ℕ → ℕ → List ℕ → Step
 head_done fault part held head store =
     eqb fault 0 ⇒ settled (part_after part (type_of head)) (held + 6) (held + len_of head) (patch store held (head_bytes 6 head)) ∣
-    step (refusing fault part held head) store (Refused fault)
+    step (refusing fault part held head) store (refused_by fault)
 
 -- so many bytes of a head are there: "the head waits beside the store till then"
 unfoldable pub head_byte : ℕ → ℕ → ℕ → ℕ → List ℕ → Step
@@ -214,7 +219,7 @@ walk s n (b ∷ bs) =
 unfoldable pub collect_of : State → List ℕ → HandOver
 collect_of s bs =
     eqb (collector_fault s.collector (length s.store)) 0 ⇒ walk s 0 bs ∣
-    took 0 (step s.collector s.store (Refused (collector_fault s.collector (length s.store))))
+    took 0 (step s.collector s.store (refused_by (collector_fault s.collector (length s.store))))
 
 -- ---- bytes given one at a time: the state that they lead to, and the parts that are handed on
 

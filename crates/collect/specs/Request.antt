@@ -5,9 +5,12 @@ use Rattle.std.specs.Prelude.{ℕ, ◌+◌, ◌*◌, ◌≤◌, ◌<◌, ◌≡�
 use Rattle.wire.specs.Le.{bytes16, bytes32, patch}
 use Rattle.whole.specs.Row.{◌⇒◌∣◌}
 use Rattle.collect.specs.declared.Collector.{Collector}
+use Rattle.wire.specs.declared.Refusal.{Refusal}
+use Rattle.wire.specs.declared.Refusal.TheVariants.{Buffer}
 use Rattle.collect.specs.declared.Collected.TheVariants.{More, Header, Frame, Refused}
 use Rattle.collect.specs.declared.Took.{Took}
-use Rattle.collect.specs.Collect.{State, Part, fresh, refusing, head_bytes, state, step, took, said, collector_made, collector_fault, collect_of, parts_of}
+use Rattle.collect.specs.Collect.{State, Part, refused_by, fresh, refusing, head_bytes, state, step, took, said}
+use Rattle.collect.specs.Collect.{collector_made, collector_fault, collect_of, parts_of}
 
 -- ---- bytes
 
@@ -41,8 +44,8 @@ pub data Given : State → List (List ℕ) → List Part → State → Type 0 wh
   join : {s t : State} {p q : List ℕ} {ps : List (List ℕ)} {hs : List Part} → Given s ((p ++ q) ∷ ps) hs t → Given s (p ∷ q ∷ ps) hs t
   -- the rest of a piece that was refused is not given again
   stop :
-      {s t : State} {p : List ℕ} {ps : List (List ℕ)} {hs : List Part} (n : ℕ)
-      → (collect_of s p).step.answer ≡ Refused n
+      {s t : State} {p : List ℕ} {ps : List (List ℕ)} {hs : List Part} (refusal : Refusal)
+      → (collect_of s p).step.answer ≡ Refused refusal
       → Given (after s p) ps hs t
       → Given s (p ∷ ps) hs t
 
@@ -118,7 +121,7 @@ pub record BetweenBlocks (s : State) : Type 0 where
 abbrev pub HeadRefused : ℕ → State → ℕ → ℕ → List ℕ → Type 0
 HeadRefused number s kind size more =
     collect_of s (head_bytes_of kind size ++ more)
-    ≡ took 6 (step (refusing number s.collector.part s.collector.held (kind + 65536 * size)) s.store (Refused number))
+    ≡ took 6 (step (refusing number s.collector.part s.collector.held (kind + 65536 * size)) s.store (refused_by number))
 
 -- bytes of a head that is not complete yet: all of them are taken, nothing is answered, and they are beside the store, which is as it was
 pub record HeadWaits (s : State) (bs : List ℕ) : Type 0 where
@@ -198,11 +201,11 @@ pub record RequestOne : Type 0 where
   pub empty : (s : State) → 0 ≡ collector_fault s.collector (length s.store) → collect_of s [] ≡ took 0 (step s.collector s.store More)
   -- "After such a refusal it answers the same until reset", whatever bytes and whatever store it is lent (a store that does not fit, 2, is not remembered)
   pub refusal_stays :
-      (s : State) (bs store cs : List ℕ) (n : ℕ)
+      (s : State) (bs store cs : List ℕ) (refusal : Refusal)
       → Bytes bs
-      → (collect_of s bs).step.answer ≡ Refused n
-      → (n ≡ 2 → ⊥)
-      → collect_of (state (after s bs).collector store) cs ≡ took 0 (step (after s bs).collector store (Refused n))
+      → (collect_of s bs).step.answer ≡ Refused refusal
+      → (refusal ≡ Buffer → ⊥)
+      → collect_of (state (after s bs).collector store) cs ≡ took 0 (step (after s bs).collector store (Refused refusal))
   -- "until reset": a fresh record takes bytes over any store
   pub reset_takes : (room : ℕ) → 0 ≡ collector_fault fresh room
   -- a record that calls make is one that is taken, and every one that is taken can be made by a call

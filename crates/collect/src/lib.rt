@@ -4,12 +4,15 @@
 
 ghost use Rattle.std.specs.Prelude.{◌≡◌, ℕ, ◌+◌, ◌≤◌, ◌<◌, ◌^◌, List, length, take, drop};
 ghost use Rattle.wire.specs.Le.{patch};
+ghost use Rattle.wire.specs.Refusal.{number_of};
 ghost use Rattle.collect.specs.Collect.{fresh, gathering, head_fault, part_after, state, took, settled, head_done, between, refusal_of, made_waiting, may_end, made_gathering, collector_made, collector_fault, said, goes_on, walk, collect_of};
 ghost use Rattle.collect.specs.laws.Code.{Turned};
 
+use wire::{Numbered, Refusal, number_of};
+
 // What is kept from call to call, beside the store: how many of its bytes are gathered; where the block under way ends (0: between blocks); the bytes of a
 // head that waits, as one number; the refusal (0: none); what is gathered (the five numbers below); how many bytes of the head are there. All 0 when fresh.
-// Laid out as C does, for the edge.
+// Laid out as C does, for the edge: a caller lends any bytes, so `refused`, `part` and `seen` are numbers there, which `collector_fault` judges.
 #[repr(C)]
 #[derive(Clone, Copy)]
 pub struct Collector {
@@ -21,13 +24,14 @@ pub struct Collector {
     pub seen: u8,
 }
 
-// What a call comes to: it waits for more; or the store's first bytes go to the header call, or to the frame call; or it refuses.
+// What a call comes to: it waits for more; or the store's first bytes go to the header call, or to the frame call; or it refuses. Four ways of one kind, as
+// `Step` of specs/Collect has them, and no Result.
 #[derive(Clone, Copy)]
 pub enum Collected {
     More,
     Header(usize),
     Frame(usize),
-    Refused(u8),
+    Refused(Refusal),
 }
 
 // A call's answer: the record after it, how many bytes it took, and what it came to.
@@ -38,7 +42,8 @@ pub struct Took {
     pub answer: Collected,
 }
 
-// Nothing is gathered yet; a block for the header call; a block alone for the frame call; a frame; a frame, in its end block.
+// Nothing is gathered yet; a block for the header call; a block alone for the frame call; a frame; a frame, in its end block. Numbers and no enum: they
+// are the record's `part`, a byte of C's.
 const OUTSIDE: u8 = 0;
 
 const TO_HEADER: u8 = 1;
@@ -68,47 +73,29 @@ fn weight(seen: u8) -> usize
     requires { seen ≤ 6 }
     ensures { (result ≡ 256 ^ seen) × (result ≤ 281474976710656) }
 {
-    if seen == 0 {
-        return 1;
-    }
-    if seen == 1 {
-        return 256;
-    }
-    if seen == 2 {
-        return 65536;
-    }
-    if seen == 3 {
-        return 16777216;
-    }
-    if seen == 4 {
-        return 4294967296;
-    }
-    if seen == 5 {
-        return 1099511627776;
-    }
-    281474976710656
+    256usize.pow(seen as u32)
 }
 
 // The first fault of a head that is complete, where so many bytes are gathered.
-fn head_fault(held: usize, head: usize, room: usize) -> u8
+fn head_fault(held: usize, head: usize, room: usize) -> Result<(), Refusal>
     requires { held ≤ room }
-    ensures { result ≡ head_fault held head room }
+    ensures { number_of result ≡ head_fault held head room }
 {
     let kind = head % 65536;
     let size = head / 65536;
     if kind < 0xCCC0 {
-        return 3;
+        return Err(Refusal::Kind);
     }
     if 0xCCC7 < kind {
-        return 3;
+        return Err(Refusal::Kind);
     }
     if size < 6 {
-        return 4;
+        return Err(Refusal::Length);
     }
     if room - held < size {
-        return 13;
+        return Err(Refusal::Room);
     }
-    0
+    Ok(())
 }
 
 // What a block of a type belongs to.
@@ -131,11 +118,11 @@ fn part_after(part: u8, kind: usize) -> u8
 }
 
 // The refusal that belongs to so many bytes of a head.
-fn refusal_of(seen: u8, head: usize) -> u8
-    ensures { result ≡ refusal_of seen head }
+fn refusal_of(seen: u8, head: usize) -> Result<(), Refusal>
+    ensures { number_of result ≡ refusal_of seen head }
 {
     if seen < 6 {
-        return 0;
+        return Ok(());
     }
     head_fault(0, head, 0)
 }
@@ -161,7 +148,7 @@ fn is_waiting(c: Collector) -> bool
     if weight(c.seen) <= c.head {
         return false;
     }
-    if c.refused != refusal_of(c.seen, c.head) {
+    if c.refused != number_of(refusal_of(c.seen, c.head)) {
         return false;
     }
     is_between(c.part, c.held)
@@ -223,23 +210,21 @@ fn is_made(c: Collector) -> bool
     is_gathering(c)
 }
 
-// Why a call takes nothing; 0 where it takes what it is given.
-fn collector_fault(c: Collector, room: usize) -> u8
-    ensures { result ≡ collector_fault c room }
+// Why a call takes nothing. The refusal that a record keeps is that of the head beside it.
+fn collector_fault(c: Collector, room: usize) -> Result<(), Refusal>
+    ensures { number_of result ≡ collector_fault c room }
 {
-    if is_made(c) {
-        if c.refused != 0 {
-            return c.refused;
-        }
-        if room < c.held {
-            return 2;
-        }
-        if room < c.end {
-            return 2;
-        }
-        return 0;
+    if !is_made(c) {
+        return Err(Refusal::Order);
     }
-    12
+    refusal_of(c.seen, c.head)?;
+    if room < c.held {
+        return Err(Refusal::Buffer);
+    }
+    if room < c.end {
+        return Err(Refusal::Buffer);
+    }
+    Ok(())
 }
 
 // In a block that ends at a place; between the blocks of a frame where the end is 0.
@@ -247,11 +232,11 @@ fn in_block(part: u8, held: usize, end: usize) -> Collector
     ensures { result ≡ gathering part held end }
 {
     Collector {
-        held: held,
-        end: end,
+        held,
+        end,
         head: 0,
         refused: 0,
-        part: part,
+        part,
         seen: 0,
     }
 }
@@ -296,20 +281,20 @@ fn judge(part: u8, held: usize, head: usize, n: usize, store: &mut [u8]) -> Took
     requires { held ≤ length store.old }
     ensures { said result store.new ≡ took n (head_done (head_fault held head (length store.old)) part held head store.old) }
 {
-    let fault = head_fault(held, head, store.len());
-    if fault != 0 {
+    if let Err(refusal) = head_fault(held, head, store.len()) {
+        let number = refusal.number();
         let c = Collector {
-            held: held,
+            held,
             end: 0,
-            head: head,
-            refused: fault,
-            part: part,
+            head,
+            refused: number,
+            part,
             seen: 6,
         };
         return Took {
             collector: c,
             taken: n,
-            answer: Collected::Refused(fault),
+            answer: Collected::Refused(refusal),
         };
     }
     wire::put16_at(store, held, head % 65536);
@@ -322,26 +307,15 @@ fn judge(part: u8, held: usize, head: usize, n: usize, store: &mut [u8]) -> Took
     )
 }
 
-// n bytes into the store, from a place to a place.
+// n bytes into the store, from a place to a place. Byte by byte, which is made a `memcpy`: `copy_from_slice` would ask who links the archive for a `memmove`, and it
+// asks for `memcpy` and `memset` alone.
 pub fn copy(store: &mut [u8], at: usize, bytes: &[u8], from: usize, n: usize)
     requires { (at + n ≤ length store.old) × (from + n ≤ length bytes.now) }
     ensures { store.new ≡ patch store.old at (take n (drop from bytes.now)) }
 {
-    let mut i: usize = 0;
-    while i < n {
+    for i in 0..n {
         store[at + i] = bytes[from + i];
-        i += 1;
     }
-}
-
-fn fewer(a: usize, b: usize) -> usize
-    requires { (1 ≤ a) × (1 ≤ b) }
-    ensures { (result ≤ a) × ((result ≤ b) × (1 ≤ result)) }
-{
-    if a < b {
-        return a;
-    }
-    b
 }
 
 // The next byte of a head.
@@ -354,7 +328,7 @@ fn head_at(c: Collector, bytes: &[u8], at: usize, store: &mut [u8]) -> Took
         let w = Collector {
             held: c.held,
             end: 0,
-            head: head,
+            head,
             refused: 0,
             part: c.part,
             seen: c.seen + 1,
@@ -382,7 +356,7 @@ fn block_at(c: Collector, bytes: &[u8], at: usize, store: &mut [u8]) -> Took
     requires { (0 ≡ collector_fault c (length store.old)) × ((at < length bytes.now) × (c.end ≡ 0 → ⊥)) }
     ensures { Turned (state c store.old) bytes.now at (said result store.new) }
 {
-    let n = fewer(c.end - c.held, bytes.len() - at);
+    let n = (c.end - c.held).min(bytes.len() - at);
     copy(store, c.held, bytes, at, n);
     settle(c.part, c.held + n, c.end, at + n)
 }
@@ -405,12 +379,7 @@ fn turn_at(c: Collector, bytes: &[u8], at: usize, store: &mut [u8]) -> Took
 fn goes_on(a: Collected) -> bool
     ensures { result ≡ goes_on a }
 {
-    match a {
-        Collected::More => true,
-        Collected::Header(_) => false,
-        Collected::Frame(_) => false,
-        Collected::Refused(_) => false,
-    }
+    matches!(a, Collected::More)
 }
 
 // The bytes up to the end of the first part that is whole, or of the first head that is refused.
@@ -420,15 +389,14 @@ fn walk_bytes(from: Collector, bytes: &[u8], store: &mut [u8]) -> Took
 {
     let mut c = from;
     let mut at: usize = 0;
+    // A turn takes as many bytes as belong to what is under way: there is no range of turns, and no slice of equal parts.
     while at < bytes.len() {
         let t = turn_at(c, bytes, at, store);
-        let a = t.answer;
-        if goes_on(a) {
-            c = t.collector;
-            at = t.taken;
-        } else {
+        if !goes_on(t.answer) {
             return t;
         }
+        c = t.collector;
+        at = t.taken;
     }
     Took {
         collector: c,
@@ -441,12 +409,11 @@ fn walk_bytes(from: Collector, bytes: &[u8], store: &mut [u8]) -> Took
 pub fn collect(c: Collector, bytes: &[u8], store: &mut [u8]) -> Took
     ensures { said result store.new ≡ collect_of (state c store.old) bytes.now }
 {
-    let fault = collector_fault(c, store.len());
-    if fault != 0 {
+    if let Err(refusal) = collector_fault(c, store.len()) {
         return Took {
             collector: c,
             taken: 0,
-            answer: Collected::Refused(fault),
+            answer: Collected::Refused(refusal),
         };
     }
     walk_bytes(c, bytes, store)

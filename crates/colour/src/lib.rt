@@ -3,9 +3,11 @@
 // All in 32 bits (document 02, "No 64-bit products on the small door panel"): on the way back a sample is split at 65,536, and with it its products.
 #![tactic(auto)]
 
-ghost use Rattle.std.specs.Prelude.{◌≡◌, pos, ◌+ℤ◌, ◌*ℤ◌};
+ghost use Rattle.std.specs.Prelude.{◌≡◌, refl, ℕ, eqb, ◌≤◌, pos, ◌+ℤ◌, ◌*ℤ◌};
+ghost use Rattle.std.specs.Mem.{type_size};
+ghost use Rattle.std.proofs.Common.{rules};
 ghost use Rattle.whole.specs.laws.Near.{Near, Upto};
-ghost use Rattle.colour.specs.Colour.{clamp_byte, cut21, luma_of, cb_of, cr_of, rgb_of, pack565, pack888, word_of};
+ghost use Rattle.colour.specs.Colour.{clamp_byte, cut21, luma_of, cb_of, cr_of, rgb_of, pack_of, word_of};
 ghost use Rattle.colour.specs.laws.Steps.{weighed, mix, joined, Small};
 
 // A pixel's three bytes.
@@ -107,30 +109,61 @@ pub fn rgb_of(y: i32, cb: i32, cr: i32) -> Rgb
     }
 }
 
-fn pack(p: Rgb) -> u16
-    ensures { result ≡ pack565 p.r p.g p.b }
-{
-    (p.r as u16) / 8 * 2048 + (p.g as u16) / 4 * 32 + (p.b as u16) / 8
+// A word of a picture: which glass has such words, 0 the one of 16 bits and 1 the one of 32, what number it is, and how it is made.
+pub trait GlassWord: Copy + Eq {
+    const GLASS: u8;
+
+    ghost GLASS: { ℕ };
+
+    ghost number: { Self → ℕ };
+
+    // The word of a pixel's three bytes.
+    fn pack(p: Rgb) -> Self
+        ensures { number result ≡ pack_of GLASS p.r p.g p.b };
+
+    // Words are equal exactly if their numbers are.
+    ghost same: { (a b : Self) → Self.eq a b ≡ eqb (number a) (number b) };
+
+    // A word has at most four bytes.
+    ghost small: { type_size Self.row ≤ 4 };
 }
 
-fn pack_32(p: Rgb) -> u32
-    ensures { result ≡ pack888 p.r p.g p.b }
-{
-    (p.r as u32) * 65536 + (p.g as u32) * 256 + (p.b as u32)
+impl GlassWord for u16 {
+    const GLASS: u8 = 0;
+
+    ghost GLASS = { 0 };
+
+    ghost number = { λ n. n };
+
+    fn pack(p: Rgb) -> u16 {
+        (p.r as u16) / 8 * 2048 + (p.g as u16) / 4 * 32 + (p.b as u16) / 8
+    }
+
+    ghost same = { λ a b. refl };
+
+    ghost small = { Prim.search rules };
 }
 
-// The picture's word of a pixel's samples, on a glass of 16 bits.
-pub fn word(y: i32, cb: i32, cr: i32) -> u16
+impl GlassWord for u32 {
+    const GLASS: u8 = 1;
+
+    ghost GLASS = { 1 };
+
+    ghost number = { λ n. n };
+
+    fn pack(p: Rgb) -> u32 {
+        (p.r as u32) * 65536 + (p.g as u32) * 256 + (p.b as u32)
+    }
+
+    ghost same = { λ a b. refl };
+
+    ghost small = { Prim.search rules };
+}
+
+// The picture's word of a pixel's samples, on a glass of either size.
+pub fn word<W: GlassWord>(y: i32, cb: i32, cr: i32) -> W
     requires { Near 268435456 y × Near 268435456 cb × Near 268435456 cr }
-    ensures { result ≡ word_of 0 y cb cr }
+    ensures { W.number result ≡ word_of W.GLASS y cb cr }
 {
-    pack(rgb_of(y, cb, cr))
-}
-
-// The same on a glass of 32 bits.
-pub fn word_32(y: i32, cb: i32, cr: i32) -> u32
-    requires { Near 268435456 y × Near 268435456 cb × Near 268435456 cr }
-    ensures { result ≡ word_of 1 y cb cr }
-{
-    pack_32(rgb_of(y, cb, cr))
+    W::pack(rgb_of(y, cb, cr))
 }

@@ -7,12 +7,12 @@
 
 use std::rt::Env;
 
-// The number of the argument that names a picture, 0 for none.
-fn picture_argument(rt: &impl Env) -> usize {
-    if app_text::arguments::count(rt) == 2 {
-        return 1;
+// The number of the argument that names a picture, if any.
+fn picture_argument(rt: &impl Env) -> Option<usize> {
+    match app_text::arguments::count(rt) {
+        2 => Some(1),
+        _ => None,
     }
-    0
 }
 
 fn main(rt: HostRuntime) {

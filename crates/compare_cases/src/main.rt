@@ -6,7 +6,7 @@ use app_text::lines::OUT;
 fn pair(rt: &HostRuntime, name: &[u8], a: &[u8], b: &[u8]) {
     app_text::lines::say(OUT, name);
     app_text::lines::say(OUT, b":\n");
-    app_compare::compare(rt, a, b, 0);
+    app_compare::compare(rt, a, b, None);
 }
 
 // Two whole pictures of one size.

@@ -1,18 +1,18 @@
 -- Request Fourteen of 02: "The safety office signs off days." A day is a list of header and frame calls on one record and one picture. Here is how the calls
 -- hang together, which of them are refused, what the accepted frames draw one over the other, and what each call was asked; specs/Days says what is so.
 -- (01 is this project's scope document, 02 its change requests, 001 is MS-RDPRFX: README, "What 01 is".)
-use Rattle.std.specs.Prelude.{ℕ, ◌+◌, ◌*◌, ◌/◌, ◌%◌, ◌≡◌, List, [], ◌∷◌, ◌≢◌, length, ltb, eqb}
+use Rattle.std.specs.Prelude.{ℕ, ◌+◌, ◌*◌, ◌/◌, ◌%◌, ◌≡◌, List, [], ◌∷◌, ◌≢◌, length, ltb, eqb, Result}
+use Rattle.wire.specs.Refusal.{number_of}
 use Rattle.whole.specs.Row.{◌⇒◌∣◌}
 use Rattle.session.specs.declared.Session.{Session}
-use Rattle.session.specs.declared.HeaderReading.{HeaderReading}
-use Rattle.session.specs.Header.{record_of, header_number}
+use Rattle.wire.specs.declared.Refusal.{Refusal}
+use Rattle.session.specs.Header.{record_of}
 use Rattle.frame_layout.specs.Reader.{frame_tiles, set_place, rect_count, set_at}
 use Rattle.frame_blocks.specs.Blocks.{rects_of}
 use Rattle.frame_draw.specs.Draw.{in_region}
 use Rattle.frame_draw.specs.Shown.{Found, found, none, last_tile}
 use Rattle.frame_draw.specs.Show.{tile_word}
-use Rattle.frame.specs.declared.call.FrameReading.{FrameReading}
-use Rattle.frame.specs.Frame.{framed, frame_reading_number}
+use Rattle.frame.specs.Frame.{framed}
 use Rattle.calls.specs.Calls.{ReadHeader, session_after, ReadFrame}
 
 -- ---- "Take any list of header and frame calls from a fresh session, with the same picture handed on from call to call, no sharing and no other writer."
@@ -66,8 +66,8 @@ pub data Day : State → List Call → State → Type 0 where
 
 -- 01's number of a call's answer; a call is refused if it is not 0
 unfoldable pub number : Call → ℕ
-number (header c) = header_number c.answer
-number (frame c) = frame_reading_number c.answer
+number (header c) = number_of c.answer
+number (frame c) = number_of c.answer
 
 -- "striking out every refused call": the others, themselves, in their order
 unfoldable pub struck : List Call → List Call
@@ -90,7 +90,7 @@ NoneRefused (c ∷ cs) = (number c ≡ 0) × NoneRefused cs
 unfoldable pub accepted : List Call → List ReadFrame
 accepted [] = []
 accepted (header c ∷ cs) = accepted cs
-accepted (frame c ∷ cs) = eqb (frame_reading_number c.answer) 0 ⇒ c ∷ accepted cs ∣ accepted cs
+accepted (frame c ∷ cs) = eqb (number_of c.answer) 0 ⇒ c ∷ accepted cs ∣ accepted cs
 
 -- a frame drawn over a picture, on the glass and under the size and the mode that the record had at that call
 abbrev pub drawn_by : ReadFrame → List ℕ → List ℕ
@@ -149,8 +149,8 @@ asked (frame c) = ask_frame c.message (length c.y) (length c.cb) (length c.cr) (
 
 -- the whole answer: a header's number with its record, a frame's number and tiles
 pub data Answer : Type 0 where
-  of_header : HeaderReading → Answer
-  of_frame : FrameReading → Answer
+  of_header : Result Session Refusal → Answer
+  of_frame : Result ℕ Refusal → Answer
 
 abbrev pub answered : Call → Answer
 answered (header c) = of_header c.answer

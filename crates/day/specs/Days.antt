@@ -4,6 +4,7 @@
 -- is asked of the calls: a frame before the headers, a picture too short and a wrong work list are answers like others. All of it holds from any record s.
 -- (01 is this project's scope document, 02 its change requests, 001 is MS-RDPRFX: README, "What 01 is".)
 use Rattle.std.specs.Prelude.{ℕ, ◌≡◌, List, [], map, length, get_or}
+use Rattle.wire.specs.declared.Refusal.{Refusal}
 use Rattle.wire.specs.Le.{le16}
 use Rattle.session.specs.Header.{record_of, kept_glass}
 use Rattle.collect.specs.declared.Collected.TheVariants.{Refused}
@@ -61,7 +62,7 @@ pub record Days : Type 0 where
       → CollectedDay k pss s cs t
       → (t.picture ≡ drawn_over (accepted cs) s.picture) × Day s (struck cs) t
   -- "resets of the collector are not calls" (`Gathered`), and no more is a refusal of the collector, which hands nothing on
-  pub refusal_no_call : (k : Collect.State) (bs : List ℕ) (n : ℕ) → (collect_of k bs).step.answer ≡ Refused n → parts_of (collect_of k bs).step ≡ []
+  pub refusal_no_call : (k : Collect.State) (bs : List ℕ) (r : Refusal) → (collect_of k bs).step.answer ≡ Refused r → parts_of (collect_of k bs).step ≡ []
   -- however the bytes of the day are cut between resets: the same parts, and the same collector and store at the end
   pub however_cut :
       {k l m : Collect.State} {pss qss : List (List (List ℕ))} {hs ks : List Part}

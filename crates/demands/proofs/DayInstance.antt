@@ -1,7 +1,9 @@
 -- There is a day with a refused call, a sync in the middle and an accepted frame on each side of it: our own headers and our own frame, then the headers again,
 -- with the frame too early after the sync (12), and the frame again. In both modes, on either glass.
 -- Assumes nothing.
+use Rattle.std.specs.Prelude.{Ok}
 use Prim.Native.Nat.{ℕ, ◌*◌, ◌≤◌}
+use Rattle.wire.specs.Refusal.{number_of}
 use mathlib.Core.Path.{◌≡◌, refl, sym, ap, subst, ◌∙◌}
 use mathlib.Core.Bool.{false}
 use mathlib.Core.List.{List, [], ◌∷◌}
@@ -11,12 +13,10 @@ use Rattle.whole.specs.Row.{◌!◌⨾◌, ◌⇒◌∣◌}
 use Rattle.wire.specs.Le.{bytes16, bytes32}
 use Rattle.wire.specs.laws.Wrote.{wrote_bytes}
 use Rattle.session.specs.declared.Session.{Session}
-use Rattle.session.specs.declared.HeaderReading.TheVariants.{Taken}
 use Rattle.session.specs.Header.{record_of, kept_glass, ready}
 use Rattle.session.specs.laws.Header.{kept-glass, glass_kept}
 use Rattle.headers.specs.Headers.{sync_of, versions_of, channels_of, context_of, headers_of}
 use Rattle.headers.specs.laws.ReadBack.{AllTaken, our_headers}
-use Rattle.frame.specs.Frame.{frame_reading_number}
 use Rattle.calls.specs.Calls.{ReadHeader, session_after, ReadFrame, sent_by}
 use Rattle.calls.specs.laws.Calls.{taken_by, unready_frame}
 use Rattle.demands.specs.Demands.{OurCalls, OurFrame}
@@ -44,11 +44,11 @@ pub record DayMet (glass mode : ℕ) : Type 0 where
       Day (fresh glass glass first)
       (header one ∷ header two ∷ header three ∷ header four ∷ frame before
       ∷ header sync ∷ frame early ∷ header six ∷ header seven ∷ header eight ∷ frame after ∷ []) last
-  pub before_accepted : frame_reading_number before.answer ≡ 0
+  pub before_accepted : number_of before.answer ≡ 0
   pub sync_is : sync.message ≡ sync_of
-  pub sync_taken : sync.answer ≡ Taken (record_of glass 1 0 0 0)
-  pub early_refused : frame_reading_number early.answer ≡ 12
-  pub after_accepted : frame_reading_number after.answer ≡ 0
+  pub sync_taken : sync.answer ≡ Ok (record_of glass 1 0 0 0)
+  pub early_refused : number_of early.answer ≡ 12
+  pub after_accepted : number_of after.answer ≡ 0
   pub before_mode : before.session.mode ≡ mode
   pub after_mode : after.session.mode ≡ mode
   -- what is shown in the end
@@ -173,7 +173,7 @@ module _ (glass : ℕ) (either : glass ≤ 1) (mode : ℕ) (m : Met glass mode) 
   last_ours : OurFrame (h1 r1) (h2 r1) (h3 r1) (h4 r1) m.frame (f1 r1 p2)
   last_ours = demands.two.our_frames _ _ _ _ _ _ _ (ours r1 p2 r1_glass (demands.two.long refused ∙ demands.two.long (f1 r0 p0)))
 
-  early_number : frame_reading_number refused.answer ≡ 12
+  early_number : number_of refused.answer ≡ 12
   early_number = unready_frame refused (unready _ _ (synced r1))
 
   is-sync : take 12 sent ≡ sync_of
@@ -182,9 +182,9 @@ module _ (glass : ℕ) (either : glass ≤ 1) (mode : ℕ) (m : Met glass mode) 
 -- two accepted frames and a refused one between them
 picked :
     (a b c : ReadFrame) (pic : List ℕ)
-    → frame_reading_number a.answer ≡ 0
-    → frame_reading_number b.answer ≡ 12
-    → frame_reading_number c.answer ≡ 0
+    → number_of a.answer ≡ 0
+    → number_of b.answer ≡ 12
+    → number_of c.answer ≡ 0
     → drawn_over (accepted (frame a ∷ frame b ∷ frame c ∷ [])) pic ≡ drawn_by c (drawn_by a pic)
 unfolding accepted drawn_over ◌⇒◌∣◌
 picked a b c pic x y z = rw (x, y, z)
@@ -208,7 +208,7 @@ met glass l mode m = record {
   day = made glass l mode m;
   before_accepted = (first_ours glass l mode m).accepted;
   sync_is = is-sync glass l mode m;
-  sync_taken = (all_taken glass l mode m (r1 glass l mode m)).one ∙ ap (λ (g : ℕ). Taken (record_of g 1 0 0 0)) (sym (r1_glass glass l mode m));
+  sync_taken = (all_taken glass l mode m (r1 glass l mode m)).one ∙ ap (λ (g : ℕ). Ok (record_of g 1 0 0 0)) (sym (r1_glass glass l mode m));
   early_refused = early_number glass l mode m;
   after_accepted = (last_ours glass l mode m).accepted;
   before_mode = moded glass l mode m (r0 glass l mode m);

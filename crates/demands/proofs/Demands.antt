@@ -1,6 +1,8 @@
 -- The demands are met: `demands`, from the theorems of session, headers, code, code_write, frame, frame_write and frame_readback.
 -- Assumes nothing.
+use Rattle.std.specs.Prelude.{Result}
 use Prim.Native.Nat.{ℕ, zero, suc, ◌*◌, ◌≤◌}
+use Rattle.wire.specs.Refusal.{number_of, count_of}
 use mathlib.Core.Path.{◌≡◌, refl, ap, subst, subst⁻¹, ◌∙◌, sym}
 use mathlib.Core.Bool.{Bool, true, false}
 use mathlib.Core.List.{List, [], ◌∷◌}
@@ -11,7 +13,7 @@ use lib.ListN.{length, get_or}
 use borrow.Author.Tests.{eqb-true, eqb-false}
 use Rattle.whole.specs.Among.{among, Among}
 use Rattle.whole.specs.laws.Among.{each, among_most}
-use Rattle.wire.specs.declared.Writing.{Writing}
+use Rattle.wire.specs.declared.Refusal.{Refusal}
 use Rattle.wire.specs.Wrote.{length_said, out_left, Wrote}
 use Rattle.session.specs.declared.Session.{Session}
 use Rattle.session.specs.Header.{record_of, kept_glass}
@@ -31,7 +33,7 @@ use Rattle.code_write.specs.laws.Cases.{write_cases}
 use Rattle.tile_back.specs.laws.Cases as TileOnesLaws
 use Rattle.frame_blocks.specs.laws.Cases.{props_cases}
 use Rattle.frame_pieces.specs.laws.Cases as SendOnesLaws
-use Rattle.frame.specs.Frame.{frame_number, frame_reading_number, frame_reading_tiles, FrameRead}
+use Rattle.frame.specs.Frame.{frame_number, FrameRead}
 use Rattle.frame.specs.laws.Glass.{number_is, refused, accepted, shown_pixel, shown_past, shown_length}
 use Rattle.frame.specs.laws.Numbers.{frame_among, untouched, cleared}
 use Rattle.frame_write.specs.laws.Numbers as SendNumbers
@@ -55,13 +57,13 @@ use Rattle.demands.specs.laws.ShortForC.{eleven_for_c}
 
 module _ (c : ReadFrame) where
   abbrev number : ℕ
-  number = frame_reading_number c.answer
+  number = number_of c.answer
 
   frame-number : number ≡ first_fault c
   unfolding frame_number
   frame-number = number_is _ _ _ _ _ _ _ _ _ _ _ _ _ _ c.promise
 
-  frame_refused : number ≢ 0 → (c.picture' ≡ c.picture) × (frame_reading_tiles c.answer ≡ 0)
+  frame_refused : number ≢ 0 → (c.picture' ≡ c.picture) × (count_of c.answer ≡ 0)
   frame_refused h = refused _ _ _ _ _ _ _ _ _ _ _ _ _ _ c.promise h
 
   lists_untouched : Among (12 ∷ 2 ∷ []) number → Untouched c
@@ -79,7 +81,7 @@ module _ (c : ReadFrame) where
 
 -- ---- the writers
 
-sent-by : (f : ℕ) (bytes out out' : List ℕ) (r : Writing) → Wrote f bytes out out' r → Sent bytes out out' r
+sent-by : (f : ℕ) (bytes out out' : List ℕ) (r : Result ℕ Refusal) → Wrote f bytes out out' r → Sent bytes out out' r
 unfolding length_said out_left
 sent-by zero bytes out out' r w =
     record

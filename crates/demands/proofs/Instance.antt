@@ -1,5 +1,6 @@
 -- What demand 2 asks of our own calls (`OurCalls`) is met: one grey pixel, ten quantisers of 6, in both modes, on either glass.
 -- Assumes nothing.
+use Rattle.std.specs.Prelude.{Ok}
 use Prim.Native.Nat.{ℕ, ◌≤◌}
 use mathlib.Core.Path.{◌≡◌, refl, sym, ◌∙◌}
 use mathlib.Core.Bool.{true}
@@ -17,9 +18,7 @@ use Rattle.session.specs.laws.Header.{kept-glass}
 use Rattle.wire.specs.Le.{written}
 use Rattle.wire.specs.Mode.{is_mode}
 use Rattle.wire.specs.laws.Mode.{is_1, is_4}
-use Rattle.wire.specs.Wrote.{writing_number}
 use Rattle.wire.specs.laws.Wrote.{done}
-use Rattle.wire.specs.declared.Writing.TheVariants.{Done}
 use Rattle.headers.specs.Headers.{headers_of, headers_fault}
 use Rattle.frame.specs.Frame.{call_fault, frame_number, frame_picture, frame_list, frame_reading}
 use Rattle.frame_write.specs.Encode.{picture_frame}
@@ -88,7 +87,7 @@ module _ (glass : ℕ) (either : glass ≤ 1) (mode : ℕ) (good : is_mode mode 
         mode = mode;
         out = replicate 47 0;
         out' = written (headers_of 1 1 mode) (replicate 47 0);
-        answer = Done (length (headers_of 1 1 mode));
+        answer = Ok (length (headers_of 1 1 mode));
         promise = done _ _ _ _ _ headers_0 refl refl;
       }
 
@@ -106,7 +105,7 @@ module _ (glass : ℕ) (either : glass ≤ 1) (mode : ℕ) (good : is_mode mode 
     list' = zeros;
     scratch' = zeros;
     out' = written bytes bytes;
-    answer = Done (length bytes);
+    answer = Ok (length bytes);
     promise =
         record {
           wrote = done _ _ _ _ _ (goes_on _ _ _ (sym arguments_0) sending_0) refl refl;
@@ -132,7 +131,6 @@ module _ (glass : ℕ) (either : glass ≤ 1) (mode : ℕ) (good : is_mode mode 
   four = asked (session_after three) (take 13 (drop 34 sent))
 
   met : OurCalls wrote_headers one two three four wrote_frame (drawn glass (session_after four) (sent_by wrote_frame.answer wrote_frame.out'))
-  unfolding writing_number
   met = record {
     headers_done = refl;
     sync = refl;

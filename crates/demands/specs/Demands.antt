@@ -2,12 +2,12 @@
 -- sentence of the demands or of document 01; proofs/Demands proves `demands : Demands`. That no bytes can trap a call needs no sentence
 -- here: every function is proved, and none of the six has a `requires`.
 -- (01 is this project's scope document, 02 its change requests, 001 is MS-RDPRFX: README, "What 01 is".)
-use Rattle.std.specs.Prelude.{ℕ, ◌+◌, ◌*◌, ◌%◌, ◌≤◌, ◌<◌, ◌≡◌, Bool, true, List, [], ◌∷◌, ◌++◌, ◌≢◌, ℤ, pos, length, get_or, take, drop, replicate}
+use Rattle.std.specs.Prelude.{ℕ, ◌+◌, ◌*◌, ◌%◌, ◌≤◌, ◌<◌, ◌≡◌, Bool, true, List, [], ◌∷◌, ◌++◌, ◌≢◌, ℤ, pos, length, get_or, take, drop, replicate, Result}
+use Rattle.wire.specs.Refusal.{number_of, count_of}
 use Rattle.whole.specs.Row.{◌⇒◌∣◌, ◌⨟◌}
 use Rattle.whole.specs.Among.{Among, Other}
 use Rattle.wire.specs.Le.{written, le16}
-use Rattle.wire.specs.declared.Writing.{Writing}
-use Rattle.wire.specs.Wrote.{writing_number, writing_length}
+use Rattle.wire.specs.declared.Refusal.{Refusal}
 use Rattle.bits.specs.Bits.{bits_of}
 use Rattle.frame_layout.specs.Reader.{frame_fault, frame_tiles, set_place, tile_count, rect_count, set_at}
 use Rattle.frame_blocks.specs.Blocks.{rects_of}
@@ -17,9 +17,9 @@ use Rattle.frame_draw.specs.Shown.{last_tile, word_in}
 use Rattle.frame_draw.specs.Show.{tile_word}
 use Rattle.frame_blocks.specs.Judged.{judged}
 use Rattle.session.specs.declared.Session.{Session}
-use Rattle.session.specs.Header.{record_of, kept_glass, Right, ready, header_fault, record_after, header_number}
+use Rattle.session.specs.Header.{record_of, kept_glass, Right, ready, header_fault, record_after}
 use Rattle.session.specs.Cases as HeaderOnes
-use Rattle.frame.specs.Frame.{early, framed, Cleared, frame_reading_number, frame_reading_tiles}
+use Rattle.frame.specs.Frame.{early, framed, Cleared}
 use Rattle.headers.specs.Headers.{headers_of, headers_fault}
 use Rattle.code.specs.declared.read.Reading.TheVariants.{Done as Read}
 use Rattle.code.specs.Read.{reading_number, reading_bits, read_fault}
@@ -60,20 +60,20 @@ pub record Untouched (c : ReadFrame) : Type 0 where
 
 pub record Demand1 : Type 0 where
   -- the number is the first fault's; 0 where there is none
-  pub header-number : (c : ReadHeader) → header_number c.answer ≡ header_fault c.session c.message
-  pub frame-number : (c : ReadFrame) → frame_reading_number c.answer ≡ first_fault c
+  pub header-number : (c : ReadHeader) → number_of c.answer ≡ header_fault c.session c.message
+  pub frame-number : (c : ReadFrame) → number_of c.answer ≡ first_fault c
   -- drawn whole
   pub frame_whole :
-      (c : ReadFrame) → frame_reading_number c.answer ≡ 0 →
+      (c : ReadFrame) → number_of c.answer ≡ 0 →
       c.picture' ≡ framed c.session.glass c.session.mode c.session.width c.session.height c.message c.picture
   -- what a taken header leaves
-  pub header_taken : (c : ReadHeader) → header_number c.answer ≡ 0 → session_after c ≡ record_after c.session c.message
+  pub header_taken : (c : ReadHeader) → number_of c.answer ≡ 0 → session_after c ≡ record_after c.session c.message
   -- "A refused header or frame changes neither record nor picture."
-  pub header_refused : (c : ReadHeader) → header_number c.answer ≢ 0 → session_after c ≡ c.session
-  pub frame_refused : (c : ReadFrame) → frame_reading_number c.answer ≢ 0 → c.picture' ≡ c.picture
+  pub header_refused : (c : ReadHeader) → number_of c.answer ≢ 0 → session_after c ≡ c.session
+  pub frame_refused : (c : ReadFrame) → number_of c.answer ≢ 0 → c.picture' ≡ c.picture
   -- "Work lists of a frame call are untouched on 12 and 2; after every other frame answer they hold only zeros."
-  pub lists_untouched : (c : ReadFrame) → Among (12 ∷ 2 ∷ []) (frame_reading_number c.answer) → Untouched c
-  pub lists_zeros : (c : ReadFrame) → Other (12 ∷ 2 ∷ []) (frame_reading_number c.answer) → Cleared c.y' c.cb' c.cr' c.scratch'
+  pub lists_untouched : (c : ReadFrame) → Among (12 ∷ 2 ∷ []) (number_of c.answer) → Untouched c
+  pub lists_zeros : (c : ReadFrame) → Other (12 ∷ 2 ∷ []) (number_of c.answer) → Cleared c.y' c.cb' c.cr' c.scratch'
   -- "The component reader leaves its output list untouched on 5, 2 and 6 and fills it with zeros on 1, 9, 10, 11."
   pub list_untouched : (c : ReadComponent) → Among (5 ∷ 2 ∷ 6 ∷ []) (reading_number c.answer) → c.list' ≡ c.list
   pub list_zeros : (c : ReadComponent) → Among (1 ∷ 9 ∷ 10 ∷ 11 ∷ []) (reading_number c.answer) → c.list' ≡ replicate 4096 (pos 0)
@@ -86,8 +86,8 @@ pub record SentC (bytes out out' : List ℕ) (size number : ℕ) : Type 0 where
   pub refused_length : number ≢ 0 → size ≡ 0
   pub refused_output : number ≢ 0 → out' ≡ out
 
-abbrev pub Sent : List ℕ → List ℕ → List ℕ → Writing → Type 0
-Sent bytes out out' answer = SentC bytes out out' (writing_length answer) (writing_number answer)
+abbrev pub Sent : List ℕ → List ℕ → List ℕ → Result ℕ Refusal → Type 0
+Sent bytes out out' answer = SentC bytes out out' (count_of answer) (number_of answer)
 
 -- ---- 2. "An accepted frame changes the picture to what 01's rules say, pixel by pixel, and no other word."
 
@@ -102,7 +102,7 @@ shown_word c px py =
 
 -- "A frame from our writer, read after our writer's headers for the same size and mode": the calls in their order, on the glass whose words the picture has
 pub record OurCalls (h : WriteHeaders) (one two three four : ReadHeader) (s : WriteFrame) (f : ReadFrame) : Type 0 where
-  pub headers_done : writing_number h.answer ≡ 0
+  pub headers_done : number_of h.answer ≡ 0
   pub sync : one.message ≡ take 12 (sent_by h.answer h.out')
   pub versions : two.message ≡ take 10 (drop 12 (sent_by h.answer h.out'))
   pub channels : three.message ≡ take 12 (drop 22 (sent_by h.answer h.out'))
@@ -115,7 +115,7 @@ pub record OurCalls (h : WriteHeaders) (one two three four : ReadHeader) (s : Wr
   pub same_height : s.height ≡ h.height
   pub same_mode : s.mode ≡ h.mode
   pub ten : length s.quant ≡ 10
-  pub frame_done : writing_number s.answer ≡ 0
+  pub frame_done : number_of s.answer ≡ 0
   pub frame : f.message ≡ sent_by s.answer s.out'
   pub then_frame : f.session ≡ session_after four
   pub y_long : length f.y ≡ 4096
@@ -126,12 +126,12 @@ pub record OurCalls (h : WriteHeaders) (one two three four : ReadHeader) (s : Wr
 
 -- ".. is accepted and shows what 01's decoding makes of the given picture's rounded coefficients."
 pub record OurFrame (one two three four : ReadHeader) (s : WriteFrame) (f : ReadFrame) : Type 0 where
-  pub sync_taken : header_number one.answer ≡ 0
-  pub versions_taken : header_number two.answer ≡ 0
-  pub channels_taken : header_number three.answer ≡ 0
-  pub context_taken : header_number four.answer ≡ 0
-  pub accepted : frame_reading_number f.answer ≡ 0
-  pub tiles : frame_reading_tiles f.answer ≡ tiles_no s.width s.height
+  pub sync_taken : number_of one.answer ≡ 0
+  pub versions_taken : number_of two.answer ≡ 0
+  pub channels_taken : number_of three.answer ≡ 0
+  pub context_taken : number_of four.answer ≡ 0
+  pub accepted : number_of f.answer ≡ 0
+  pub tiles : count_of f.answer ≡ tiles_no s.width s.height
   pub word : (px py : ℕ) → px < s.width → py < s.height →
       get_or f.picture' (py * s.width + px) 0 ≡ word_back f.word s.pixels s.width s.height s.quant (tile_no s.width px py)
       (64 * (py % 64) + px % 64)
@@ -140,14 +140,14 @@ pub record OurFrame (one two three four : ReadHeader) (s : WriteFrame) (f : Read
 
 pub record Demand2 : Type 0 where
   pub pixel :
-      (c : ReadFrame) → frame_reading_number c.answer ≡ 0 → (px py : ℕ) → px < c.session.width → py < c.session.height →
+      (c : ReadFrame) → number_of c.answer ≡ 0 → (px py : ℕ) → px < c.session.width → py < c.session.height →
       get_or c.picture' (py * c.session.width + px) 0 ≡ shown_word c px py
   -- "words past width x height are never changed"
   pub past : (c : ReadFrame) (i : ℕ) → c.session.height * c.session.width ≤ i → get_or c.picture' i 0 ≡ get_or c.picture i 0
   pub long : (c : ReadFrame) → length c.picture' ≡ length c.picture
   -- "A done frame reports numTiles, a refused one 0."
-  pub tiles : (c : ReadFrame) → frame_reading_number c.answer ≡ 0 → frame_reading_tiles c.answer ≡ tile_count c.message (set_place c.message)
-  pub no_tiles : (c : ReadFrame) → frame_reading_number c.answer ≢ 0 → frame_reading_tiles c.answer ≡ 0
+  pub tiles : (c : ReadFrame) → number_of c.answer ≡ 0 → count_of c.answer ≡ tile_count c.message (set_place c.message)
+  pub no_tiles : (c : ReadFrame) → number_of c.answer ≢ 0 → count_of c.answer ≡ 0
   -- the other way
   pub our_frames :
       (h : WriteHeaders) (one two three four : ReadHeader) (s : WriteFrame) (f : ReadFrame) → OurCalls h one two three four s f →
@@ -155,20 +155,20 @@ pub record Demand2 : Type 0 where
   -- "The writer refuses only on 01's conditions."
   pub frame-writer :
       (c : WriteFrame) →
-      writing_number c.answer ≡ arg_fault c.width c.height c.mode c.quant (length c.pixels) (length c.list) (length c.scratch)
+      number_of c.answer ≡ arg_fault c.width c.height c.mode c.quant (length c.pixels) (length c.list) (length c.scratch)
       ⨟ send_fault c.index c.width c.height c.mode c.quant c.pixels (length c.out)
-  pub header_writer : (c : WriteHeaders) → writing_number c.answer ≡ headers_fault c.width c.height c.mode (length c.out)
+  pub header_writer : (c : WriteHeaders) → number_of c.answer ≡ headers_fault c.width c.height c.mode (length c.out)
   pub frame-sent : (c : WriteFrame) → Sent (picture_frame c.index c.width c.height c.mode c.quant c.pixels) c.out c.out' c.answer
   pub headers_sent : (c : WriteHeaders) → Sent (headers_of c.width c.height c.mode) c.out c.out' c.answer
   -- The frame writer never refuses a picture: 9 and 6 do not happen, whatever its bytes; and given good arguments and this much room it is written
-  pub writer_refuses : (c : WriteFrame) → ((i : ℕ) → get_or c.pixels i 0 < 256) → Among (0 ∷ 5 ∷ 7 ∷ 2 ∷ 13 ∷ []) (writing_number c.answer)
+  pub writer_refuses : (c : WriteFrame) → ((i : ℕ) → get_or c.pixels i 0 < 256) → Among (0 ∷ 5 ∷ 7 ∷ 2 ∷ 13 ∷ []) (number_of c.answer)
   pub writer_done : (c : WriteFrame) → ((i : ℕ) → get_or c.pixels i 0 < 256) →
       arg_fault c.width c.height c.mode c.quant (length c.pixels) (length c.list) (length c.scratch) ≡ 0 → length c.quant ≡ 10 →
-      72 + 194911 * tiles_no c.width c.height ≤ length c.out → writing_number c.answer ≡ 0
+      72 + 194911 * tiles_no c.width c.height ≤ length c.out → number_of c.answer ≡ 0
   -- "The frame writer's work lists are untouched on 5, 7 and 2 and hold only zeros after every other answer."
-  pub work_untouched : (c : WriteFrame) → Among (5 ∷ 7 ∷ 2 ∷ []) (writing_number c.answer) → (c.list' ≡ c.list) × (c.scratch' ≡ c.scratch)
+  pub work_untouched : (c : WriteFrame) → Among (5 ∷ 7 ∷ 2 ∷ []) (number_of c.answer) → (c.list' ≡ c.list) × (c.scratch' ≡ c.scratch)
   pub work_zeros :
-      (c : WriteFrame) → Other (5 ∷ 7 ∷ 2 ∷ []) (writing_number c.answer) → (c.list' ≡ replicate 4096 (pos 0)) × (c.scratch' ≡ replicate 4096 (pos 0))
+      (c : WriteFrame) → Other (5 ∷ 7 ∷ 2 ∷ []) (number_of c.answer) → (c.list' ≡ replicate 4096 (pos 0)) × (c.scratch' ≡ replicate 4096 (pos 0))
 
 -- ---- 3. "In each of the two code modes a byte string of at most 65,535 bytes, read into 4,096 places, is accepted as a component exactly if it
 -- is the code of some list of 4,096 whole numbers from -32,767 to 32,767, filled up with zero bits to a byte; that list is handed back. Before
@@ -184,10 +184,10 @@ pub record Demand3 : Type 0 where
       (c : ReadComponent) (zs : List ℤ) (rest : List Bool) → Call c.mode c.bytes c.list → Listed zs →
       bits_of c.bytes ≡ code c.mode zs ++ rest → reading_bits c.answer ≡ length (code c.mode zs)
   -- the component writer writes just that code, and refuses only on 01's conditions
-  pub writer_number : (c : WriteComponent) → writing_number c.answer ≡ write_fault c.mode c.list (length c.out)
+  pub writer_number : (c : WriteComponent) → number_of c.answer ≡ write_fault c.mode c.list (length c.out)
   pub writer_sent : (c : WriteComponent) → Sent (bytes_of c.mode c.list) c.out c.out' c.answer
   pub read_back :
-      (w : WriteComponent) (c : ReadComponent) → writing_number w.answer ≡ 0 → c.mode ≡ w.mode → c.bytes ≡ sent_by w.answer w.out' →
+      (w : WriteComponent) (c : ReadComponent) → number_of w.answer ≡ 0 → c.mode ≡ w.mode → c.bytes ≡ sent_by w.answer w.out' →
       length c.list ≡ 4096 → (c.answer ≡ Read (length (code w.mode w.list))) × (c.list' ≡ w.list)
 
 -- ---- "For any input whatever, a public function's promise leaves one possible answer and one possible content of lent memory, refusals too. Show that
@@ -340,8 +340,8 @@ pub record RecordRight : Type 0 where
   -- "A record that no calls could have made answers 12 wherever one is judged, but takes a good sync": so does one in which one of the three is wrong
   pub wrong_header :
       (c : ReadHeader) → (Right c.session → ⊥) → 6 ≤ length c.message → 0xCCC1 ≤ le16 c.message 0 → le16 c.message 0 ≤ 0xCCC3 →
-      header_number c.answer ≡ 12
-  pub wrong_frame : (c : ReadFrame) → (Right c.session → ⊥) → frame_reading_number c.answer ≡ 12
+      number_of c.answer ≡ 12
+  pub wrong_frame : (c : ReadFrame) → (Right c.session → ⊥) → number_of c.answer ≡ 12
   pub any_sync : (c d : ReadHeader) → c.message ≡ d.message → c.session.glass ≡ d.session.glass → le16 c.message 0 ≡ 0xCCC0 → c.answer ≡ d.answer
 
 -- ---- document 02, request Thirteen: "The session record now names the glass, chosen when the session is opened and kept through a sync"
@@ -350,24 +350,24 @@ pub record RecordGlass : Type 0 where
   -- over any list of calls on one record: it is the one that the session was opened for
   pub glass_always : (s t : Session) → OnOneRecord s t → s.glass ≤ 1 → t.glass ≡ s.glass
   -- "a picture of the other word size is refused with 2", whatever is lent, once all four headers are there
-  pub other_size : (c : ReadFrame) → ready c.session ≡ true → c.word ≢ c.session.glass → frame_reading_number c.answer ≡ 2
+  pub other_size : (c : ReadFrame) → ready c.session ≡ true → c.word ≢ c.session.glass → number_of c.answer ≡ 2
   pub other_size_c : (c : CReadFrame) → ready c.session ≡ true → c.word ≢ c.session.glass → c.number ≡ 2
   -- a glass that is neither: a record that no calls could have made, which takes a good sync and has the base's glass then
   pub other_header :
       (c : ReadHeader) → 1 < c.session.glass → 6 ≤ length c.message → 0xCCC1 ≤ le16 c.message 0 → le16 c.message 0 ≤ 0xCCC3 →
-      header_number c.answer ≡ 12
-  pub other_frame : (c : ReadFrame) → 1 < c.session.glass → frame_reading_number c.answer ≡ 12
+      number_of c.answer ≡ 12
+  pub other_frame : (c : ReadFrame) → 1 < c.session.glass → number_of c.answer ≡ 12
   pub other_sync :
-      (c : ReadHeader) → 1 < c.session.glass → le16 c.message 0 ≡ 0xCCC0 → header_number c.answer ≡ 0 → session_after c ≡ record_of 0 1 0 0 0
+      (c : ReadHeader) → 1 < c.session.glass → le16 c.message 0 ≡ 0xCCC0 → number_of c.answer ≡ 0 → session_after c ≡ record_of 0 1 0 0 0
 
 -- ---- "Numbers the fitter sees": none above 13
 pub record SmallNumbers : Type 0 where
-  pub read-header : (c : ReadHeader) → header_number c.answer ≤ 13
-  pub read-frame : (c : ReadFrame) → frame_reading_number c.answer ≤ 13
+  pub read-header : (c : ReadHeader) → number_of c.answer ≤ 13
+  pub read-frame : (c : ReadFrame) → number_of c.answer ≤ 13
   pub read-component : (c : ReadComponent) → reading_number c.answer ≤ 13
-  pub write-component : (c : WriteComponent) → writing_number c.answer ≤ 13
-  pub write-headers : (c : WriteHeaders) → writing_number c.answer ≤ 13
-  pub write-frame : (c : WriteFrame) → writing_number c.answer ≤ 13
+  pub write-component : (c : WriteComponent) → number_of c.answer ≤ 13
+  pub write-headers : (c : WriteHeaders) → number_of c.answer ≤ 13
+  pub write-frame : (c : WriteFrame) → number_of c.answer ≤ 13
 
 -- ---- "Those marked (p) are proved of the definitions, gathered under a single statement"
 pub record PaperCases : Type 0 where

@@ -3,15 +3,16 @@
 -- a full frame of the new one would give, with the same quantisers, mode and session", said of xurbalenz_write_frame_short, xurbalenz_write_frame_sets and the
 -- frame calls. laws/ShortForC proves it.
 -- (01 is this project's scope document, 02 its change requests, 001 is MS-RDPRFX: README, "What 01 is".)
-use Rattle.std.specs.Prelude.{ℕ, zero, suc, ◌*◌, ◌≤◌, ◌≡◌, List, length, take}
+use Rattle.std.specs.Prelude.{ℕ, zero, suc, ◌*◌, ◌≤◌, ◌≡◌, List, length, take, Result, Ok, Err}
+use Rattle.wire.specs.Refusal.{number_of, count_of, refusal_of}
 use Rattle.whole.specs.Row.{◌⨟◌}
-use Rattle.wire.specs.Wrote.{writing_number, writing_length}
-use Rattle.wire.specs.declared.Writing.{Writing}
-use Rattle.wire.specs.declared.Writing.TheVariants.{Done, Refused}
+use Rattle.wire.specs.declared.Refusal.{Refusal}
 use Rattle.session.specs.Header.{record_of}
 use Rattle.frame_write.specs.Picked.{frame_picked}
 use Rattle.frame_write.specs.Sets.{frame_over, arg_fault_over, send_fault_over}
 use Rattle.frame_readback.specs.Request.{WriteFrameSets}
+use Rattle.plan.specs.Answer.{plan_number}
+use Rattle.short_write.specs.Answer.{short_count, short_answer}
 use Rattle.short_write.specs.Short.{short_fault}
 use Rattle.short_readback.specs.Request.{WriteShort, Shows}
 use Rattle.panel.specs.Short.{sets_for}
@@ -20,9 +21,9 @@ use Rattle.panel.specs.laws.Short.{short_told}
 use Rattle.calls.specs.Calls.{CReadFrame, CWriteFrameSets, CWriteShort}
 
 -- the answer with this number: the length of what was written, or the refusal
-abbrev pub answer_for : ℕ → List ℕ → Writing
-answer_for zero bytes = Done (length bytes)
-answer_for (suc f) bytes = Refused (suc f)
+abbrev pub answer_for : ℕ → List ℕ → Result ℕ Refusal
+answer_for zero bytes = Ok (length bytes)
+answer_for (suc f) bytes = Err (refusal_of (suc f))
 
 -- the call of the panel that it is: ten quantisers for Y, and ten for Cb and Cr
 pub record Ten (luma chroma : List ℕ) : Type 0 where
@@ -48,7 +49,7 @@ as_short c t = record {
   scratch' = c.scratch';
   out' = c.out';
   answer =
-      answer_for (short_fault c.width c.height c.mode (sets_for c.luma c.chroma) c.index c.old c.new c.picks (length c.list)
+      short_answer (short_fault c.width c.height c.mode (sets_for c.luma c.chroma) c.index c.old c.new c.picks (length c.list)
       (length c.scratch) (length c.out))
       (frame_picked c.index c.width c.height c.mode (sets_for c.luma c.chroma) c.new c.picks);
   promise =
@@ -113,9 +114,9 @@ pub record ElevenForC : Type 0 where
   -- each of the two writers is the panel's own: its number and its length are that call's, so its request's page holds of it
   pub short_is :
       (c : CWriteShort) (t : Ten c.luma c.chroma) →
-      (c.number ≡ writing_number (as_short c t).answer) × (c.size ≡ writing_length (as_short c t).answer)
+      (c.number ≡ plan_number (as_short c t).answer) × (c.size ≡ short_count (as_short c t).answer)
   pub sets_is :
       (c : CWriteFrameSets) (t : Ten c.luma c.chroma) →
-      (c.number ≡ writing_number (as_sets c t).answer) × (c.size ≡ writing_length (as_sets c t).answer)
+      (c.number ≡ number_of (as_sets c t).answer) × (c.size ≡ count_of (as_sets c t).answer)
   -- the short frame leaves the picture that the full frame leaves, every word of it
   pub as_the_full : (c : CWriteShort) (f : CWriteFrameSets) (a b : CReadFrame) → ShortAndFull c f a b → a.picture' ≡ b.picture'

@@ -1,8 +1,10 @@
 -- What a frame call answers and leaves, for every record, message, picture and lists: document 01, "Order. Frame call", and the
 -- paragraph under the table of numbers.
 -- (01 is this project's scope document, 02 its change requests, 001 is MS-RDPRFX: README, "What 01 is".)
-use Rattle.std.specs.Prelude.{ℕ, ◌*◌, ◌≡◌, Bool, false, List, ℤ, pos, length, replicate, eqb, leb}
+use Rattle.std.specs.Prelude.{ℕ, ◌*◌, ◌≡◌, Bool, false, List, ℤ, pos, length, replicate, eqb, leb, Result, Ok, Err}
 use Rattle.whole.specs.Row.{◌!◌⨾◌, ◌⇒◌∣◌, ◌⨟◌}
+use Rattle.wire.specs.Refusal.{refusal_of}
+use Rattle.wire.specs.declared.Refusal.{Refusal}
 use Rattle.frame_layout.specs.Reader.{begin_fault, region_fault, frame_fault, frame_tiles, set_place, tile_count, rect_count, set_at}
 use Rattle.frame_blocks.specs.Blocks.{rects_of, set_front}
 use Rattle.frame_blocks.specs.Judged.{judged}
@@ -11,8 +13,6 @@ use Rattle.frame_draw.specs.Shown.{tiles_drawn}
 use Rattle.frame_draw.specs.Show.{tile_word}
 use Rattle.session.specs.Header.{ready}
 use Rattle.session.specs.declared.Session.{Session}
-use Rattle.frame.specs.declared.call.FrameReading.{FrameReading}
-use Rattle.frame.specs.declared.call.FrameReading.TheVariants.{Done, Refused}
 
 -- "a lent work .. list is not 4,096 numbers"
 unfoldable pub full : ℕ → ℕ → ℕ → ℕ → Bool
@@ -74,20 +74,12 @@ pub record FrameJudged (word : ℕ) (s : Session) (p : ℕ) (m : List ℕ) (y cb
 
 -- ---- the answer: 01's number, and "A done frame reports numTiles, a refused one 0."
 
-unfoldable pub frame_reading_number : FrameReading → ℕ
-frame_reading_number (Done tiles) = 0
-frame_reading_number (Refused number) = number
-
-unfoldable pub frame_reading_tiles : FrameReading → ℕ
-frame_reading_tiles (Done tiles) = tiles
-frame_reading_tiles (Refused number) = 0
-
 -- the answer, of the number and the message
-unfoldable pub frame_reading : ℕ → List ℕ → FrameReading
-frame_reading n m = eqb n 0 ⇒ Done (tile_count m (set_place m)) ∣ Refused n
+unfoldable pub frame_reading : ℕ → List ℕ → Result ℕ Refusal
+frame_reading n m = eqb n 0 ⇒ Ok (tile_count m (set_place m)) ∣ Err (refusal_of n)
 
 -- the whole promise, over a picture of a word size: the answer and each lent list at exit, each an equation in what came in
-pub record FrameRead (word : ℕ) (s : Session) (m pic : List ℕ) (y cb cr tmp : List ℤ) (pic' : List ℕ) (y' cb' cr' tmp' : List ℤ) (r : FrameReading) : Type 0
+pub record FrameRead (word : ℕ) (s : Session) (m pic : List ℕ) (y cb cr tmp : List ℤ) (pic' : List ℕ) (y' cb' cr' tmp' : List ℤ) (r : Result ℕ Refusal) : Type 0
   where
     pub answer : r ≡ frame_reading (frame_number (early word s pic y cb cr tmp) s m) m
     pub picture : pic' ≡ frame_picture (frame_number (early word s pic y cb cr tmp) s m) s m pic

@@ -1,3 +1,4 @@
+pub mod Among
 pub mod Frame
 pub mod Glass
 pub mod Numbers

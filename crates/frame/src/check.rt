@@ -1,17 +1,27 @@
 // The check pass over a tileset's tiles, document 01's "Order. Frame call" (tileset contents): each tile, then its codes Y, Cb, Cr,
 // then the next; "data left after the last tile is 4". One work list serves all codes: nothing is said of what it holds after.
 ghost use Rattle.std.specs.Prelude.{◌≡◌, ◌+◌, ◌*◌, ◌≤◌, ◌<◌, length};
+ghost use Rattle.wire.specs.Refusal.{number_of};
 ghost use Rattle.session.specs.Header.{Right};
 ghost use Rattle.frame_layout.specs.Reader.{tile_at, codes_fault, tile_fault, tiles_fault, quant_count, tile_count, data_of};
 ghost use Rattle.frame_blocks.specs.Tiles.{index_of, code_part, TileGood};
 ghost use Rattle.frame_blocks.specs.Judged.{in_set, SetSound};
 
 use session::Session;
+use wire::Refusal;
 
 // Component k (0, 1, 2: Y, Cb, Cr) of a tile that has no other fault.
-fn part_fault(mode: u8, m: &[u8], sp: usize, d: &[u8], at: usize, k: usize, work: &mut [i32]) -> u8
+fn part_fault(
+    mode: u8,
+    m: &[u8],
+    sp: usize,
+    d: &[u8],
+    at: usize,
+    k: usize,
+    work: &mut [i32],
+) -> Result<(), Refusal>
     requires { (length work.old ≡ 4096) × SetSound m.now sp × TileGood (quant_count m.now sp) d.now at × (k < 3) }
-    ensures { result ≡ in_set mode m.now sp (index_of (tile_at d.now at) k) (code_part (tile_at d.now at) k) }
+    ensures { number_of result ≡ in_set mode m.now sp (index_of (tile_at d.now at) k) (code_part (tile_at d.now at) k) }
 {
     let j = frame_blocks::tile::quant_index(d, at, k);
     let set = bands::quant_at(m, sp + (22 + 5 * j));
@@ -20,18 +30,19 @@ fn part_fault(mode: u8, m: &[u8], sp: usize, d: &[u8], at: usize, k: usize, work
 }
 
 // Y, then Cb, then Cr.
-fn codes_fault(mode: u8, m: &[u8], sp: usize, d: &[u8], at: usize, work: &mut [i32]) -> u8
+fn codes_fault(
+    mode: u8,
+    m: &[u8],
+    sp: usize,
+    d: &[u8],
+    at: usize,
+    work: &mut [i32],
+) -> Result<(), Refusal>
     requires { (length work.old ≡ 4096) × SetSound m.now sp × TileGood (quant_count m.now sp) d.now at }
-    ensures { result ≡ codes_fault (in_set mode m.now sp) (tile_at d.now at) }
+    ensures { number_of result ≡ codes_fault (in_set mode m.now sp) (tile_at d.now at) }
 {
-    let f = part_fault(mode, m, sp, d, at, 0, work);
-    if f != 0 {
-        return f;
-    }
-    let g = part_fault(mode, m, sp, d, at, 1, work);
-    if g != 0 {
-        return g;
-    }
+    part_fault(mode, m, sp, d, at, 0, work)?;
+    part_fault(mode, m, sp, d, at, 1, work)?;
     part_fault(mode, m, sp, d, at, 2, work)
 }
 
@@ -44,14 +55,11 @@ fn tile_fault(
     d: &[u8],
     at: usize,
     work: &mut [i32],
-) -> u8
+) -> Result<(), Refusal>
     requires { Right s × (length work.old ≡ 4096) × SetSound m.now sp × (q ≡ quant_count m.now sp) × (at ≤ length d.now) }
-    ensures { result ≡ tile_fault (in_set s.mode m.now sp) s.width s.height q d.now at }
+    ensures { number_of result ≡ tile_fault (in_set s.mode m.now sp) s.width s.height q d.now at }
 {
-    let f = frame_blocks::tile::tile_front(s, q, d, at);
-    if f != 0 {
-        return f;
-    }
+    frame_blocks::tile::tile_front(s, q, d, at)?;
     codes_fault(s.mode, m, sp, d, at, work)
 }
 
@@ -64,30 +72,25 @@ fn tiles_fault(
     sp: usize,
     d: &[u8],
     work: &mut [i32],
-) -> u8
+) -> Result<(), Refusal>
     requires { Right s × (length work.old ≡ 4096) × SetSound m.now sp × (q ≡ quant_count m.now sp) }
-    ensures { result ≡ tiles_fault (in_set s.mode m.now sp) s.width s.height q d.now n 0 }
+    ensures { number_of result ≡ tiles_fault (in_set s.mode m.now sp) s.width s.height q d.now n 0 }
 {
     let mut at = 0;
-    let mut i = 0;
-    while i < n {
-        let f = tile_fault(s, q, m, sp, d, at, work);
-        if f != 0 {
-            return f;
-        }
-        at = at + wire::le32_at(d, at + 2);
-        i += 1;
+    for i in 0..n {
+        tile_fault(s, q, m, sp, d, at, work)?;
+        at += wire::le32_at(d, at + 2);
     }
     if at != d.len() {
-        return 4;
+        return Err(Refusal::Length);
     }
-    0
+    Ok(())
 }
 
 // The check pass: the first fault of the tiles of the tileset at a place, whose front was checked.
-pub fn check(s: Session, m: &[u8], sp: usize, work: &mut [i32]) -> u8
+pub fn check(s: Session, m: &[u8], sp: usize, work: &mut [i32]) -> Result<(), Refusal>
     requires { Right s × (length work.old ≡ 4096) × SetSound m.now sp }
-    ensures { result ≡ tiles_fault (in_set s.mode m.now sp) s.width s.height (quant_count m.now sp) (data_of m.now sp) (tile_count m.now sp) 0 }
+    ensures { number_of result ≡ tiles_fault (in_set s.mode m.now sp) s.width s.height (quant_count m.now sp) (data_of m.now sp) (tile_count m.now sp) 0 }
 {
     let q = wire::byte_at(m, sp + 14);
     let n = wire::le16_at(m, sp + 16);

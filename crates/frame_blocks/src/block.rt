@@ -2,23 +2,26 @@
 // end, each with the first fault by 01's number. Judges take plain numbers; faults read them from the message.
 ghost use Rattle.std.specs.Prelude.{◌≡◌, ◌+◌, ◌*◌, ◌≤◌, ◌<◌, eqb, leb, length};
 ghost use Rattle.whole.specs.Row.{◌⇒◌∣◌};
+ghost use Rattle.wire.specs.Refusal.{number_of};
 ghost use Rattle.frame_layout.specs.Reader.{block_judge, fixed_head, least_head, codec_judge, codec_fault, begin_judge, begin_fault, region_judge, last_judge, region_fault, props_good, set_judge, halves_fault, quants_fault, end_fault, data_of};
 ghost use Rattle.frame_blocks.specs.Blocks.{head_by, set_fields, set_front, rects_of, RegionGood, SetGood};
 
+use wire::Refusal;
+
 // kind, then the size against the layout, then the room
-fn head_judge(kind: usize, is: usize, fits: bool, size: usize, room: usize) -> u8
-    ensures { result ≡ block_judge kind is fits size room }
+fn head_judge(kind: usize, is: usize, fits: bool, size: usize, room: usize) -> Result<(), Refusal>
+    ensures { number_of result ≡ block_judge kind is fits size room }
 {
     if is != kind {
-        return 3;
+        return Err(Refusal::Kind);
     }
-    if fits {
-        if room < size {
-            return 1;
-        }
-        return 0;
+    if !fits {
+        return Err(Refusal::Length);
     }
-    4
+    if room < size {
+        return Err(Refusal::Cut);
+    }
+    Ok(())
 }
 
 // Is the size that a head says the block's fixed size, or at least its least size?
@@ -32,127 +35,113 @@ fn size_fits(fixed: bool, size: usize, said: usize) -> bool
 }
 
 // The head of a block of a fixed or of a least size.
-fn block_head(fixed: bool, kind: usize, size: usize, m: &[u8], at: usize) -> u8
+fn block_head(fixed: bool, kind: usize, size: usize, m: &[u8], at: usize) -> Result<(), Refusal>
     requires { at ≤ length m.now }
-    ensures { result ≡ head_by fixed kind size m.now at }
+    ensures { number_of result ≡ head_by fixed kind size m.now at }
 {
     let room = m.len() - at;
     if room < 6 {
-        return 1;
+        return Err(Refusal::Cut);
     }
     let is = wire::le16_at(m, at);
     let said = wire::le32_at(m, at + 2);
     head_judge(kind, is, size_fits(fixed, size, said), said, room)
 }
 
-pub fn fixed_head(kind: usize, size: usize, m: &[u8], at: usize) -> u8
+// One body with two names, since the definitions have two.
+pub fn fixed_head(kind: usize, size: usize, m: &[u8], at: usize) -> Result<(), Refusal>
     requires { at ≤ length m.now }
-    ensures { result ≡ fixed_head kind size m.now at }
+    ensures { number_of result ≡ fixed_head kind size m.now at }
 {
     block_head(true, kind, size, m, at)
 }
 
-pub fn least_head(kind: usize, least: usize, m: &[u8], at: usize) -> u8
+pub fn least_head(kind: usize, least: usize, m: &[u8], at: usize) -> Result<(), Refusal>
     requires { at ≤ length m.now }
-    ensures { result ≡ least_head kind least m.now at }
+    ensures { number_of result ≡ least_head kind least m.now at }
 {
     block_head(false, kind, least, m, at)
 }
 
-fn codec_judge(codec: usize, channel: usize) -> u8
-    ensures { result ≡ codec_judge codec channel }
+fn codec_judge(codec: usize, channel: usize) -> Result<(), Refusal>
+    ensures { number_of result ≡ codec_judge codec channel }
 {
     if codec != 1 {
-        return 5;
+        return Err(Refusal::Field);
     }
     if channel != 0 {
-        return 5;
+        return Err(Refusal::Field);
     }
-    0
+    Ok(())
 }
 
-fn codec_fault(m: &[u8], at: usize) -> u8
+fn codec_fault(m: &[u8], at: usize) -> Result<(), Refusal>
     requires { at + 8 ≤ length m.now }
-    ensures { result ≡ codec_fault m.now at }
+    ensures { number_of result ≡ codec_fault m.now at }
 {
     let codec = wire::byte_at(m, at + 6);
     let channel = wire::byte_at(m, at + 7);
     codec_judge(codec, channel)
 }
 
-fn begin_judge(regions: usize) -> u8
-    ensures { result ≡ begin_judge regions }
+fn begin_judge(regions: usize) -> Result<(), Refusal>
+    ensures { number_of result ≡ begin_judge regions }
 {
     if regions != 1 {
-        return 5;
+        return Err(Refusal::Field);
     }
-    0
+    Ok(())
 }
 
 // The frame's first block.
-pub fn begin_fault(m: &[u8]) -> u8
-    ensures { result ≡ begin_fault m.now 0 }
+pub fn begin_fault(m: &[u8]) -> Result<(), Refusal>
+    ensures { number_of result ≡ begin_fault m.now 0 }
 {
-    let f = fixed_head(0xCCC4, 14, m, 0);
-    if f != 0 {
-        return f;
-    }
-    let g = codec_fault(m, 0);
-    if g != 0 {
-        return g;
-    }
+    fixed_head(0xCCC4, 14, m, 0)?;
+    codec_fault(m, 0)?;
     let regions = wire::le16_at(m, 12);
     begin_judge(regions)
 }
 
-fn region_judge(flags: usize, n: usize, size: usize) -> u8
+fn region_judge(flags: usize, n: usize, size: usize) -> Result<(), Refusal>
     requires { n < 65536 }
-    ensures { result ≡ region_judge flags n size }
+    ensures { number_of result ≡ region_judge flags n size }
 {
     if flags % 2 != 1 {
-        return 5;
+        return Err(Refusal::Field);
     }
     if 256 < n {
-        return 6;
+        return Err(Refusal::TooBig);
     }
     if size != 15 + 8 * n {
-        return 4;
+        return Err(Refusal::Length);
     }
-    0
+    Ok(())
 }
 
-fn last_judge(kind: usize, sets: usize) -> u8
-    ensures { result ≡ last_judge kind sets }
+fn last_judge(kind: usize, sets: usize) -> Result<(), Refusal>
+    ensures { number_of result ≡ last_judge kind sets }
 {
     if kind != 0xCAC1 {
-        return 5;
+        return Err(Refusal::Field);
     }
     if sets != 1 {
-        return 5;
+        return Err(Refusal::Field);
     }
-    0
+    Ok(())
 }
 
 // The region at a place; its type and tilesets fields come last of it.
-pub fn region_fault(m: &[u8], at: usize) -> u8
+pub fn region_fault(m: &[u8], at: usize) -> Result<(), Refusal>
     requires { at ≤ length m.now }
-    ensures { result ≡ region_fault m.now at }
+    ensures { number_of result ≡ region_fault m.now at }
 {
-    let f = least_head(0xCCC6, 15, m, at);
-    if f != 0 {
-        return f;
-    }
-    let g = codec_fault(m, at);
-    if g != 0 {
-        return g;
-    }
+    least_head(0xCCC6, 15, m, at)?;
+    codec_fault(m, at)?;
     let flags = wire::byte_at(m, at + 8);
     let n = wire::le16_at(m, at + 9);
     let size = wire::le32_at(m, at + 2);
-    let j = region_judge(flags, n, size);
-    if j != 0 {
-        return j;
-    }
+    region_judge(flags, n, size)?;
     let kind = wire::le16_at(m, at + (11 + 8 * n));
     let sets = wire::le16_at(m, at + (13 + 8 * n));
     last_judge(kind, sets)
@@ -188,34 +177,34 @@ fn set_judge(
     side: usize,
     n: usize,
     bytes: usize,
-) -> u8
+) -> Result<(), Refusal>
     requires { (q < 256) × (bytes < 4294967296) }
-    ensures { result ≡ set_judge mode size subtype idx props q side n bytes }
+    ensures { number_of result ≡ set_judge mode size subtype idx props q side n bytes }
 {
     if subtype != 0xCAC2 {
-        return 5;
+        return Err(Refusal::Field);
     }
     if idx != 0 {
-        return 5;
+        return Err(Refusal::Field);
     }
-    if is_props(mode, props) {
-        if side != 64 {
-            return 5;
-        }
-        if 2048 < n {
-            return 6;
-        }
-        if size != 22 + 5 * q + bytes {
-            return 4;
-        }
-        return 0;
+    if !is_props(mode, props) {
+        return Err(Refusal::Field);
     }
-    5
+    if side != 64 {
+        return Err(Refusal::Field);
+    }
+    if 2048 < n {
+        return Err(Refusal::TooBig);
+    }
+    if size != 22 + 5 * q + bytes {
+        return Err(Refusal::Length);
+    }
+    Ok(())
 }
 
-fn set_fields(mode: u8, m: &[u8], at: usize) -> u8
+fn set_fields(mode: u8, m: &[u8], at: usize) -> Result<(), Refusal>
     requires { at + 22 ≤ length m.now }
-    ensures { result ≡ set_fields mode m.now at }
+    ensures { number_of result ≡ set_fields mode m.now at }
 {
     let size = wire::le32_at(m, at + 2);
     let subtype = wire::le16_at(m, at + 8);
@@ -229,75 +218,55 @@ fn set_fields(mode: u8, m: &[u8], at: usize) -> u8
 }
 
 // one byte of two quantisers, 6 to 15 each
-fn halves_fault(b: usize) -> u8
-    ensures { result ≡ halves_fault b }
+fn halves_fault(b: usize) -> Result<(), Refusal>
+    ensures { number_of result ≡ halves_fault b }
 {
     if b % 16 < 6 {
-        return 7;
+        return Err(Refusal::Quant);
     }
     if b / 16 < 6 {
-        return 7;
+        return Err(Refusal::Quant);
     }
     if 15 < b / 16 {
-        return 7;
+        return Err(Refusal::Quant);
     }
-    0
+    Ok(())
 }
 
 // k bytes of quantisers from a place on
-fn quants_fault(m: &[u8], k: usize, at: usize) -> u8
+fn quants_fault(m: &[u8], k: usize, at: usize) -> Result<(), Refusal>
     requires { at + k ≤ length m.now }
-    ensures { result ≡ quants_fault m.now k at }
+    ensures { number_of result ≡ quants_fault m.now k at }
 {
-    let mut i = 0;
-    while i < k {
-        let f = halves_fault(wire::byte_at(m, at + i));
-        if f != 0 {
-            return f;
-        }
-        i += 1;
+    for b in &m[at..at + k] {
+        halves_fault(*b as usize)?;
     }
-    0
+    Ok(())
 }
 
 // The tileset at a place, up to its tiles.
-pub fn set_front(mode: u8, m: &[u8], at: usize) -> u8
+pub fn set_front(mode: u8, m: &[u8], at: usize) -> Result<(), Refusal>
     requires { at ≤ length m.now }
-    ensures { result ≡ set_front mode m.now at }
+    ensures { number_of result ≡ set_front mode m.now at }
 {
-    let f = least_head(0xCCC7, 22, m, at);
-    if f != 0 {
-        return f;
-    }
-    let g = codec_fault(m, at);
-    if g != 0 {
-        return g;
-    }
-    let j = set_fields(mode, m, at);
-    if j != 0 {
-        return j;
-    }
+    least_head(0xCCC7, 22, m, at)?;
+    codec_fault(m, at)?;
+    set_fields(mode, m, at)?;
     let q = wire::byte_at(m, at + 14);
     quants_fault(m, 5 * q, at + 22)
 }
 
 // The frame's last block, and nothing after it.
-pub fn end_fault(m: &[u8], at: usize) -> u8
+pub fn end_fault(m: &[u8], at: usize) -> Result<(), Refusal>
     requires { at ≤ length m.now }
-    ensures { result ≡ end_fault m.now at }
+    ensures { number_of result ≡ end_fault m.now at }
 {
-    let f = fixed_head(0xCCC5, 8, m, at);
-    if f != 0 {
-        return f;
-    }
-    let g = codec_fault(m, at);
-    if g != 0 {
-        return g;
-    }
+    fixed_head(0xCCC5, 8, m, at)?;
+    codec_fault(m, at)?;
     if m.len() != at + 8 {
-        return 4;
+        return Err(Refusal::Length);
     }
-    0
+    Ok(())
 }
 
 // The rectangles of a checked region, as that part of the message.

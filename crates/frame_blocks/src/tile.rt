@@ -2,24 +2,26 @@
 // least size, presence in the tileset's own data, lengths, indices, place; and the codes of a checked tile as parts of the message. The place is held
 // against the record's columns and rows, which document 02's request Six keeps there.
 ghost use Rattle.std.specs.Prelude.{◌≡◌, ◌+◌, ◌*◌, ◌≤◌, ◌<◌, length};
+ghost use Rattle.wire.specs.Refusal.{number_of};
 ghost use Rattle.session.specs.Header.{Right};
 ghost use Rattle.frame_layout.specs.Reader.{body_judge, tile_at};
 ghost use Rattle.frame_blocks.specs.Tiles.{place_judge, tile_fields, tile_front, part_start, code_part, index_of, TileWhole};
 
 use session::Session;
+use wire::Refusal;
 
 // The place: a tile starts in the channel exactly if its column is below the record's columns, and its row below the rows.
-fn place_judge(s: Session, x: usize, y: usize) -> u8
+fn place_judge(s: Session, x: usize, y: usize) -> Result<(), Refusal>
     requires { Right s }
-    ensures { result ≡ place_judge s.width s.height x y }
+    ensures { number_of result ≡ place_judge s.width s.height x y }
 {
     if s.columns as usize <= x {
-        return 8;
+        return Err(Refusal::Place);
     }
     if s.rows as usize <= y {
-        return 8;
+        return Err(Refusal::Place);
     }
-    0
+    Ok(())
 }
 
 // the lengths against the size, the indices, the place
@@ -35,28 +37,28 @@ fn body_judge(
     qcr: usize,
     x: usize,
     y: usize,
-) -> u8
+) -> Result<(), Refusal>
     requires { Right s × (ly < 65536) × (lcb < 65536) × (lcr < 65536) }
-    ensures { result ≡ body_judge s.width s.height q size ly lcb lcr qy qcb qcr x y }
+    ensures { number_of result ≡ body_judge s.width s.height q size ly lcb lcr qy qcb qcr x y }
 {
     if size != 19 + ly + lcb + lcr {
-        return 4;
+        return Err(Refusal::Length);
     }
     if q <= qy {
-        return 7;
+        return Err(Refusal::Quant);
     }
     if q <= qcb {
-        return 7;
+        return Err(Refusal::Quant);
     }
     if q <= qcr {
-        return 7;
+        return Err(Refusal::Quant);
     }
     place_judge(s, x, y)
 }
 
-fn tile_fields(s: Session, q: usize, d: &[u8], at: usize) -> u8
+fn tile_fields(s: Session, q: usize, d: &[u8], at: usize) -> Result<(), Refusal>
     requires { Right s × (at + 19 ≤ length d.now) }
-    ensures { result ≡ tile_fields s.width s.height q d.now at }
+    ensures { number_of result ≡ tile_fields s.width s.height q d.now at }
 {
     let size = wire::le32_at(d, at + 2);
     let qy = wire::byte_at(d, at + 6);
@@ -71,14 +73,11 @@ fn tile_fields(s: Session, q: usize, d: &[u8], at: usize) -> u8
 }
 
 // The first fault of the tile at a place, before its codes; q is the number of quantiser sets.
-pub fn tile_front(s: Session, q: usize, d: &[u8], at: usize) -> u8
+pub fn tile_front(s: Session, q: usize, d: &[u8], at: usize) -> Result<(), Refusal>
     requires { Right s × (at ≤ length d.now) }
-    ensures { result ≡ tile_front s.width s.height q d.now at }
+    ensures { number_of result ≡ tile_front s.width s.height q d.now at }
 {
-    let f = crate::block::least_head(0xCAC3, 19, d, at);
-    if f != 0 {
-        return f;
-    }
+    crate::block::least_head(0xCAC3, 19, d, at)?;
     tile_fields(s, q, d, at)
 }
 

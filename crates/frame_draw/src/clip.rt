@@ -1,7 +1,7 @@
 // A region's rectangles held against a tile's columns, once a tile (document 01's "Blocks", the sentence on which words of the picture
 // are changed): what each has of the columns that lie in the channel, and its rows. Four numbers a rectangle are kept in a work list,
 // and every pixel row of the tile is then held against those.
-ghost use Rattle.std.specs.Prelude.{◌≡◌, ◌+◌, ◌*◌, ◌-◌, ◌≤◌, ◌<◌, min, pos, nat_abs, length, set};
+ghost use Rattle.std.specs.Prelude.{◌≡◌, ◌+◌, ◌*◌, ◌-◌, ◌≤◌, ◌<◌, pos, nat_abs, length, set};
 ghost use Rattle.whole.specs.Tab.{at};
 ghost use Rattle.frame_draw.specs.Spans.{part_of, mask_of};
 ghost use Rattle.frame_draw.specs.Clips.{clip_in, clip_of, on_row, half_in, half_of, clip_at, with_clip, Clipped, SmallClip, Clips};
@@ -14,32 +14,12 @@ pub struct Clip {
     pub end: usize,
 }
 
-// The lesser of two.
-pub fn lesser(a: usize, b: usize) -> usize
-    ensures { result ≡ min a b }
-{
-    if a < b {
-        return a;
-    }
-    b
-}
-
-// One number less another, 0 where that is more.
-pub fn past(a: usize, b: usize) -> usize
-    ensures { result ≡ a - b }
-{
-    if a < b {
-        return 0;
-    }
-    a - b
-}
-
 // So many of a tile's 64 columns (or rows) lie in a channel of width (or height) w.
 pub fn part_of(w: usize, tx: usize) -> usize
     requires { tx < 65536 }
     ensures { result ≡ part_of w tx }
 {
-    lesser(64, past(w, 64 * tx))
+    w.saturating_sub(64 * tx).min(64)
 }
 
 // The words of a tile's row from one on to before another as the bits of a number, none where that is no more.
@@ -57,7 +37,7 @@ fn clip_in(x: usize, y: usize, w: usize, h: usize, a: usize, part: usize) -> Cli
     requires { (x < 65536) × (y < 65536) × (w < 65536) × (h < 65536) × (part ≤ 64) }
     ensures { result ≡ clip_in x y w h a part }
 {
-    let mask = mask_of(past(x, a), lesser(part, past(x + w, a)));
+    let mask = mask_of(x.saturating_sub(a), part.min((x + w).saturating_sub(a)));
     Clip {
         mask,
         top: y,
@@ -108,10 +88,8 @@ pub fn clip_rects(rects: &[u8], n: usize, w: usize, tx: usize, clips: &mut [i32]
     ensures { Clips rects.now n w tx clips.new }
 {
     let part = part_of(w, tx);
-    let mut k = 0;
-    while k < n {
+    for k in 0..n {
         put_clip(clips, k, clip_of(rects, 64 * tx, part, k));
-        k += 1;
     }
 }
 

@@ -1,7 +1,7 @@
-// The functions that carry a picture of 16-bit words: a tile's samples drawn into it, document 01's "Colour" (words) and "A picture word is
-// changed exactly if ..", and "the last such tile in message order decides". A row of 64 words is made once, by itself, where a word of it is
-// drawn. `paint_32` has the same for words of 32 bits, line by line: the language has no generics.
-ghost use Rattle.std.specs.Prelude.{◌≡◌, ℕ, ◌+◌, ◌*◌, ◌≤◌, ◌<◌, length, get_or};
+// The functions that carry a picture, of 16-bit or of 32-bit words: a tile's samples drawn into it, document 01's "Colour" (words) and "A picture
+// word is changed exactly if ..", and "the last such tile in message order decides". A row of 64 words is made once, by itself, where a word of it
+// is drawn. What is promised is said of the words' numbers.
+ghost use Rattle.std.specs.Prelude.{◌≡◌, ℕ, ◌+◌, ◌*◌, ◌≤◌, ◌<◌, length, get_or, map};
 ghost use Rattle.frame_layout.specs.Reader.{quant_count, tile_count, rect_count, set_at, data_of, tiles_in, tiles_fault};
 ghost use Rattle.frame_blocks.specs.Blocks.{rects_of, RegionGood};
 ghost use Rattle.frame_blocks.specs.Judged.{in_set, SetSound};
@@ -12,22 +12,22 @@ ghost use Rattle.frame_draw.specs.Shown.{tiles_drawn};
 ghost use Rattle.frame_draw.specs.Show.{Lists, tile_word};
 ghost use Rattle.tile_back.specs.Word.{Plane, word_at};
 
-// The row's part in the channel, whole.
-fn put_part(picture: &mut [u16], w: usize, tx: usize, py: usize, row: &[u16])
+use colour::{GlassWord, Rgb};
+
+// The row's part in the channel, whole. Word by word: of a tile past the channel there is no range that could be copied.
+fn put_part<W: GlassWord>(picture: &mut [W], w: usize, tx: usize, py: usize, row: &[W])
     requires { (py * w + w ≤ length picture.old) × (length row.now ≡ 64) × (tx < 65536) }
-    ensures { picture.new ≡ stores always (row_place w tx py) (λ (x : ℕ). get_or row.now x 0) (part_of w tx) 0 picture.old }
+    ensures { map W.number picture.new ≡ stores always (row_place w tx py) (λ (x : ℕ). get_or (map W.number row.now) x 0) (part_of w tx) 0 (map W.number picture.old) }
 {
     let part = crate::clip::part_of(w, tx);
-    let mut x = 0;
-    while x < part {
+    for x in 0..part {
         picture[py * w + (64 * tx + x)] = row[x];
-        x += 1;
     }
 }
 
 // Row y of a tile into its pixel row: the words whose bits are set; where those are the whole part, that is copied.
-fn paint_row(
-    picture: &mut [u16],
+fn paint_row<W: GlassWord>(
+    picture: &mut [W],
     s: crate::row::Strip,
     y: usize,
     ys: &[i32],
@@ -36,29 +36,27 @@ fn paint_row(
     mask: u64,
 )
     requires { (s.py * s.w + s.w ≤ length picture.old) × (y < 64) × (s.tx < 65536) × InChannel s.w s.tx mask × Plane ys.now × Plane cbs.now × Plane crs.now }
-    ensures { picture.new ≡ stores (bit_at mask) (row_place s.w s.tx s.py) (λ (x : ℕ). word_at 0 ys.now cbs.now crs.now (64 * y + x)) 64 0 picture.old }
+    ensures { map W.number picture.new ≡ stores (bit_at mask) (row_place s.w s.tx s.py) (λ (x : ℕ). word_at W.GLASS ys.now cbs.now crs.now (64 * y + x)) 64 0 (map W.number picture.old) }
 {
     let w = s.w;
     let tx = s.tx;
     let py = s.py;
-    let mut row = [0u16; 64];
+    let mut row = [W::pack(Rgb { r: 0, g: 0, b: 0 }); 64];
     tile_back::words_row(ys, cbs, crs, y, &mut row[..]);
     if mask == crate::clip::mask_of(0, crate::clip::part_of(w, tx)) {
         put_part(picture, w, tx, py, &row[..]);
         return;
     }
-    let mut x = 0;
-    while x < 64 {
+    for x in 0..64 {
         if (mask >> x) % 2 == 1 {
             picture[py * w + (64 * tx + x)] = row[x];
         }
-        x += 1;
     }
 }
 
 // A tile as far as it lies in the channel, held against the rectangles that are kept for it. No colour is made for a row that none holds.
-fn paint_tile(
-    picture: &mut [u16],
+fn paint_tile<W: GlassWord>(
+    picture: &mut [W],
     s: crate::row::Spot,
     ys: &[i32],
     cbs: &[i32],
@@ -67,7 +65,7 @@ fn paint_tile(
     clips: &[i32],
 )
     requires { (s.h * s.w ≤ length picture.old) × Clips rects.now s.n s.w s.tx clips.now × (s.tx < 65536) × (s.ty < 65536) × Plane ys.now × Plane cbs.now × Plane crs.now }
-    ensures { picture.new ≡ tile_drawn rects.now s.n (word_at 0 ys.now cbs.now crs.now) s.w s.h s.tx s.ty picture.old }
+    ensures { map W.number picture.new ≡ tile_drawn rects.now s.n (word_at W.GLASS ys.now cbs.now crs.now) s.w s.h s.tx s.ty (map W.number picture.old) }
 {
     let w = s.w;
     let h = s.h;
@@ -75,21 +73,19 @@ fn paint_tile(
     let ty = s.ty;
     let n = s.n;
     let rows = crate::clip::part_of(h, ty);
-    let mut y = 0;
-    while y < rows {
+    for y in 0..rows {
         let py = 64 * ty + y;
         let strip = crate::row::Strip { w, tx, py, n };
         let mask = crate::row::row_mask(rects, clips, strip);
         if mask != 0 {
             paint_row(picture, strip, y, ys, cbs, crs, mask);
         }
-        y += 1;
     }
 }
 
 // The draw pass over a frame whose blocks and tiles were checked, in message order: the region stands at 14.
-pub fn show(
-    picture: &mut [u16],
+pub fn show<W: GlassWord>(
+    picture: &mut [W],
     p: crate::tiles::Pass,
     m: &[u8],
     ys: &mut [i32],
@@ -98,17 +94,15 @@ pub fn show(
     tmp: &mut [i32],
 )
     requires { Lists ys.old cbs.old crs.old tmp.old × RegionGood m.now 14 × SetSound m.now p.sp × (0 ≡ tiles_fault (in_set p.mode m.now p.sp) p.w p.h (quant_count m.now p.sp) (data_of m.now p.sp) (tile_count m.now p.sp) 0) × (p.h * p.w ≤ length picture.old) }
-    ensures { picture.new ≡ tiles_drawn (rects_of m.now 14) (rect_count m.now 14) (tile_word 0 p.mode (set_at m.now p.sp)) p.w p.h (tiles_in (data_of m.now p.sp) (tile_count m.now p.sp) 0) picture.old }
+    ensures { map W.number picture.new ≡ tiles_drawn (rects_of m.now 14) (rect_count m.now 14) (tile_word W.GLASS p.mode (set_at m.now p.sp)) p.w p.h (tiles_in (data_of m.now p.sp) (tile_count m.now p.sp) 0) (map W.number picture.old) }
 {
     let n = wire::le16_at(m, p.sp + 16);
     let d = frame_blocks::block::tile_data(m, p.sp);
     let rects = frame_blocks::block::rects(m, 14);
     let mut at = 0;
-    let mut i = 0;
-    while i < n {
+    for _i in 0..n {
         let s = crate::tiles::ready_tile(p, m, at, ys, cbs, crs, tmp);
         paint_tile(picture, s, &ys[..], &cbs[..], &crs[..], rects, &tmp[..]);
-        at = at + wire::le32_at(d, at + 2);
-        i += 1;
+        at += wire::le32_at(d, at + 2);
     }
 }

@@ -1,6 +1,6 @@
 // Drawing, the sentence of document 01's "Blocks" on which words of the picture are changed, with document 02's request Three on a
 // region with no rectangles. A pixel row of a tile goes over the rectangles once: what each holds of the row's 64 words is 64 bits, and those
-// are put together; then (`paint`, `paint_32`) each word is stored once, where tile, channel and rectangle agree. No picture is carried here.
+// are put together; then (`paint`) each word is stored once, where tile, channel and rectangle agree. No picture is carried here.
 ghost use Rattle.std.specs.Prelude.{◌≡◌, ◌+◌, ◌*◌, ◌≤◌, ◌<◌, length};
 ghost use Rattle.frame_draw.specs.Draw.{inside, holds};
 ghost use Rattle.frame_draw.specs.Clips.{Clips};
@@ -11,7 +11,7 @@ fn last_of(w: usize, tx: usize) -> usize
     requires { tx < 65536 }
     ensures { result ≡ last_of w tx }
 {
-    64 * tx + crate::clip::past(crate::clip::part_of(w, tx), 1)
+    64 * tx + crate::clip::part_of(w, tx).saturating_sub(1)
 }
 
 // ---- a rectangle
@@ -71,15 +71,13 @@ pub fn row_mask(rects: &[u8], clips: &[i32], s: Strip) -> u64
         return full;
     }
     let mut m: u64 = 0;
-    let mut k = 0;
-    'rectangles: while k < n {
+    'rectangles: for k in 0..n {
         if crate::clip::clip_on(clips, py, k) {
-            m = m | crate::clip::clip_mask(clips, k);
+            m |= crate::clip::clip_mask(clips, k);
             if m == full {
                 break 'rectangles;
             }
         }
-        k += 1;
     }
     m
 }
@@ -115,12 +113,10 @@ pub fn asked_of(rects: &[u8], n: usize, w: usize, h: usize, tx: usize, ty: usize
 {
     let right = last_of(w, tx);
     let bottom = last_of(h, ty);
-    let mut k = 0;
-    while k < n {
+    for k in 0..n {
         if rect_covers(rects, 64 * tx, 64 * ty, right, bottom, k) {
             return 0;
         }
-        k += 1;
     }
     n
 }

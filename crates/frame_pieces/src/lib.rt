@@ -25,6 +25,7 @@ pub fn put_head(out: &mut [u8], at: usize, chroma: u8, x: usize, y: usize)
 }
 
 // The four lengths of a tile, filled in: blockLen, then those of Y, Cb and Cr.
+#[tactic(auto, unfolding(crate::specs::Parts::filled))]
 pub fn fill_tile(out: &mut [u8], at: usize, len: usize, ly: usize, lcb: usize, lcr: usize)
     requires { at + 19 ≤ length out.old }
     ensures { out.new ≡ filled out.old at len ly lcb lcr }
@@ -61,6 +62,7 @@ fn put_region(out: &mut [u8], w: usize, h: usize)
     wire::put32_at(out, 16, 23);
 }
 
+#[tactic(auto, unfolding(frame_layout::specs::Bytes::props_of))]
 fn props(et: usize) -> usize
     requires { et < 16 }
     ensures { result ≡ props_of et }
@@ -103,6 +105,7 @@ fn put_end(out: &mut [u8], at: usize)
 }
 
 // The frame end behind the last tile, and the tileset's two lengths filled in: its tiles stand from a place on.
+#[tactic(auto, unfolding(crate::specs::Parts::closed))]
 pub fn close_frame(out: &mut [u8], from: usize, at: usize)
     requires { (64 ≤ from) × (from ≤ at) × (at + 8 ≤ length out.old) }
     ensures { out.new ≡ closed out.old from at }
@@ -113,6 +116,7 @@ pub fn close_frame(out: &mut [u8], from: usize, at: usize)
 }
 
 // Tiles a row, or a column.
+#[tactic(auto, unfolding(crate::specs::Parts::cols_of))]
 pub fn cols_of(w: usize) -> usize
     requires { w ≤ 4096 }
     ensures { (result ≡ cols_of w) × (64 * result ≤ w + 63) }
@@ -120,6 +124,7 @@ pub fn cols_of(w: usize) -> usize
     (w + 63) / 64
 }
 
+#[tactic(auto, using(crate::specs::laws::Parts::few_tiles), unfolding(crate::specs::Parts::tiles_no))]
 pub fn tiles_no(w: usize, h: usize) -> usize
     requires { (w ≤ 4096) × (h ≤ 2048) }
     ensures { (result ≡ tiles_no w h) × (result ≤ 2048) }
@@ -128,6 +133,7 @@ pub fn tiles_no(w: usize, h: usize) -> usize
 }
 
 // Is a picture's length three bytes a pixel?
+#[tactic(auto, using(crate::specs::laws::Parts::size_small), unfolding(crate::specs::Parts::pixels_good))]
 pub fn is_pixels(w: usize, h: usize, pixels: usize) -> bool
     requires { (w ≤ 4096) × (h ≤ 2048) }
     ensures { result ≡ pixels_good w h pixels }

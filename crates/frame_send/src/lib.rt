@@ -13,7 +13,7 @@ ghost use Rattle.frame_send.specs.Room.{largest};
 use bands::Quant;
 use frame_write::size::Job;
 use quants::Quants;
-use wire::Writing;
+use wire::Refusal;
 
 // Has the output room for any frame of n tiles?
 fn is_roomy(n: usize, room: usize) -> bool
@@ -32,13 +32,12 @@ pub fn send(
     picks: &[u32],
     job: Job,
     n: usize,
-) -> Writing
+) -> Result<usize, Refusal>
     requires { JobReady job pixels.now list.old scratch.old × JobSends job picks.now n }
     ensures { Wrote (fault_sent job pixels.now picks.now n (length out.old)) (frame_sent job pixels.now picks.now n) out.old out.new result }
 {
     if is_roomy(n, out.len()) {
-        let end = frame_write::put::put_frame(out, list, scratch, pixels, picks, job, n);
-        return Writing::Done(end);
+        return Ok(frame_write::put::put_frame(out, list, scratch, pixels, picks, job, n));
     }
     frame_write::call::send(out, list, scratch, pixels, picks, job, n)
 }
@@ -54,28 +53,17 @@ pub fn write_frame_sets(
     list: &mut [i32],
     scratch: &mut [i32],
     out: &mut [u8],
-) -> Writing
+) -> Result<usize, Refusal>
     ensures { FrameWrittenOver width height mode q index pixels.now list.old list.new scratch.old scratch.new out.old out.new result }
 {
-    let fault = frame_write::call::arg_judge(
+    let job = Job {
         width,
         height,
         mode,
-        q,
-        pixels.len(),
-        list.len(),
-        scratch.len(),
-    );
-    if fault != 0 {
-        return Writing::Refused(fault);
-    }
-    let job = Job {
-        width: width,
-        height: height,
-        mode: mode,
         index: index as usize,
         quants: q,
     };
+    frame_write::call::arg_judge(job, pixels.len(), list.len(), scratch.len())?;
     let n = frame_pieces::tiles_no(width, height);
     let r = send(out, list, scratch, pixels, &[], job, n);
     whole::clear(list);
@@ -83,7 +71,7 @@ pub fn write_frame_sets(
     r
 }
 
-// The same with one quantiser set of ten values.
+// The same with one quantiser set of ten values, which the call for C has (`FrameWritten`).
 pub fn write_frame(
     width: usize,
     height: usize,
@@ -94,7 +82,7 @@ pub fn write_frame(
     list: &mut [i32],
     scratch: &mut [i32],
     out: &mut [u8],
-) -> Writing
+) -> Result<usize, Refusal>
     ensures { FrameWritten width height mode q.v index pixels.now list.old list.new scratch.old scratch.new out.old out.new result }
 {
     let both = Quants { luma: q, chroma: q };

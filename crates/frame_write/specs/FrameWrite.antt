@@ -1,10 +1,10 @@
 -- The frame writer: what it answers and what it leaves, for every input. 01, last paragraph of "Colour", and "Numbers the fitter sees".
 -- (01 is this project's scope document, 02 its change requests, 001 is MS-RDPRFX: README, "What 01 is".)
-use Rattle.std.specs.Prelude.{ℕ, zero, suc, ◌≡◌, List, leb, eqb, ℤ, pos, length, replicate}
+use Rattle.std.specs.Prelude.{ℕ, zero, suc, ◌≡◌, List, leb, eqb, ℤ, pos, length, replicate, Result}
 use Rattle.whole.specs.Row.{◌!◌⨾◌, ◌⨟◌}
 use Rattle.wire.specs.Mode.{is_mode}
 use Rattle.wire.specs.Wrote.{Wrote}
-use Rattle.wire.specs.declared.Writing.{Writing}
+use Rattle.wire.specs.declared.Refusal.{Refusal}
 use Rattle.session.specs.Header.{size_good}
 use Rattle.bands.specs.Bands.{is_good}
 use Rattle.frame_pieces.specs.Parts.{tiles_no, pixels_good}
@@ -33,8 +33,8 @@ work_left zero xs = replicate 4096 (pos 0)
 work_left (suc f) xs = xs
 
 -- what the call says and leaves; xs' is a list at exit
-pub record FrameWritten (w h mode : ℕ) (q : List ℕ) (index : ℕ) (p : List ℕ) (list list' scratch scratch' : List ℤ) (out out' : List ℕ) (r : Writing) : Type
-    0 where
+pub record FrameWritten (w h mode : ℕ) (q : List ℕ) (index : ℕ) (p : List ℕ) (list list' scratch scratch' : List ℤ) (out out' : List ℕ)
+    (r : Result ℕ Refusal) : Type 0 where
   pub wrote :
       Wrote (arg_fault w h mode q (length p) (length list) (length scratch) ⨟ send_fault index w h mode q p (length out)) (picture_frame index w h mode q p)
       out out' r

@@ -1,9 +1,8 @@
--- The definitions of `Sets` for a job, which is what the writer's passes hand on; what holds of a job that was judged; what the sizing pass says.
+-- The definitions of `Sets` for a job, which is what the writer's passes hand on; what holds of a job that was judged.
 -- (01 is this project's scope document, 02 its change requests, 001 is MS-RDPRFX: README, "What 01 is".)
-use Rattle.std.specs.Prelude.{ℕ, ◌<◌, ◌≤◌, ◌≡◌, List, leb, eqb, ℤ, length, get_or}
-use Rattle.whole.specs.Row.{◌!◌⨾◌, ◌⇒◌∣◌, ◌⨟◌}
+use Rattle.std.specs.Prelude.{ℕ, ◌<◌, ◌≤◌, ◌≡◌, List, leb, ℤ, length, get_or}
+use Rattle.whole.specs.Row.{◌!◌⨾◌, ◌⨟◌}
 use Rattle.frame_layout.specs.Bytes.{Tile, frame_of}
-use Rattle.code_write.specs.declared.call.Sized.{Sized}
 use Rattle.frame_pieces.specs.Parts.{tiles_no}
 use Rattle.quants.specs.Quants.{sets_of}
 use Rattle.quants.specs.declared.Quants.{Quants}
@@ -69,8 +68,3 @@ pub record TilesThere (w h : ℕ) (ks : List ℕ) (n : ℕ) : Type 0 where
 
 abbrev pub JobSends : Job → List ℕ → ℕ → Type 0
 JobSends j ks n = TilesThere j.width j.height ks n
-
--- what the sizing pass says: the first refusal; the bytes, and 0 where it refuses
-pub record Sizes (refusal bytes : ℕ) (r : Sized) : Type 0 where
-  pub number : r.number ≡ refusal
-  pub size : r.size ≡ (eqb refusal 0 ⇒ bytes ∣ 0)

@@ -1,11 +1,11 @@
 -- The frame writer over luma's and chroma's quantisers: what it writes, what it refuses, what it answers and leaves. 02, request Five: "Where chroma
 -- differs, the frame writer emits two quantiser sets; its promise is then read over both." Where they are equal it is `Encode` and `FrameWrite` (laws/OneSet).
 -- (01 is this project's scope document, 02 its change requests, 001 is MS-RDPRFX: README, "What 01 is".)
-use Rattle.std.specs.Prelude.{ℕ, zero, suc, ◌+◌, ◌*◌, ◌/◌, ◌%◌, ◌≤◌, ◌≡◌, Bool, false, List, leb, eqb, ℤ, length}
+use Rattle.std.specs.Prelude.{ℕ, zero, suc, ◌+◌, ◌*◌, ◌/◌, ◌%◌, ◌≤◌, ◌≡◌, Bool, false, List, leb, eqb, ℤ, length, Result}
 use Rattle.whole.specs.Row.{◌!◌⨾◌, ◌⨟◌}
 use Rattle.wire.specs.Mode.{is_mode}
 use Rattle.wire.specs.Wrote.{Wrote}
-use Rattle.wire.specs.declared.Writing.{Writing}
+use Rattle.wire.specs.declared.Refusal.{Refusal}
 use Rattle.session.specs.Header.{size_good}
 use Rattle.bands.specs.Bands.{is_good, QuantGood}
 use Rattle.quants.specs.Quants.{quant_for, sets_of, chroma_index}
@@ -65,7 +65,7 @@ send_fault_over index w h mode q p room =
 
 -- what the call says and leaves; xs' is a list at exit
 pub record FrameWrittenOver (w h mode : ℕ) (q : Quants) (index : ℕ) (p : List ℕ) (list list' scratch scratch' : List ℤ)
-    (out out' : List ℕ) (r : Writing) : Type 0 where
+    (out out' : List ℕ) (r : Result ℕ Refusal) : Type 0 where
   pub wrote :
       Wrote (arg_fault_over w h mode q (length p) (length list) (length scratch) ⨟ send_fault_over index w h mode q p (length out))
       (frame_over index w h mode q p) out out' r

@@ -40,8 +40,7 @@ fn put_tile(
     ensures { (out.new ≡ patch out.old at (tile_of (tile_in job pixels.now k))) × (result ≡ at + tile_len (tile_in job pixels.now k)) }
 {
     let cols = frame_pieces::cols_of(job.width);
-    let all = job.quants;
-    let chroma = quants::chroma_index(all);
+    let chroma = quants::chroma_index(job.quants);
     frame_pieces::put_head(out, at, chroma, k % cols, k / cols);
     let a = at + 19;
     let b = put_part(out, a, list, scratch, pixels, job, k, 0);
@@ -66,11 +65,9 @@ fn put_tiles(
     ensures { (out.new ≡ patch out.old from (tiles_of (tile_sent job pixels.now picks.now) n 0)) × (result ≡ from + length (tiles_of (tile_sent job pixels.now picks.now) n 0)) }
 {
     let mut at = from;
-    let mut i = 0;
-    while i < n {
+    for i in 0..n {
         let k = crate::size::number_at(picks, i);
         at = put_tile(out, at, list, scratch, pixels, job, k);
-        i += 1;
     }
     at
 }
@@ -88,11 +85,10 @@ pub fn put_frame(
     requires { JobReady job pixels.now list.old scratch.old × JobSends job picks.now n × (0 ≡ stops_sent job pixels.now picks.now n) × (72 + 5 * chroma_index job.quants + length (tiles_of (tile_sent job pixels.now picks.now) n 0) ≤ length out.old) }
     ensures { (out.new ≡ written (frame_sent job pixels.now picks.now n) out.old) × (result ≡ length (frame_sent job pixels.now picks.now n)) }
 {
-    let all = job.quants;
-    let from = 64 + 5 * quants::chroma_index(all) as usize;
+    let from = 64 + 5 * quants::chroma_index(job.quants) as usize;
     frame_pieces::put_front(
         out,
-        all,
+        job.quants,
         job.index,
         job.width,
         job.height,

@@ -2,12 +2,14 @@
 // and the size of all tiles, before a byte of the output is touched. One work list serves a component at a time.
 ghost use Rattle.std.specs.Prelude.{◌≡◌, ◌<◌, length};
 ghost use Rattle.frame_layout.specs.Bytes.{tile_len, tiles_of};
-ghost use Rattle.frame_write.specs.Job.{list_in, part_in, tile_in, job_tiles, part_stop, tile_stop, sent_at, tile_sent, stops_sent, JobReady, JobSends, Sizes};
+ghost use Rattle.code_write.specs.Write.{Measures};
+ghost use Rattle.frame_write.specs.Job.{list_in, part_in, tile_in, job_tiles, part_stop, tile_stop, sent_at, tile_sent, stops_sent, JobReady, JobSends};
 
-use code_write::call::Sized;
 use quants::Quants;
+use wire::Refusal;
 
-// What the writer is asked, beside the pixels: size, mode, the frame's index, and the quantisers.
+// What the writer is asked, beside the pixels: size, mode, the frame's index, and the quantisers. Pixels, list and work lists are lent beside it: in a struct
+// that borrows them a contract would name each as it was at entry, behind the struct, and be no plainer.
 #[derive(Clone, Copy)]
 pub struct Job {
     pub width: usize,
@@ -22,13 +24,11 @@ pub fn load_part(job: Job, pixels: &[u8], k: usize, c: usize, list: &mut [i32], 
     requires { JobReady job pixels.now list.old scratch.old × (k < job_tiles job) }
     ensures { list.new ≡ list_in job pixels.now k c }
 {
-    let w = job.width;
-    let all = job.quants;
-    let q = quants::quant_for(all, c);
-    let cols = frame_pieces::cols_of(w);
+    let q = quants::quant_for(job.quants, c);
+    let cols = frame_pieces::cols_of(job.width);
     tile_forth::load_component(
         pixels,
-        w,
+        job.width,
         job.height,
         q,
         k % cols,
@@ -47,57 +47,38 @@ fn part_size(
     c: usize,
     list: &mut [i32],
     scratch: &mut [i32],
-) -> Sized
+) -> Result<usize, Refusal>
     requires { JobReady job pixels.now list.old scratch.old × (k < job_tiles job) }
-    ensures { Sizes (part_stop job pixels.now k c) (length (part_in job pixels.now k c)) result }
+    ensures { Measures (part_stop job pixels.now k c) (length (part_in job pixels.now k c)) result }
 {
     load_part(job, pixels, k, c, list, scratch);
-    let all = job.quants;
-    let f = bands::judge(list, quants::quant_for(all, c));
-    if f != 0 {
-        return Sized { number: f, size: 0 };
-    }
-    let m = code_write::call::measure_component(job.mode, list);
-    if m.number != 0 {
-        return Sized {
-            number: m.number,
-            size: 0,
-        };
-    }
-    m
+    bands::judge(list, quants::quant_for(job.quants, c))?;
+    code_write::call::measure_component(job.mode, list)
 }
 
 // Tile k: the first refusal of Y, Cb, Cr, or its bytes.
-fn tile_size(job: Job, pixels: &[u8], k: usize, list: &mut [i32], scratch: &mut [i32]) -> Sized
+fn tile_size(
+    job: Job,
+    pixels: &[u8],
+    k: usize,
+    list: &mut [i32],
+    scratch: &mut [i32],
+) -> Result<usize, Refusal>
     requires { JobReady job pixels.now list.old scratch.old × (k < job_tiles job) }
-    ensures { Sizes (tile_stop job pixels.now k) (tile_len (tile_in job pixels.now k)) result }
+    ensures { Measures (tile_stop job pixels.now k) (tile_len (tile_in job pixels.now k)) result }
 {
-    let a = part_size(job, pixels, k, 0, list, scratch);
-    if a.number != 0 {
-        return a;
-    }
-    let b = part_size(job, pixels, k, 1, list, scratch);
-    if b.number != 0 {
-        return b;
-    }
-    let c = part_size(job, pixels, k, 2, list, scratch);
-    if c.number != 0 {
-        return c;
-    }
-    Sized {
-        number: 0,
-        size: 19 + a.size + b.size + c.size,
-    }
+    let a = part_size(job, pixels, k, 0, list, scratch)?;
+    let b = part_size(job, pixels, k, 1, list, scratch)?;
+    let c = part_size(job, pixels, k, 2, list, scratch)?;
+    Ok(19 + a + b + c)
 }
 
 // The number of the i-th tile that is sent: the one listed there. Past the list's end it is i itself: with no list every tile is sent, row by row.
+#[tactic(auto, unfolding(crate::specs::Job::sent_at))]
 pub fn number_at(picks: &[u32], i: usize) -> usize
     ensures { result ≡ sent_at picks.now i }
 {
-    if i < picks.len() {
-        return picks[i] as usize;
-    }
-    i
+    picks.get(i).map_or(i, |k| *k as usize)
 }
 
 // The n tiles that are sent: the first refusal, or the bytes of all.
@@ -108,23 +89,14 @@ pub fn tiles_size(
     n: usize,
     list: &mut [i32],
     scratch: &mut [i32],
-) -> Sized
+) -> Result<usize, Refusal>
     requires { JobReady job pixels.now list.old scratch.old × JobSends job picks.now n }
-    ensures { Sizes (stops_sent job pixels.now picks.now n) (length (tiles_of (tile_sent job pixels.now picks.now) n 0)) result }
+    ensures { Measures (stops_sent job pixels.now picks.now n) (length (tiles_of (tile_sent job pixels.now picks.now) n 0)) result }
 {
     let mut total = 0;
-    let mut i = 0;
-    while i < n {
+    for i in 0..n {
         let k = number_at(picks, i);
-        let s = tile_size(job, pixels, k, list, scratch);
-        if s.number != 0 {
-            return s;
-        }
-        total = total + s.size;
-        i += 1;
+        total += tile_size(job, pixels, k, list, scratch)?;
     }
-    Sized {
-        number: 0,
-        size: total,
-    }
+    Ok(total)
 }

@@ -1,10 +1,10 @@
 -- The four header blocks as bytes, and what the header writer refuses.
-use Rattle.std.specs.Prelude.{ℕ, ◌+◌, ◌*◌, List, ◌∷◌, ◌++◌, leb, length}
+use Rattle.std.specs.Prelude.{ℕ, ◌+◌, ◌*◌, List, ◌∷◌, ◌++◌, leb, length, Result}
 use Rattle.wire.specs.Le.{bytes16, bytes32}
 use Rattle.whole.specs.Row.{◌!◌⨾◌}
 use Rattle.wire.specs.Mode.{is_mode}
 use Rattle.wire.specs.Wrote.{Wrote}
-use Rattle.wire.specs.declared.Writing.{Writing}
+use Rattle.wire.specs.declared.Refusal.{Refusal}
 use Rattle.session.specs.Header.{size_good}
 
 -- sync: "magic CACCACCA, version 0100"
@@ -40,5 +40,5 @@ headers_fault w h et room =
     0
 
 -- the writer's promise: its output as it was and as it is, and its answer
-abbrev pub HeadersWritten : ℕ → ℕ → ℕ → List ℕ → List ℕ → Writing → Type 0
+abbrev pub HeadersWritten : ℕ → ℕ → ℕ → List ℕ → List ℕ → Result ℕ Refusal → Type 0
 HeadersWritten width height mode out out' r = Wrote (headers_fault width height mode (length out)) (headers_of width height mode) out out' r

@@ -4,9 +4,10 @@
 
 ghost use Rattle.std.specs.Prelude.{◌≡◌, ◌+◌, ◌≤◌, ◌<◌, length, ◌++◌};
 ghost use Rattle.wire.specs.Le.{bytes16, bytes32, patch, written};
+ghost use Rattle.wire.specs.Refusal.{number_of};
 ghost use Rattle.headers.specs.Headers.{sync_of, versions_of, channels_of, properties_of, context_of, headers_of, headers_fault, HeadersWritten};
 
-use wire::Writing;
+use wire::Refusal;
 
 // A block opened, and its length, which is known, filled in.
 fn put_head(out: &mut [u8], at: usize, kind: usize, size: usize)
@@ -71,29 +72,28 @@ fn put_headers(out: &mut [u8], w: usize, h: usize, et: usize)
     put_context(out, et);
 }
 
-fn headers_fault(w: usize, h: usize, et: usize, room: usize) -> u8
-    ensures { result ≡ headers_fault w h et room }
+fn headers_fault(w: usize, h: usize, et: usize, room: usize) -> Result<(), Refusal>
+    ensures { number_of result ≡ headers_fault w h et room }
 {
-    if session::is_size(w, h) {
-        if wire::is_mode(et) {
-            if room < 47 {
-                return 13;
-            }
-            return 0;
-        }
-        return 5;
+    if !session::is_size(w, h) || !wire::is_mode(et) {
+        return Err(Refusal::Field);
     }
-    5
+    if room < 47 {
+        return Err(Refusal::Room);
+    }
+    Ok(())
 }
 
 // The four header blocks, in table order.
-pub fn write_headers(width: usize, height: usize, mode: u8, out: &mut [u8]) -> Writing
+pub fn write_headers(
+    width: usize,
+    height: usize,
+    mode: u8,
+    out: &mut [u8],
+) -> Result<usize, Refusal>
     ensures { HeadersWritten width height mode out.old out.new result }
 {
-    let n = headers_fault(width, height, mode as usize, out.len());
-    if n != 0 {
-        return Writing::Refused(n);
-    }
+    headers_fault(width, height, mode as usize, out.len())?;
     put_headers(out, width, height, mode as usize);
-    Writing::Done(47)
+    Ok(47)
 }

@@ -4,7 +4,7 @@
 use Rattle.std.specs.Prelude.{ℕ, ◌≡◌, List, ℤ, length}
 use Rattle.whole.specs.Row.{◌⨟◌}
 use Rattle.quants.specs.declared.Quants.{Quants}
-use Rattle.settings.specs.Settings.{settings, settings_of, write_fault, read_settings}
+use Rattle.settings.specs.Settings.{settings, settings_of, write_fault, store_number, given, read_settings}
 use Rattle.frame_write.specs.FrameWrite.{work_left}
 use Rattle.frame_write.specs.Sets.{frame_over, arg_fault_over, send_fault_over}
 use Rattle.panel.specs.Edge.{WriterCall}
@@ -13,10 +13,10 @@ use Rattle.panel.specs.Edge.{WriterCall}
 
 -- what is read; a refusal gives no settings, all of them are 0
 pub record ReadSettingsCall (newest : ℕ) (m luma chroma : List ℕ) (mode number : ℕ) : Type 0 where
-  pub said : number ≡ (read_settings newest m).number
-  pub luma_is : luma ≡ (read_settings newest m).settings.quants.luma.v
-  pub chroma_is : chroma ≡ (read_settings newest m).settings.quants.chroma.v
-  pub mode_is : mode ≡ (read_settings newest m).settings.mode
+  pub said : number ≡ store_number (read_settings newest m)
+  pub luma_is : luma ≡ (given (read_settings newest m)).quants.luma.v
+  pub chroma_is : chroma ≡ (given (read_settings newest m)).quants.chroma.v
+  pub mode_is : mode ≡ (given (read_settings newest m)).mode
 
 abbrev pub WriteSettingsCall : List ℕ → List ℕ → ℕ → List ℕ → List ℕ → ℕ → ℕ → Type 0
 WriteSettingsCall luma chroma mode out out' size number =

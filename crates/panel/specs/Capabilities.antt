@@ -2,9 +2,10 @@
 -- is stored behind references, the output is lent. All by the definitions that the calls of `caps` cite.
 -- (01 is this project's scope document, 02 its change requests, 001 is MS-RDPRFX: README, "What 01 is".)
 use Rattle.std.specs.Prelude.{ℕ, ◌≡◌, List, [], ◌∷◌, length, get_or}
-use Rattle.caps.specs.Caps.{entries_over, caps_with, read_caps, caps_number, caps_fields, caps_of, caps_fault}
-use Rattle.caps.specs.AckCap.{read_ack_cap, ack_cap_number, ack_cap_count, ack_cap_of, ack_cap_fault}
-use Rattle.caps.specs.Ack.{read_ack, ack_number, ack_fields, ack_of, ack_fault}
+use Rattle.wire.specs.Refusal.{number_of}
+use Rattle.caps.specs.Caps.{entries_over, caps_with, read_caps, caps_fields, caps_of, caps_fault}
+use Rattle.caps.specs.AckCap.{read_ack_cap, ack_cap_count, ack_cap_of, ack_cap_fault}
+use Rattle.caps.specs.Ack.{read_ack, ack_fields, ack_of, ack_fault}
 use Rattle.caps.specs.declared.Caps.{Caps}
 use Rattle.caps.specs.declared.Ack.{Ack}
 use Rattle.panel.specs.Edge.{WriterCall}
@@ -15,7 +16,7 @@ abbrev pub entry_bytes : Caps → List ℕ
 entry_bytes c = c.first.flags ∷ c.first.mode ∷ c.second.flags ∷ c.second.mode ∷ []
 
 pub record ReadCapsCall (m : List ℕ) (flags n : ℕ) (entries : List ℕ) (number : ℕ) : Type 0 where
-  pub said : number ≡ caps_number (read_caps m)
+  pub said : number ≡ number_of (read_caps m)
   pub flags_are : flags ≡ (caps_fields (read_caps m)).flags
   pub n_is : n ≡ (caps_fields (read_caps m)).n
   pub entries_are : entries ≡ entry_bytes (caps_fields (read_caps m))
@@ -30,7 +31,7 @@ WriteCapsCall flags n es out out' size number = WriterCall (caps_fault (caps_fro
 -- ---- the frame acknowledge capability
 
 pub record ReadAckCapCall (m : List ℕ) (count number : ℕ) : Type 0 where
-  pub said : number ≡ ack_cap_number (read_ack_cap m)
+  pub said : number ≡ number_of (read_ack_cap m)
   pub count_is : count ≡ ack_cap_count (read_ack_cap m)
 
 abbrev pub WriteAckCapCall : ℕ → List ℕ → List ℕ → ℕ → ℕ → Type 0
@@ -43,7 +44,7 @@ numbers_of a =
     a.version ∷ a.source ∷ a.share ∷ a.pad ∷ a.stream ∷ a.uncompressed ∷ a.compression ∷ a.compressed ∷ a.frame ∷ []
 
 pub record ReadAckCall (m fields : List ℕ) (number : ℕ) : Type 0 where
-  pub said : number ≡ ack_number (read_ack m)
+  pub said : number ≡ number_of (read_ack m)
   pub fields_are : fields ≡ numbers_of (ack_fields (read_ack m))
 
 abbrev pub ack_from : ℕ → ℕ → ℕ → ℕ → ℕ → ℕ → ℕ → ℕ → ℕ → Ack

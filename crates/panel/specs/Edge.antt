@@ -1,35 +1,37 @@
 -- The six calls as a C program meets them: 01's number is returned, 01's value is stored behind the last reference, lists are lent, the record is
 -- changed in place. Each promise is of the number, the value and every list at exit, by the definitions that the panel's own calls cite.
 -- (01 is this project's scope document, 02 its change requests, 001 is MS-RDPRFX: README, "What 01 is".)
-use Rattle.std.specs.Prelude.{ℕ, ◌≡◌, List, ℤ, length}
+use Rattle.std.specs.Prelude.{ℕ, ◌≡◌, List, ℤ, length, Result}
+use Rattle.wire.specs.Refusal.{number_of, count_of}
 use Rattle.whole.specs.Row.{◌⨟◌}
+use Rattle.wire.specs.Refusal.{number_of}
 use Rattle.wire.specs.Wrote.{length_said, out_left}
 use Rattle.session.specs.declared.Session.{Session}
-use Rattle.session.specs.Header.{header_number, header_record, header_reading}
+use Rattle.session.specs.Header.{header_record, header_reading}
 use Rattle.code.specs.Read.{reading_number, reading_bits, reading, ComponentRead}
 use Rattle.code_write.specs.Write.{bytes_of, write_fault}
 use Rattle.headers.specs.Headers.{headers_of, headers_fault}
 use Rattle.frame_write.specs.Encode.{picture_frame}
 use Rattle.frame_write.specs.FrameWrite.{arg_fault, send_fault, work_left}
-use Rattle.frame.specs.declared.call.FrameReading.{FrameReading}
-use Rattle.frame.specs.Frame.{early, frame_number, frame_reading_number, frame_reading_tiles, frame_reading, FrameRead}
+use Rattle.wire.specs.declared.Refusal.{Refusal}
+use Rattle.frame.specs.Frame.{early, frame_number, frame_reading, FrameRead}
 
 -- ---- the readers: the answer is the one that the call's own definition gives, and the number and the value are that answer's
 
 -- s is the record before the call, s' after it; n is what is returned
 pub record ReadHeaderCall (s s' : Session) (m : List ℕ) (n : ℕ) : Type 0 where
-  pub number : n ≡ header_number (header_reading s m)
+  pub number : n ≡ number_of (header_reading s m)
   pub session : s' ≡ header_record (header_reading s m) s
 
 -- the answer to a frame, of what came in; word is 0 where the picture has words of 16 bits, 1 where it has words of 32
-abbrev pub frame_answer : ℕ → Session → List ℕ → List ℕ → List ℤ → List ℤ → List ℤ → List ℤ → FrameReading
+abbrev pub frame_answer : ℕ → Session → List ℕ → List ℕ → List ℤ → List ℤ → List ℤ → List ℤ → Result ℕ Refusal
 frame_answer word s m pic y cb cr tmp = frame_reading (frame_number (early word s pic y cb cr tmp) s m) m
 
 -- "A done frame reports numTiles, a refused one 0"; "a frame call leaves it equal", the record; picture and work lists as the panel's call leaves them
 pub record ReadFrameCall (word : ℕ) (s s' : Session) (m pic : List ℕ) (y cb cr tmp : List ℤ) (pic' : List ℕ) (y' cb' cr' tmp' : List ℤ) (tiles n : ℕ) : Type 0
   where
-    pub number : n ≡ frame_reading_number (frame_answer word s m pic y cb cr tmp)
-    pub count : tiles ≡ frame_reading_tiles (frame_answer word s m pic y cb cr tmp)
+    pub number : n ≡ number_of (frame_answer word s m pic y cb cr tmp)
+    pub count : tiles ≡ count_of (frame_answer word s m pic y cb cr tmp)
     pub session : s' ≡ s
     pub lists : FrameRead word s m pic y cb cr tmp pic' y' cb' cr' tmp' (frame_answer word s m pic y cb cr tmp)
 

@@ -20,7 +20,7 @@ pub extern "C" fn xurbalenz_read_settings(
     ensures { ReadSettingsCall newest bytes.now luma.new chroma.new mode.new result }
 {
     let answer = settings::read::read_settings(newest, bytes);
-    let s = answer.settings;
+    let s = settings::read::given(answer);
     let q = s.quants;
     let one = q.luma;
     let two = q.chroma;
@@ -29,7 +29,7 @@ pub extern "C" fn xurbalenz_read_settings(
     *luma = first;
     *chroma = second;
     *mode = s.mode;
-    answer.number
+    wire::number_of(answer)
 }
 
 // Writes settings: equal sets as version 1, else as version 2; `size` is their length in bytes, refused 0.
@@ -54,8 +54,8 @@ pub extern "C" fn xurbalenz_write_settings(
         mode: mode,
     };
     let w = settings::write::write_settings(s, out);
-    *size = wire::writing_length(w);
-    wire::writing_number(w)
+    *size = wire::count_of(w);
+    wire::number_of(w)
 }
 
 // Writes one frame over the whole channel, with luma's and chroma's ten quantisers; `size` is its length in bytes, refused 0.
@@ -82,6 +82,6 @@ pub extern "C" fn xurbalenz_write_frame_sets(
         chroma: two,
     };
     let w = crate::write_frame_sets(width, height, mode, q, index, pixels, list, scratch, out);
-    *size = wire::writing_length(w);
-    wire::writing_number(w)
+    *size = wire::count_of(w);
+    wire::number_of(w)
 }

@@ -22,7 +22,7 @@ pub extern "C" fn xurbalenz_read_caps(
     *flags = c.flags;
     *n = c.n;
     *entries = [first.flags, first.mode, second.flags, second.mode];
-    caps::read::caps_number(answer)
+    wire::number_of(answer)
 }
 
 // Writes the client capability container. An entry past n is ignored.
@@ -49,8 +49,8 @@ pub extern "C" fn xurbalenz_write_caps(
         },
     };
     let w = caps::write::write_caps(c, out);
-    *size = wire::writing_length(w);
-    wire::writing_number(w)
+    *size = wire::count_of(w);
+    wire::number_of(w)
 }
 
 // Reads the frame acknowledge capability, which is the whole message.
@@ -60,7 +60,7 @@ pub extern "C" fn xurbalenz_read_ack_cap(message: &[u8], count: &mut u32) -> u8
 {
     let answer = caps::read::read_ack_cap(message);
     *count = caps::read::ack_cap_count(answer);
-    caps::read::ack_cap_number(answer)
+    wire::number_of(answer)
 }
 
 // Writes the frame acknowledge capability.
@@ -69,8 +69,8 @@ pub extern "C" fn xurbalenz_write_ack_cap(count: u32, out: &mut [u8], size: &mut
     ensures { WriteAckCapCall count out.old out.new size.new result }
 {
     let w = caps::write::write_ack_cap(count, out);
-    *size = wire::writing_length(w);
-    wire::writing_number(w)
+    *size = wire::count_of(w);
+    wire::number_of(w)
 }
 
 // Reads the frame acknowledge message from its shareDataHeader on. `fields` are version, pduSource, shareId, pad1, streamId, uncompressedLength,
@@ -92,7 +92,7 @@ pub extern "C" fn xurbalenz_read_ack(message: &[u8], fields: &mut [u32; 9]) -> u
         a.compressed as u32,
         a.frame,
     ];
-    caps::read::ack_number(answer)
+    wire::number_of(answer)
 }
 
 // Writes the frame acknowledge message from its shareDataHeader on.
@@ -124,6 +124,6 @@ pub extern "C" fn xurbalenz_write_ack(
         frame: frame,
     };
     let w = caps::write::write_ack(a, out);
-    *size = wire::writing_length(w);
-    wire::writing_number(w)
+    *size = wire::count_of(w);
+    wire::number_of(w)
 }

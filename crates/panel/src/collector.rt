@@ -6,8 +6,9 @@ ghost use Rattle.collect.specs.Collect.{fresh};
 ghost use Rattle.panel.specs.Collector.{collected_number, collected_call, collected_size, CollectCall};
 
 use collect::{Collected, Collector};
+use wire::Numbered;
 
-// The number of an answer: 0, or the refusal's.
+// The number of an answer, as C is told it: 0, or the refusal's.
 fn collected_number(a: Collected) -> u8
     ensures { result ≡ collected_number a }
 {
@@ -15,7 +16,7 @@ fn collected_number(a: Collected) -> u8
         Collected::More => 0,
         Collected::Header(_) => 0,
         Collected::Frame(_) => 0,
-        Collected::Refused(number) => number,
+        Collected::Refused(refusal) => refusal.number(),
     }
 }
 
@@ -43,37 +44,6 @@ fn collected_size(a: Collected) -> usize
     }
 }
 
-// 01's number, and the record to be stored.
-#[derive(Clone, Copy)]
-pub struct CollectorAnswer {
-    pub number: u8,
-    pub collector: Collector,
-}
-
-// The collector's call with the record by value.
-fn collect_call(
-    c: Collector,
-    bytes: &[u8],
-    store: &mut [u8],
-    call: &mut u8,
-    size: &mut usize,
-    taken: &mut usize,
-) -> CollectorAnswer
-    ensures { CollectCall c result.collector bytes.now store.old store.new call.new size.new taken.new result.number }
-{
-    let t = collect::collect(c, bytes, store);
-    let answer = t.answer;
-    let after = t.collector;
-    *call = collected_call(answer);
-    *size = collected_size(answer);
-    *taken = t.taken;
-    let number = collected_number(answer);
-    CollectorAnswer {
-        number: number,
-        collector: after,
-    }
-}
-
 // Takes bytes of the stream, up to the end of the first part that is whole. A part is the store's first `size` bytes, for the header call where `call` is 1
 // and for the frame call where it is 2. The rest of the bytes, behind the first `taken`, is given again.
 #[unsafe(no_mangle)]
@@ -87,9 +57,12 @@ pub extern "C" fn xurbalenz_collect(
 ) -> u8
     ensures { CollectCall c.old c.new bytes.now store.old store.new call.new size.new taken.new result }
 {
-    let a = collect_call(*c, bytes, store, call, size, taken);
-    *c = a.collector;
-    a.number
+    let t = collect::collect(*c, bytes, store);
+    *call = collected_call(t.answer);
+    *size = collected_size(t.answer);
+    *taken = t.taken;
+    *c = t.collector;
+    collected_number(t.answer)
 }
 
 // Throws away what was gathered, and any refusal: the next byte is the first of a block.

@@ -15,7 +15,7 @@ pub extern "C" fn xurbalenz_count_tiles(
 ) -> u8
     ensures { TilesCounted width height old.now next.now counts.old counts.new result }
 {
-    tile_diff::glasses::count_tiles(width, height, old, next, counts)
+    wire::number_of(tile_diff::glasses::count_tiles(width, height, old, next, counts))
 }
 
 // The same for words of 32 bits.
@@ -29,7 +29,7 @@ pub extern "C" fn xurbalenz_count_tiles_32(
 ) -> u8
     ensures { TilesCounted width height old.now next.now counts.old counts.new result }
 {
-    tile_diff::glasses::count_tiles_32(width, height, old, next, counts)
+    wire::number_of(tile_diff::glasses::count_tiles(width, height, old, next, counts))
 }
 
 // Tells the first tile with a count above 0, from tile `from` on: its number, its column and row, and its count, which is 0 where there is none.

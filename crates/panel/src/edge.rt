@@ -1,9 +1,10 @@
 // The six calls for C, the frame call for pictures of either word size. A pointer is a reference, a list is a pointer and its length; the answer is 01's number, and 01's value is stored
 // behind the last reference on every answer. Each is one call of the panel's own and promises what that one does (specs/Edge). Nothing here has a `requires`.
-ghost use Rattle.std.specs.Prelude.{◌≡◌};
+ghost use Rattle.std.specs.Prelude.{◌≡◌, map};
 ghost use Rattle.panel.specs.Edge.{ReadHeaderCall, ReadFrameCall, ReadComponentCall, WriteComponentCall, WriteHeadersCall, WriteFrameCall};
 
 use bands::Quant;
+use colour::GlassWord;
 use session::Session;
 
 // Reads one component's code into a list of 4,096 numbers; `bits` is the code's length in bits on 0 and 11, else 0.
@@ -32,8 +33,8 @@ pub extern "C" fn xurbalenz_write_component(
     ensures { WriteComponentCall mode list.now out.old out.new size.new result }
 {
     let w = crate::write_component(mode, list, out);
-    *size = wire::writing_length(w);
-    wire::writing_number(w)
+    *size = wire::count_of(w);
+    wire::number_of(w)
 }
 
 // Writes the four header blocks; `size` is their length in bytes, refused 0.
@@ -48,8 +49,8 @@ pub extern "C" fn xurbalenz_write_headers(
     ensures { WriteHeadersCall width height mode out.old out.new size.new result }
 {
     let w = crate::write_headers(width, height, mode, out);
-    *size = wire::writing_length(w);
-    wire::writing_number(w)
+    *size = wire::count_of(w);
+    wire::number_of(w)
 }
 
 // Writes one frame over the whole channel, with the ten quantisers behind `quant`; `size` is its length in bytes, refused 0.
@@ -70,8 +71,8 @@ pub extern "C" fn xurbalenz_write_frame(
 {
     let q = Quant { v: *quant };
     let w = crate::write_frame(width, height, mode, q, index, pixels, list, scratch, out);
-    *size = wire::writing_length(w);
-    wire::writing_number(w)
+    *size = wire::count_of(w);
+    wire::number_of(w)
 }
 
 // The bytes of the session record. Its name carries the layout: header and crate for these 16 bytes call it, and so do not link with an archive whose record
@@ -91,52 +92,32 @@ pub extern "C" fn xurbalenz_version() -> u32
     502
 }
 
-// What the header call has to hand over: 01's number, and the record to be stored.
-#[derive(Clone, Copy)]
-struct Handed {
-    number: u8,
-    session: Session,
-}
-
-// The header call with the record by value.
-fn header_call(s: Session, message: &[u8]) -> Handed
-    ensures { ReadHeaderCall s result.session message.now result.number }
-{
-    let h = crate::read_header(s, message);
-    let number = session::header_number(h);
-    let after = session::header_record(h, s);
-    Handed {
-        number: number,
-        session: after,
-    }
-}
-
 // Reads one header block, which is the whole message; the record is changed in place, and a refused header leaves it as it was.
 #[unsafe(no_mangle)]
 pub extern "C" fn xurbalenz_read_header(s: &mut Session, message: &[u8]) -> u8
     ensures { ReadHeaderCall s.old s.new message.now result }
 {
-    let a = header_call(*s, message);
-    *s = a.session;
-    a.number
+    let answer = crate::read_header(*s, message);
+    *s = session::header_record(answer, *s);
+    wire::number_of(answer)
 }
 
-// The frame call with the record by value.
-fn frame_call(
+// The frame call with the record by value, for a picture of words of either size.
+fn frame_call<W: GlassWord>(
     s: Session,
     message: &[u8],
-    picture: &mut [u16],
+    picture: &mut [W],
     y: &mut [i32],
     cb: &mut [i32],
     cr: &mut [i32],
     scratch: &mut [i32],
     tiles: &mut usize,
 ) -> u8
-    ensures { ReadFrameCall 0 s s message.now picture.old y.old cb.old cr.old scratch.old picture.new y.new cb.new cr.new scratch.new tiles.new result }
+    ensures { ReadFrameCall W.GLASS s s message.now (map W.number picture.old) y.old cb.old cr.old scratch.old (map W.number picture.new) y.new cb.new cr.new scratch.new tiles.new result }
 {
     let f = crate::read_frame(s, message, picture, y, cb, cr, scratch);
-    *tiles = frame::call::frame_tiles(f);
-    frame::call::frame_number(f)
+    *tiles = wire::count_of(f);
+    wire::number_of(f)
 }
 
 // Reads one frame, which is the whole message, and draws it into a picture of 16-bit words; `tiles` is numTiles, refused 0. The record is left as it is.
@@ -156,24 +137,7 @@ pub extern "C" fn xurbalenz_read_frame(
     frame_call(*s, message, picture, y, cb, cr, scratch, tiles)
 }
 
-// The two for a picture of 32-bit words.
-fn frame_call_32(
-    s: Session,
-    message: &[u8],
-    picture: &mut [u32],
-    y: &mut [i32],
-    cb: &mut [i32],
-    cr: &mut [i32],
-    scratch: &mut [i32],
-    tiles: &mut usize,
-) -> u8
-    ensures { ReadFrameCall 1 s s message.now picture.old y.old cb.old cr.old scratch.old picture.new y.new cb.new cr.new scratch.new tiles.new result }
-{
-    let f = crate::read_frame_32(s, message, picture, y, cb, cr, scratch);
-    *tiles = frame::call::frame_tiles(f);
-    frame::call::frame_number(f)
-}
-
+// The same for a picture of 32-bit words.
 #[unsafe(no_mangle)]
 pub extern "C" fn xurbalenz_read_frame_32(
     s: &mut Session,
@@ -187,5 +151,5 @@ pub extern "C" fn xurbalenz_read_frame_32(
 ) -> u8
     ensures { ReadFrameCall 1 s.old s.new message.now picture.old y.old cb.old cr.old scratch.old picture.new y.new cb.new cr.new scratch.new tiles.new result }
 {
-    frame_call_32(*s, message, picture, y, cb, cr, scratch, tiles)
+    frame_call(*s, message, picture, y, cb, cr, scratch, tiles)
 }

@@ -30,8 +30,9 @@ pub extern "C" fn xurbalenz_tidy_frame(
 {
     let s = session::of_numbers(4, side(width), side(height), mode);
     let t = tidy::frames::tidy_frame(sender, s, message, list, out);
-    *told = [t.size, t.cut];
-    t.number
+    let on = tidy::frames::told(t);
+    *told = [on.size, on.cut];
+    wire::number_of(t)
 }
 
 // Gives a header block to the order of the headers: what goes on now is the output's first `size` bytes, what waits is held in 38 lent bytes, all zeros at first.
@@ -45,8 +46,8 @@ pub extern "C" fn xurbalenz_tidy_header(
     ensures { TidyHeaderCall held.old held.new block.now out.old out.new size.new result }
 {
     let p = tidy::held::give_held(held, block, out);
-    *size = p.size;
-    p.number
+    *size = wire::count_of(p);
+    wire::number_of(p)
 }
 
 // Lets go what waits: before a frame, and at the end of the stream.
@@ -55,6 +56,6 @@ pub extern "C" fn xurbalenz_tidy_flush(held: &mut [u8], out: &mut [u8], size: &m
     ensures { TidyFlushCall held.old held.new out.old out.new size.new result }
 {
     let p = tidy::held::flush_held(held, out);
-    *size = p.size;
-    p.number
+    *size = wire::count_of(p);
+    wire::number_of(p)
 }

@@ -1,8 +1,9 @@
-// The public edge: the calls of document 01 with its numbers ("Numbers the fitter sees"). An answer is an enum of the crate that the call comes from, and
-// definitions of that crate give 01's number and values for every case of it. Any input is answered: nothing here has a `requires`.
+// The public edge: the calls of document 01 with its numbers ("Numbers the fitter sees"). An answer is a `Result`, refused for one of 01's reasons
+// (`wire::Refusal`), or the component reader's own, and definitions give its number and its values for every case. Any input is answered: nothing here
+// has a `requires`.
 #![tactic(auto)]
 
-ghost use Rattle.std.specs.Prelude.{◌≡◌};
+ghost use Rattle.std.specs.Prelude.{◌≡◌, map};
 ghost use Rattle.session.specs.Header.{header_reading};
 ghost use Rattle.headers.specs.Headers.{HeadersWritten};
 ghost use Rattle.code.specs.Read.{ComponentRead};
@@ -13,10 +14,10 @@ ghost use Rattle.frame_write.specs.Sets.{FrameWrittenOver};
 
 use bands::Quant;
 use code::read::Reading;
-use frame::call::FrameReading;
+use colour::GlassWord;
 use quants::Quants;
-use session::{HeaderReading, Session};
-use wire::Writing;
+use session::Session;
+use wire::Refusal;
 
 pub mod cabinet;
 pub mod capabilities;
@@ -27,7 +28,7 @@ pub mod filter;
 pub mod short;
 
 // Reads one header block, which is the whole message.
-pub fn read_header(s: Session, message: &[u8]) -> HeaderReading
+pub fn read_header(s: Session, message: &[u8]) -> Result<Session, Refusal>
     ensures { result ≡ header_reading s message.now }
 {
     session::take_header(s, message)
@@ -41,47 +42,37 @@ pub fn read_component(mode: u8, code: &[u8], list: &mut [i32]) -> Reading
 }
 
 // Writes one component's code: the one code of the list.
-pub fn write_component(mode: u8, list: &[i32], out: &mut [u8]) -> Writing
+pub fn write_component(mode: u8, list: &[i32], out: &mut [u8]) -> Result<usize, Refusal>
     ensures { ComponentWritten mode list.now out.old out.new result }
 {
     code_write::call::write_component(mode, list, out)
 }
 
 // Writes the four header blocks, 47 bytes.
-pub fn write_headers(width: usize, height: usize, mode: u8, out: &mut [u8]) -> Writing
+pub fn write_headers(
+    width: usize,
+    height: usize,
+    mode: u8,
+    out: &mut [u8],
+) -> Result<usize, Refusal>
     ensures { HeadersWritten width height mode out.old out.new result }
 {
     headers::write_headers(width, height, mode, out)
 }
 
-// Reads one frame, begin to end, which is the whole message, and draws it into a picture of 16-bit words; the record is left as it is.
-pub fn read_frame(
+// Reads one frame, begin to end, which is the whole message, and draws it into a picture of 16-bit or of 32-bit words; the record is left as it is.
+pub fn read_frame<W: GlassWord>(
     s: Session,
     message: &[u8],
-    picture: &mut [u16],
+    picture: &mut [W],
     y: &mut [i32],
     cb: &mut [i32],
     cr: &mut [i32],
     scratch: &mut [i32],
-) -> FrameReading
-    ensures { FrameRead 0 s message.now picture.old y.old cb.old cr.old scratch.old picture.new y.new cb.new cr.new scratch.new result }
+) -> Result<usize, Refusal>
+    ensures { FrameRead W.GLASS s message.now (map W.number picture.old) y.old cb.old cr.old scratch.old (map W.number picture.new) y.new cb.new cr.new scratch.new result }
 {
     frame::call::take_frame(s, message, picture, y, cb, cr, scratch)
-}
-
-// The same for a picture of 32-bit words.
-pub fn read_frame_32(
-    s: Session,
-    message: &[u8],
-    picture: &mut [u32],
-    y: &mut [i32],
-    cb: &mut [i32],
-    cr: &mut [i32],
-    scratch: &mut [i32],
-) -> FrameReading
-    ensures { FrameRead 1 s message.now picture.old y.old cb.old cr.old scratch.old picture.new y.new cb.new cr.new scratch.new result }
-{
-    frame::call::take_frame_32(s, message, picture, y, cb, cr, scratch)
 }
 
 // Writes one frame over the whole channel: three bytes a pixel, one quantiser set, two work lists.
@@ -95,7 +86,7 @@ pub fn write_frame(
     list: &mut [i32],
     scratch: &mut [i32],
     out: &mut [u8],
-) -> Writing
+) -> Result<usize, Refusal>
     ensures { FrameWritten width height mode q.v index pixels.now list.old list.new scratch.old scratch.new out.old out.new result }
 {
     frame_send::write_frame(width, height, mode, q, index, pixels, list, scratch, out)
@@ -112,7 +103,7 @@ pub fn write_frame_sets(
     list: &mut [i32],
     scratch: &mut [i32],
     out: &mut [u8],
-) -> Writing
+) -> Result<usize, Refusal>
     ensures { FrameWrittenOver width height mode q index pixels.now list.old list.new scratch.old scratch.new out.old out.new result }
 {
     frame_send::write_frame_sets(width, height, mode, q, index, pixels, list, scratch, out)

@@ -21,7 +21,7 @@ pub extern "C" fn xurbalenz_check_plan(
 ) -> u8
     ensures { result ≡ plan_fault width height old.now next.now picks.now }
 {
-    plan::check::check_plan(width, height, old, next, picks)
+    wire::number_of(plan::check::check_plan(width, height, old, next, picks))
 }
 
 // Lists the tiles that differ.
@@ -37,8 +37,8 @@ pub extern "C" fn xurbalenz_make_plan(
     ensures { MakePlanCall width height old.now next.now picks.old picks.new count.new result }
 {
     let p = plan::make::make_plan(width, height, old, next, picks);
-    *count = plan::make::planned_count(p);
-    plan::make::planned_number(p)
+    *count = wire::count_of(p);
+    wire::number_of(p)
 }
 
 // Writes one frame of the listed tiles of the new picture, with the ten quantisers behind `luma` for Y and those behind `chroma` for Cb and Cr; `size` is its
@@ -73,6 +73,6 @@ pub extern "C" fn xurbalenz_write_frame_short(
         quants: q,
     };
     let w = short_write::write_frame_short(job, old, next, picks, list, scratch, out);
-    *size = wire::writing_length(w);
-    wire::writing_number(w)
+    *size = wire::count_of(w);
+    wire::number_of(w)
 }

@@ -3,25 +3,30 @@
 // product; what both mean is said once, by the definitions that the contracts name, and specs/Same says that both give the same.
 #![tactic(auto)]
 
-ghost use Rattle.std.specs.Prelude.{◌≡◌, ℕ, ◌+◌, ◌*◌, ◌-◌, min, ◌<◌, ◌≤◌, ◌^◌, pos, ◌+ℤ◌, ◌*ℤ◌, length, drop};
+ghost use Rattle.std.specs.Prelude.{◌≡◌, ℕ, ◌+◌, ◌*◌, ◌-◌, min, ◌<◌, ◌≤◌, ◌^◌, pos, ◌+ℤ◌, ◌*ℤ◌, length, drop, map};
 ghost use Rattle.whole.specs.laws.Near.{Near};
 ghost use Rattle.whole.specs.Tab.{at};
 ghost use Rattle.whole.specs.laws.Tab.{AllNear};
+ghost use Rattle.wire.specs.Refusal.{number_of};
 ghost use Rattle.bands.specs.Bands.{QuantGood, band_of, quant_at, in_range};
 ghost use Rattle.wave_back.specs.Line.{even_z, odd_z, even_at};
 ghost use Rattle.wave_back.specs.Tile.{tile_back};
 ghost use Rattle.wave_back.specs.laws.Level.{level_from};
-ghost use Rattle.colour.specs.Colour.{clamp_byte, red_of, green_of, blue_of, pack565, pack888, word_of};
+ghost use Rattle.colour.specs.Colour.{clamp_byte, red_of, green_of, blue_of, pack_of, word_of};
 ghost use Rattle.tile_back.specs.Word.{Plane, word_at};
 ghost use Rattle.plain.specs.Plain.{Component, Sampled, Words};
-ghost use Rattle.plain.specs.laws.Fit.{Sums, Scales};
+ghost use Rattle.plain.specs.laws.Fit.{Sums, Scales, Fitted};
 ghost use Rattle.plain.specs.laws.Lines.{Line, avg_of, line_of, Level, rows_at, Passed};
 
 use bands::Quant;
+use code::read::Reading;
+use colour::GlassWord;
+use wire::Refusal;
 
 // ---- bands: sums and scaling
 
 // Where in the set the quantiser of place k stands: the list has HL1, LH1, HH1, .., LL3, the set LL3, LH3, HL3, .., HH1.
+#[tactic(auto, using(whole::specs::laws::Row::rows), unfolding(bands::specs::Bands::bands, bands::specs::Bands::first_band, bands::specs::Bands::band_at))]
 fn band(k: usize) -> usize
     requires { k < 4096 }
     ensures { result ≡ band_of k }
@@ -70,53 +75,61 @@ fn quant(q: Quant, k: usize) -> u8
     q.v[band(k)]
 }
 
-// "LL3 holds its first value and then differences; sum first": the last 64 places, 0 or 9.
-fn sum(work: &mut [i32]) -> u8
+// "LL3 holds its first value and then differences; sum first": the last 64 places, unless a sum is out of range.
+fn sum(work: &mut [i32]) -> Result<(), Refusal>
     requires { (length work.old ≡ 4096) × AllNear 32767 work.old }
-    ensures { Sums work.old work.new result }
+    ensures { Sums work.old work.new (number_of result) }
 {
     let mut s = 0;
     for i in 0..64 {
         s = plus(s, work[4032 + i]);
         if !in_range(s) {
-            return 9;
+            return Err(Refusal::Range);
         }
         work[4032 + i] = s;
     }
-    0
+    Ok(())
 }
 
-// "then scale": every place by its own band's quantiser, 0 or 9.
-fn scale(work: &mut [i32], q: Quant) -> u8
+// "then scale": every place by its own band's quantiser, unless a value is out of range.
+fn scale(work: &mut [i32], q: Quant) -> Result<(), Refusal>
     requires { (length work.old ≡ 4096) × AllNear 32767 work.old × QuantGood q.v }
-    ensures { Scales q.v work.old work.new result }
+    ensures { Scales q.v work.old work.new (number_of result) }
 {
     for k in 0..4096 {
         let v = scaled(work[k], quant(q, k));
         if !in_range(v) {
-            return 9;
+            return Err(Refusal::Range);
         }
         work[k] = v;
     }
-    0
+    Ok(())
 }
 
-// A component: its number, "code, then LL3 sums and scaling (9)", and where it is 0 its coefficients.
-pub fn component(mode: u8, q: Quant, code: &[u8], work: &mut [i32]) -> u8
-    requires { (length work.old ≡ 4096) × QuantGood q.v }
-    ensures { Component mode q.v code.now work.old work.new result }
+// Both: where one is out of range the list stays as it then is.
+fn fit(work: &mut [i32], q: Quant) -> Result<(), Refusal>
+    requires { (length work.old ≡ 4096) × AllNear 32767 work.old × QuantGood q.v }
+    ensures { Fitted q.v work.old work.new (number_of result) }
 {
-    let n = plain_code::reading_number(plain_code::read_component(mode, code, work));
-    if n != 0 {
-        return n;
+    sum(work)?;
+    scale(work, q)
+}
+
+// A component, "code, then LL3 sums and scaling (9)": why it is refused, or its coefficients.
+pub fn component(mode: u8, q: Quant, code: &[u8], work: &mut [i32]) -> Result<(), Refusal>
+    requires { (length work.old ≡ 4096) × QuantGood q.v }
+    ensures { Component mode q.v code.now work.old work.new (number_of result) }
+{
+    match plain_code::read_component(mode, code, work) {
+        Reading::Done(_) => {}
+        Reading::Tail(_) => return Err(Refusal::Tail),
+        Reading::Refused(refusal) => return Err(refusal),
     }
-    if sum(work) == 0 {
-        if scale(work, q) == 0 {
-            return 0;
-        }
+    if let Err(refusal) = fit(work, q) {
+        plain_code::clear(work);
+        return Err(refusal);
     }
-    plain_code::clear(work);
-    9
+    Ok(())
 }
 
 // ---- the wavelet, by its indices
@@ -230,16 +243,20 @@ fn tile(work: &mut [i32], tmp: &mut [i32])
     level(work, tmp, 0, 32);
 }
 
-// A component: its number, and where it is 0 its 64 x 64 samples.
-pub fn samples(mode: u8, q: Quant, code: &[u8], work: &mut [i32], tmp: &mut [i32]) -> u8
+// A component: why it is refused, or its 64 x 64 samples.
+pub fn samples(
+    mode: u8,
+    q: Quant,
+    code: &[u8],
+    work: &mut [i32],
+    tmp: &mut [i32],
+) -> Result<(), Refusal>
     requires { (length work.old ≡ 4096) × (length tmp.old ≡ 4096) × QuantGood q.v }
-    ensures { Sampled mode q.v code.now work.old work.new result }
+    ensures { Sampled mode q.v code.now work.old work.new (number_of result) }
 {
-    let n = component(mode, q, code, work);
-    if n == 0 {
-        tile(work, tmp);
-    }
-    n
+    component(mode, q, code, work)?;
+    tile(work, tmp);
+    Ok(())
 }
 
 // ---- colour, "floor of (sum + 2^20) over 2^21 for each channel, clamped"
@@ -277,65 +294,47 @@ fn blue(y: i32, cb: i32) -> u8
     clamp((65536 * (y as i64 + 4096) + 115992 * (cb as i64) + 1048576) >> 21)
 }
 
+// A picture's word of three bytes, made here.
+pub trait PlainWord: GlassWord {
+    fn of(r: u8, g: u8, b: u8) -> Self
+        ensures { Self.number result ≡ pack_of Self.GLASS r g b };
+}
+
 // "Word: floor(R/8) x 2048 + floor(G/4) x 32 + floor(B/8)."
-fn pack(r: u8, g: u8, b: u8) -> u16
-    ensures { result ≡ pack565 r g b }
-{
-    (r as u16) / 8 * 2048 + (g as u16) / 4 * 32 + (b as u16) / 8
+impl PlainWord for u16 {
+    fn of(r: u8, g: u8, b: u8) -> u16 {
+        (r as u16) / 8 * 2048 + (g as u16) / 4 * 32 + (b as u16) / 8
+    }
 }
 
 // 02, request Thirteen: "words of 32 bits: R x 65536 + G x 256 + B."
-fn pack_32(r: u8, g: u8, b: u8) -> u32
-    ensures { result ≡ pack888 r g b }
-{
-    (r as u32) * 65536 + (g as u32) * 256 + (b as u32)
+impl PlainWord for u32 {
+    fn of(r: u8, g: u8, b: u8) -> u32 {
+        (r as u32) * 65536 + (g as u32) * 256 + (b as u32)
+    }
 }
 
-fn word(y: i32, cb: i32, cr: i32) -> u16
+fn word<W: PlainWord>(y: i32, cb: i32, cr: i32) -> W
     requires { Near 268435456 y × Near 268435456 cb × Near 268435456 cr }
-    ensures { result ≡ word_of 0 y cb cr }
+    ensures { W.number result ≡ word_of W.GLASS y cb cr }
 {
-    pack(red(y, cr), green(y, cb, cr), blue(y, cb))
-}
-
-fn word_32(y: i32, cb: i32, cr: i32) -> u32
-    requires { Near 268435456 y × Near 268435456 cb × Near 268435456 cr }
-    ensures { result ≡ word_of 1 y cb cr }
-{
-    pack_32(red(y, cr), green(y, cb, cr), blue(y, cb))
+    W::of(red(y, cr), green(y, cb, cr), blue(y, cb))
 }
 
 // The word at place i of a tile.
-fn pixel(ys: &[i32], cbs: &[i32], crs: &[i32], i: usize) -> u16
+fn pixel<W: PlainWord>(ys: &[i32], cbs: &[i32], crs: &[i32], i: usize) -> W
     requires { (i < 4096) × Plane ys.now × Plane cbs.now × Plane crs.now }
-    ensures { result ≡ word_at 0 ys.now cbs.now crs.now i }
+    ensures { W.number result ≡ word_at W.GLASS ys.now cbs.now crs.now i }
 {
     word(ys[i], cbs[i], crs[i])
 }
 
-fn pixel_32(ys: &[i32], cbs: &[i32], crs: &[i32], i: usize) -> u32
-    requires { (i < 4096) × Plane ys.now × Plane cbs.now × Plane crs.now }
-    ensures { result ≡ word_at 1 ys.now cbs.now crs.now i }
-{
-    word_32(ys[i], cbs[i], crs[i])
-}
-
-// A tile's 4,096 pixels, on a glass of 16 bits.
-pub fn pixels(ys: &[i32], cbs: &[i32], crs: &[i32], words: &mut [u16])
+// A tile's 4,096 pixels, on a glass of either size.
+pub fn pixels<W: PlainWord>(ys: &[i32], cbs: &[i32], crs: &[i32], words: &mut [W])
     requires { (length words.old ≡ 4096) × Plane ys.now × Plane cbs.now × Plane crs.now }
-    ensures { Words 0 ys.now cbs.now crs.now words.new }
+    ensures { Words W.GLASS ys.now cbs.now crs.now (map W.number words.new) }
 {
     for i in 0..4096 {
         words[i] = pixel(ys, cbs, crs, i);
-    }
-}
-
-// The same on a glass of 32 bits.
-pub fn pixels_32(ys: &[i32], cbs: &[i32], crs: &[i32], words: &mut [u32])
-    requires { (length words.old ≡ 4096) × Plane ys.now × Plane cbs.now × Plane crs.now }
-    ensures { Words 1 ys.now cbs.now crs.now words.new }
-{
-    for i in 0..4096 {
-        words[i] = pixel_32(ys, cbs, crs, i);
     }
 }

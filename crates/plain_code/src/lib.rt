@@ -5,14 +5,16 @@
 
 ghost use Rattle.std.specs.Prelude.{◌≡◌, ◌+◌, ◌*◌, ◌-◌, ◌/◌, ◌<◌, ◌≤◌, ◌^◌, min, false, length, get_or, drop, replicate, pos, ltb};
 ghost use Rattle.bits.specs.Bits.{val, bits_of, num_of, gr_of};
+ghost use Rattle.wire.specs.Refusal.{refusal_number};
 ghost use Rattle.code.specs.Fold.{unfold_z};
 ghost use Rattle.code.specs.Code.{kr_after, kp_one, kp_two, raised, size};
-ghost use Rattle.code.specs.ReadList.{state_at, refusal_number, one_elem, two_elem, run_elem, wide as tooWide, no_second_place, elem_of};
+ghost use Rattle.code.specs.ReadList.{state_at, one_elem, two_elem, run_elem, wide as tooWide, no_second_place, elem_of};
 ghost use Rattle.code.specs.Read.{clean, reading_number, CodeRead, ComponentRead};
 ghost use Rattle.plain_code.specs.Zeros.{ones_in, num_in, gr_in, judged_of};
 
-use code::element::{Element, Refusal, State};
+use code::element::{Element, State};
 use code::read::Reading;
+use wire::Refusal;
 
 // ---- "Bits go high bit first."
 
@@ -32,6 +34,7 @@ fn ones(s: &[u8], from: usize) -> usize
     ensures { result ≡ ones_in (drop from (bits_of s.now)) }
 {
     let mut v: usize = 0;
+    // (A `while`, here and below: how often is what the bits say.)
     while bit(s, from + v) == 1 {
         v += 1;
     }
@@ -79,13 +82,13 @@ fn more(kp: usize, d: usize) -> usize
     requires { kp ≤ 80 }
     ensures { result ≡ raised d kp }
 {
-    if 80 - kp < d { 80 } else { kp + d }
+    kp + d.min(80 - kp)
 }
 
 fn less(kp: usize, d: usize) -> usize
     ensures { result ≡ kp - d }
 {
-    if kp < d { 0 } else { kp - d }
+    kp.saturating_sub(d)
 }
 
 // "Then krp falls by 2 if v = 0, rises by v if v > 1."
@@ -122,24 +125,24 @@ fn kp_two(kp: usize, a: usize, b: usize) -> usize
 
 // ---- one element, "read in full (1) before it is judged, 9 before 10"
 
-fn judged(s: &[u8], next: usize, range: bool, overrun: bool, e: Element) -> Element
+fn judged(s: &[u8], next: usize, range: bool, overrun: bool, e: Element) -> Result<Element, Refusal>
     requires { length s.now ≤ 65535 }
     ensures { result ≡ judged_of (ltb (length s.now * 8) next) range overrun e }
 {
     if s.len() * 8 < next {
-        return Element::Refused(Refusal::Cut);
+        return Err(Refusal::Cut);
     }
     if range {
-        return Element::Refused(Refusal::Range);
+        return Err(Refusal::Range);
     }
     if overrun {
-        return Element::Refused(Refusal::Overrun);
+        return Err(Refusal::Overrun);
     }
-    e
+    Ok(e)
 }
 
 // "k = 0, RLGR1: GR g."
-fn one(s: &[u8], c: State) -> Element
+fn one(s: &[u8], c: State) -> Result<Element, Refusal>
     requires { (length s.now ≤ 65535) × (c.at ≤ 524280) × (c.kp ≤ 80) × (c.krp ≤ 80) }
     ensures { result ≡ one_elem c.kp c.krp (gr_of (c.krp / 8) c.at (bits_of s.now)) }
 {
@@ -177,7 +180,7 @@ fn lone(left: usize, b: usize) -> bool
 }
 
 // "k = 0, RLGR3: GR g, then as many bits as g has give the first half, g less that the second"
-fn two(s: &[u8], c: State, left: usize) -> Element
+fn two(s: &[u8], c: State, left: usize) -> Result<Element, Refusal>
     requires { (length s.now ≤ 65535) × (c.at ≤ 524280) × (c.kp ≤ 80) × (c.krp ≤ 80) }
     ensures { result ≡ two_elem c.kp c.krp left (bits_of s.now) (gr_of (c.krp / 8) c.at (bits_of s.now)) }
 {
@@ -192,7 +195,7 @@ fn two(s: &[u8], c: State, left: usize) -> Element
 
 // "k > 0: each bit 0 is 2^k zeros, then kp + 4."
 // "Bit 1: k bits give the remaining zeros, then a sign bit (1 negative), then GR + 1 is the magnitude"; "kp - 6"
-fn run(s: &[u8], c: State, left: usize) -> Element
+fn run(s: &[u8], c: State, left: usize) -> Result<Element, Refusal>
     requires { (length s.now ≤ 65535) × (c.at ≤ 524280) × (c.kp ≤ 80) × (c.krp ≤ 80) }
     ensures { result ≡ run_elem c.kp c.krp left (bits_of s.now) (num_of 1 0 c.at (drop c.at (bits_of s.now))) }
 {
@@ -212,7 +215,7 @@ fn run(s: &[u8], c: State, left: usize) -> Element
 }
 
 // "always k = floor(kp/8)"
-fn element(s: &[u8], rlgr3: bool, c: State, left: usize) -> Element
+fn element(s: &[u8], rlgr3: bool, c: State, left: usize) -> Result<Element, Refusal>
     requires { (length s.now ≤ 65535) × (c.at ≤ 524280) × (c.kp ≤ 80) × (c.krp ≤ 80) }
     ensures { result ≡ elem_of rlgr3 c.kp c.krp left c.at (bits_of s.now) }
 {
@@ -245,23 +248,12 @@ fn clean_tail(s: &[u8], at: usize) -> bool
     left < 8 && number(s, at, left) == 0
 }
 
-// "1 cut", "9 range", "10 overrun"
-fn refusal_number(r: Refusal) -> u8
-    ensures { result ≡ refusal_number r }
-{
-    match r {
-        Refusal::Cut => 1,
-        Refusal::Range => 9,
-        Refusal::Overrun => 10,
-    }
-}
-
 // "A full run reaching or passing the 4,096th place is clipped there": n places past i.
 fn onward(i: usize, n: usize) -> usize
     requires { i ≤ 4096 }
     ensures { result ≡ min 4096 (i + n) }
 {
-    4096 - less(4096 - i, n)
+    i + n.min(4096 - i)
 }
 
 // "Start: kp = 8, krp = 8". A code and its tail, into a list of zeros.
@@ -273,19 +265,19 @@ fn read_code(rlgr3: bool, s: &[u8], list: &mut [i32]) -> Reading
     let mut i: usize = 0;
     while i < 4096 {
         match element(s, rlgr3, c, 4096 - i) {
-            Element::Refused(r) => {
-                return Reading::Refused(refusal_number(r));
+            Err(refusal) => {
+                return Reading::Refused(refusal);
             }
-            Element::Zeros(z, t) => {
+            Ok(Element::Zeros(z, t)) => {
                 i = onward(i, z);
                 c = t;
             }
-            Element::One(z, v, t) => {
+            Ok(Element::One(z, v, t)) => {
                 list[i + z] = unfolded(v);
                 i = i + z + 1;
                 c = t;
             }
-            Element::Two(a, b, t) => {
+            Ok(Element::Two(a, b, t)) => {
                 list[i] = unfolded(a);
                 if i < 4095 {
                     list[i + 1] = unfolded(b);
@@ -295,19 +287,37 @@ fn read_code(rlgr3: bool, s: &[u8], list: &mut [i32]) -> Reading
             }
         }
     }
-    let at = c.at;
-    if clean_tail(s, at) {
-        return Reading::Done(at);
+    if clean_tail(s, c.at) {
+        return Reading::Done(c.at);
     }
-    Reading::Tail(at)
+    Reading::Tail(c.at)
 }
 
 // Every place 0.
 pub fn clear(list: &mut [i32])
     ensures { list.new ≡ replicate (length list.old) (pos 0) }
 {
-    for i in 0..list.len() {
-        list[i] = 0;
+    list.fill(0);
+}
+
+// 01's table of numbers. (No function of the product is called, `number` of wire's `Numbered` neither.)
+fn refusal_number(refusal: Refusal) -> u8
+    ensures { result ≡ refusal_number refusal }
+{
+    match refusal {
+        Refusal::Cut => 1,
+        Refusal::Buffer => 2,
+        Refusal::Kind => 3,
+        Refusal::Length => 4,
+        Refusal::Field => 5,
+        Refusal::TooBig => 6,
+        Refusal::Quant => 7,
+        Refusal::Place => 8,
+        Refusal::Range => 9,
+        Refusal::Overrun => 10,
+        Refusal::Tail => 11,
+        Refusal::Order => 12,
+        Refusal::Room => 13,
     }
 }
 
@@ -316,9 +326,9 @@ pub fn reading_number(r: Reading) -> u8
     ensures { result ≡ reading_number r }
 {
     match r {
-        Reading::Done(bits) => 0,
-        Reading::Tail(bits) => 11,
-        Reading::Refused(number) => number,
+        Reading::Done(_) => 0,
+        Reading::Tail(_) => 11,
+        Reading::Refused(refusal) => refusal_number(refusal),
     }
 }
 
@@ -328,13 +338,13 @@ pub fn read_component(mode: u8, s: &[u8], list: &mut [i32]) -> Reading
     ensures { ComponentRead mode s.now list.old list.new result }
 {
     if mode != 1 && mode != 4 {
-        return Reading::Refused(5);
+        return Reading::Refused(Refusal::Field);
     }
     if list.len() != 4096 {
-        return Reading::Refused(2);
+        return Reading::Refused(Refusal::Buffer);
     }
     if 65535 < s.len() {
-        return Reading::Refused(6);
+        return Reading::Refused(Refusal::TooBig);
     }
     clear(list);
     let r = read_code(mode == 4, s, list);

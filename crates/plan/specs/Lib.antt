@@ -1,3 +1,4 @@
+pub mod Answer
 pub mod Plan
 pub mod Made
 pub mod Runs

@@ -1,12 +1,13 @@
 -- 02's request Eleven, checker and planner, over the calls: what a caller can rely on, sentence by sentence. `request_eleven` (specs/laws/Request)
 -- proves all of it.
 -- (01 is this project's scope document, 02 its change requests, 001 is MS-RDPRFX: README, "What 01 is".)
-use Rattle.std.specs.Prelude.{ℕ, ◌≤◌, ◌<◌, ◌≡◌, true, List, length, take, drop}
+use Rattle.std.specs.Prelude.{ℕ, ◌≤◌, ◌<◌, ◌≡◌, true, List, length, take, drop, Result}
 use Rattle.frame_pieces.specs.Parts.{tiles_no}
 use Rattle.plan.specs.Plan.{is_listed, plan_fault, changed, Size, Lengths, Pictures}
 use Rattle.plan.specs.Facts.{Unchanged, PixelOf, SamePixel, StrictlyRising, AllExist, AllListed, Contains, Acceptable}
-use Rattle.plan.specs.Made.{planned_number, planned_count, PlanMade, MakePlanCall}
-use Rattle.plan.specs.declared.make.Planned.{Planned}
+use Rattle.plan.specs.Made.{PlanMade, MakePlanCall}
+use Rattle.wire.specs.Refusal.{number_of, count_of}
+use Rattle.wire.specs.declared.Refusal.{Refusal}
 
 -- ---- the calls: what was given, what was answered, what lent memory holds afterwards (marked '), and that the call's promise holds of them
 
@@ -28,12 +29,12 @@ pub record MakePlan : Type 0 where
   pub new : List ℕ
   pub out : List ℕ
   pub out' : List ℕ
-  pub answer : Planned
+  pub answer : Result ℕ Refusal
   pub promise : PlanMade width height old new out out' answer
 
 -- the numbers that it listed
 abbrev pub planned_by : MakePlan → List ℕ
-planned_by m = take (planned_count m.answer) m.out'
+planned_by m = take (count_of m.answer) m.out'
 
 -- both calls were given the same pictures
 pub record SamePictures (m : MakePlan) (c : CheckPlan) : Type 0 where
@@ -89,15 +90,15 @@ pub record RequestEleven : Type 0 where
   pub listed_differ : (w h : ℕ) (old new : List ℕ) (k : ℕ) → is_listed k (changed old new w h) ≡ true → (k < tiles_no w h) × (Unchanged old new w h k → ⊥)
   pub differ_listed : (w h : ℕ) (old new : List ℕ) (k : ℕ) → k < tiles_no w h → (Unchanged old new w h k → ⊥) → is_listed k (changed old new w h) ≡ true
   -- what it listed is the definition's list, in front of the list that it was lent; the rest is untouched
-  pub lists : (m : MakePlan) → planned_number m.answer ≡ 0 → planned_by m ≡ changed m.old m.new m.width m.height
+  pub lists : (m : MakePlan) → number_of m.answer ≡ 0 → planned_by m ≡ changed m.old m.new m.width m.height
   pub rest_untouched :
-      (m : MakePlan) → planned_number m.answer ≡ 0 → drop (planned_count m.answer) m.out' ≡ drop (planned_count m.answer) m.out
+      (m : MakePlan) → number_of m.answer ≡ 0 → drop (count_of m.answer) m.out' ≡ drop (count_of m.answer) m.out
   -- refused, nothing is written
-  pub refused_untouched : (m : MakePlan) → (planned_number m.answer ≡ 0 → ⊥) → m.out' ≡ m.out
+  pub refused_untouched : (m : MakePlan) → (number_of m.answer ≡ 0 → ⊥) → m.out' ≡ m.out
   -- its list is always accepted: the definition's, and what one call listed by the other call
   pub own_list : (w h : ℕ) (old new : List ℕ) → Pictures w h old new → plan_fault w h old new (changed old new w h) ≡ 0
   pub plan_accepted :
-      (m : MakePlan) (c : CheckPlan) → planned_number m.answer ≡ 0 → SamePictures m c → c.picks ≡ planned_by m → c.answer ≡ 0
+      (m : MakePlan) (c : CheckPlan) → number_of m.answer ≡ 0 → SamePictures m c → c.picks ≡ planned_by m → c.answer ≡ 0
   -- every accepted list contains it, and none is shorter
   pub contained : (w h : ℕ) (old new ks : List ℕ) → plan_fault w h old new ks ≡ 0 → Contains ks (changed old new w h)
   pub none_shorter : (w h : ℕ) (old new ks : List ℕ) → plan_fault w h old new ks ≡ 0 → length (changed old new w h) ≤ length ks
@@ -111,7 +112,7 @@ pub record RequestEleven : Type 0 where
       → c.picks ≡ d.picks
       → c.answer ≡ d.answer
   pub one_answer :
-      (w h : ℕ) (old new out a b : List ℕ) (r q : Planned) → PlanMade w h old new out a r → PlanMade w h old new out b q → (r ≡ q) × (a ≡ b)
+      (w h : ℕ) (old new out a b : List ℕ) (r q : Result ℕ Refusal) → PlanMade w h old new out a r → PlanMade w h old new out b q → (r ≡ q) × (a ≡ b)
   pub one_call :
       (w h : ℕ) (old new out a b : List ℕ) (i j m n : ℕ)
       → MakePlanCall w h old new out a i m

@@ -1,3 +1,4 @@
+pub mod Answer
 pub mod All
 pub mod Same
 pub mod Lists

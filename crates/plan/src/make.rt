@@ -2,34 +2,9 @@
 ghost use Rattle.std.specs.Prelude.{◌≡◌, ◌≤◌, length, leb};
 ghost use Rattle.wire.specs.Le.{written};
 ghost use Rattle.plan.specs.Plan.{Pictures, changed};
-ghost use Rattle.plan.specs.Made.{planned_number, planned_count, PlanMade};
+ghost use Rattle.plan.specs.Made.{PlanMade};
 
-// What planning came to: how many numbers stand in the list that was lent, or 01's number.
-#[derive(Clone, Copy)]
-pub enum Planned {
-    Listed(usize),
-    Refused(u8),
-}
-
-// 01's number.
-pub fn planned_number(p: Planned) -> u8
-    ensures { result ≡ planned_number p }
-{
-    match p {
-        Planned::Listed(count) => 0,
-        Planned::Refused(number) => number,
-    }
-}
-
-// How many numbers are listed, refused 0.
-pub fn planned_count(p: Planned) -> usize
-    ensures { result ≡ planned_count p }
-{
-    match p {
-        Planned::Listed(count) => count,
-        Planned::Refused(number) => 0,
-    }
-}
+use wire::Refusal;
 
 // How many tiles differ?
 fn count_changed(w: usize, h: usize, old: &[u8], new: &[u8]) -> usize
@@ -38,12 +13,10 @@ fn count_changed(w: usize, h: usize, old: &[u8], new: &[u8]) -> usize
 {
     let n = frame_pieces::tiles_no(w, h);
     let mut count: usize = 0;
-    let mut k = 0;
-    while k < n {
+    for k in 0..n {
         if crate::same::is_changed(w, h, old, new, k) {
             count += 1;
         }
-        k += 1;
     }
     count
 }
@@ -66,27 +39,28 @@ fn list_changed(w: usize, h: usize, old: &[u8], new: &[u8], out: &mut [u32]) -> 
 {
     let n = frame_pieces::tiles_no(w, h);
     let mut i: usize = 0;
-    let mut k = 0;
-    while k < n {
+    for k in 0..n {
         if crate::same::is_changed(w, h, old, new, k) {
             out[i] = k as u32;
             i += 1;
         }
-        k += 1;
     }
     i
 }
 
 // The planner, for any input: the numbers of the tiles that differ, rising, into the list that is lent. Refused (5, 2, 13) it is untouched.
-pub fn make_plan(width: usize, height: usize, old: &[u8], new: &[u8], out: &mut [u32]) -> Planned
+pub fn make_plan(
+    width: usize,
+    height: usize,
+    old: &[u8],
+    new: &[u8],
+    out: &mut [u32],
+) -> Result<usize, Refusal>
     ensures { PlanMade width height old.now new.now out.old out.new result }
 {
-    let fault = crate::check::pictures_judge(width, height, old.len(), new.len());
-    if fault != 0 {
-        return Planned::Refused(fault);
-    }
+    crate::check::pictures_judge(width, height, old.len(), new.len())?;
     if !has_room(width, height, old, new, out.len()) {
-        return Planned::Refused(13);
+        return Err(Refusal::Room);
     }
-    Planned::Listed(list_changed(width, height, old, new, out))
+    Ok(list_changed(width, height, old, new, out))
 }

@@ -11,12 +11,10 @@ fn same_run(a: &[u8], b: &[u8], at: usize, n: usize) -> bool
     ensures { result ≡ same_run a.now b.now at n }
 {
     let mut same = true;
-    let mut i = 0;
-    while i < n {
+    for i in 0..n {
         if a[at + i] != b[at + i] {
             same = false;
         }
-        i += 1;
     }
     same
 }
@@ -29,12 +27,10 @@ fn same_rows(a: &[u8], b: &[u8], at: usize, step: usize, n: usize, rows: usize) 
     if n == step {
         return same_run(a, b, at, rows * n);
     }
-    let mut r = 0;
-    while r < rows {
+    for r in 0..rows {
         if !same_run(a, b, at + r * step, n) {
             return false;
         }
-        r += 1;
     }
     true
 }
@@ -43,10 +39,7 @@ fn same_rows(a: &[u8], b: &[u8], at: usize, step: usize, n: usize, rows: usize) 
 fn within(left: usize) -> usize
     ensures { result ≡ min left 64 }
 {
-    if left < 64 {
-        return left;
-    }
-    64
+    left.min(64)
 }
 
 // Does tile k differ?

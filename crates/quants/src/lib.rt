@@ -19,16 +19,7 @@ pub struct Quants {
 pub fn is_same(q: Quants) -> bool
     ensures { result ≡ same q }
 {
-    let a = q.luma;
-    let b = q.chroma;
-    let mut i = 0;
-    while i < 10 {
-        if a.v[i] != b.v[i] {
-            return false;
-        }
-        i += 1;
-    }
-    true
+    q.luma == q.chroma
 }
 
 // The set of component c: 0 is Y, 1 Cb, 2 Cr.

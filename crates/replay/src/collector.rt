@@ -1,7 +1,7 @@
 // The records of a recording for the collector (document 02, request One): a fresh one over a store, another length of the store, a hand-over, a reset, and a
 // stream in pieces whose parts go to their calls. A store holds A5 where nothing was gathered in it.
 use app_calls::calls::Lengths;
-use app_records::taking::Record;
+use app_records::taking::{Record, Stored};
 use collect::Collector;
 use session::Session;
 
@@ -15,11 +15,9 @@ pub struct Store {
 
 // There is no store so long.
 fn none(k: Store) -> Store {
-    let c = k.c;
     Store {
-        c: c,
         lent: usize::MAX,
-        filled: k.filled,
+        ..k
     }
 }
 
@@ -28,20 +26,11 @@ fn set_collector(k: Store, store: &mut [u8], n: usize) -> Store {
     if store.len() < n {
         return none(k);
     }
-    app_recording::lent::fill_bytes(&mut store[0..n], 0xA5);
+    store[0..n].fill(0xA5);
     Store {
         c: collect::reset(),
         lent: n,
         filled: n,
-    }
-}
-
-fn lent(k: Store, n: usize, filled: usize) -> Store {
-    let c = k.c;
-    Store {
-        c: c,
-        lent: n,
-        filled: filled,
     }
 }
 
@@ -52,18 +41,17 @@ fn set_store(k: Store, store: &mut [u8], n: usize) -> Store {
         return none(k);
     }
     if filled < n {
-        app_recording::lent::fill_bytes(&mut store[filled..n], 0xA5);
-        return lent(k, n, n);
+        store[filled..n].fill(0xA5);
     }
-    lent(k, n, filled)
+    Store {
+        lent: n,
+        filled: filled.max(n),
+        ..k
+    }
 }
 
 fn after(k: Store, c: Collector) -> Store {
-    Store {
-        c: c,
-        lent: k.lent,
-        filled: k.filled,
-    }
+    Store { c, ..k }
 }
 
 // 't': one hand-over.
@@ -87,13 +75,12 @@ fn reset(k: Store, store: &[u8]) -> Store {
 }
 
 // One record but for 'g'.
-pub fn stored(k: Store, r: Record, m: &[u8], store: &mut [u8]) -> Store {
-    let letter = r.letter;
-    match letter {
-        b'k' => set_collector(k, store, app_records::taking::figure(m, 0)),
-        b'l' => set_store(k, store, app_records::taking::figure(m, 0)),
-        b't' => take(k, app_records::taking::one(m, r), store),
-        _ => reset(k, store),
+pub fn stored(kind: Stored, k: Store, r: Record, m: &[u8], store: &mut [u8]) -> Store {
+    match kind {
+        Stored::Collector => set_collector(k, store, app_records::taking::figure(m, 0)),
+        Stored::Length => set_store(k, store, app_records::taking::figure(m, 0)),
+        Stored::Take => take(k, app_records::taking::one(m, r), store),
+        Stored::Reset => reset(k, store),
     }
 }
 
@@ -112,7 +99,7 @@ fn size_at(cuts: &[u8], i: usize) -> usize {
 
 // The next bytes of a message from a place on, as many as are asked for, or all that are left.
 fn piece(m: &[u8], at: usize, size: usize) -> &[u8] {
-    let left = app_calls::given::rest(m, at);
+    let left = app_text::loading::rest(m, at);
     if left.len() < size {
         return left;
     }
@@ -130,24 +117,19 @@ fn pieces(
 ) -> app_calls::given::Desk {
     let mut g = e;
     let mut at: usize = 0;
-    let mut i: usize = 0;
-    let mut turns = turns_of(cuts);
-    while 0 < turns {
+    for i in 0..turns_of(cuts) {
         let p = piece(message, at, size_at(cuts, i));
         g = app_calls::given::give(g, p, store, picture, n, false);
-        at = std::num::wrapping_add_usize(at, p.len());
-        i = std::num::wrapping_add_usize(i, 1);
-        turns -= 1;
+        at = at.wrapping_add(p.len());
     }
     g
 }
 
-// The session's record and the collector's after a 'g', and whether there were lists, a store and a picture as asked for.
+// The session's record and the collector's after a 'g'.
 #[derive(Clone, Copy)]
 pub struct Played {
     pub s: Session,
     pub c: Collector,
-    pub made: bool,
 }
 
 fn lists_fit(n: Lengths) -> bool {
@@ -156,45 +138,12 @@ fn lists_fit(n: Lengths) -> bool {
 
 // The line of a 'g', and what it leaves.
 fn said(e: app_calls::given::Desk, h: u64) -> Played {
-    let s = e.s;
-    let c = e.c;
-    app_answers::lines::say_given(e.headers == 0 && e.frames == 0, c, s, h);
-    Played {
-        s: s,
-        c: c,
-        made: true,
-    }
+    app_answers::lines::say_given(e.headers == 0 && e.frames == 0, e.c, e.s, h);
+    Played { s: e.s, c: e.c }
 }
 
-// 'g': a stream in pieces, each rest given again until it is taken or refused; every part that is handed on goes to its call. Store and picture are what is lent.
-fn play(
-    e: app_calls::given::Desk,
-    r: Record,
-    m: &[u8],
-    store: &mut [u8],
-    picture: &mut [u16],
-) -> Played {
-    let n = app_records::frames::lengths(m);
-    if !lists_fit(n) {
-        return unplayed(e);
-    }
-    let cuts = app_records::taking::one(m, r);
-    let g = pieces(e, app_records::taking::two(m, r), cuts, store, picture, n);
-    said(g, app_recording::lent::hash_words(picture))
-}
-
-// Nothing was made.
-fn unplayed(e: app_calls::given::Desk) -> Played {
-    let s = e.s;
-    let c = e.c;
-    Played {
-        s: s,
-        c: c,
-        made: false,
-    }
-}
-
-// The same on the memory of which the first bytes and words are lent.
+// 'g': a stream in pieces, each rest given again until it is taken or refused; every part that is handed on goes to its call. Store and picture are what is lent;
+// none where there are no lists, no store or no picture as asked for.
 pub fn give(
     e: app_calls::given::Desk,
     r: Record,
@@ -203,12 +152,14 @@ pub fn give(
     lent: usize,
     picture: &mut [u16],
     words: usize,
-) -> Played {
-    if store.len() < lent {
-        return unplayed(e);
+) -> Option<Played> {
+    let store = store.get_mut(..lent)?;
+    let picture = picture.get_mut(..words)?;
+    let n = app_records::frames::lengths(m);
+    if !lists_fit(n) {
+        return None;
     }
-    if picture.len() < words {
-        return unplayed(e);
-    }
-    play(e, r, m, &mut store[0..lent], &mut picture[0..words])
+    let cuts = app_records::taking::one(m, r);
+    let g = pieces(e, app_records::taking::two(m, r), cuts, store, picture, n);
+    Some(said(g, app_recording::lent::hash(picture)))
 }

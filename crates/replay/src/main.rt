@@ -10,7 +10,8 @@ mod records;
 use crate::collector::Store;
 use crate::records::Desk;
 use app_calls::calls::Lengths;
-use app_records::taking::Record;
+use app_recording::read::Input;
+use app_records::taking::{Kind, Record, Stored};
 
 // A stream through the collector, on a picture of 16-bit words: recordings have no other.
 fn given(d: Desk, r: Record, m: &[u8], store: &mut [u8], picture: &mut [u16]) -> Desk {
@@ -18,95 +19,25 @@ fn given(d: Desk, r: Record, m: &[u8], store: &mut [u8], picture: &mut [u16]) ->
         return crate::records::bad(d);
     }
     let e = app_calls::given::fresh(d.s, d.c);
-    let p = crate::collector::give(e, r, m, store, d.lent, picture, d.picture);
-    if !p.made {
-        return crate::records::bad(d);
+    match crate::collector::give(e, r, m, store, d.lent, picture, d.picture) {
+        Some(p) => crate::records::with_records(d, p.s, p.c),
+        None => crate::records::bad(d),
     }
-    crate::records::with_records(d, p.s, p.c)
 }
 
-// One record for the collector.
-fn collected(d: Desk, r: Record, m: &[u8], store: &mut [u8], picture: &mut [u16]) -> Desk {
-    if r.letter == b'g' {
-        return given(d, r, m, store, picture);
-    }
-    let c = d.c;
+// One record for the collector, but for a stream.
+fn collected(kind: Stored, d: Desk, r: Record, m: &[u8], store: &mut [u8]) -> Desk {
     let k = Store {
-        c: c,
+        c: d.c,
         lent: d.lent,
         filled: d.filled,
     };
-    crate::records::with_store(d, crate::collector::stored(k, r, m, store))
-}
-
-// What a record does that makes no call: a new case, the end, a recording that is bad.
-fn other(d: Desk, letter: u8) -> Desk {
-    match letter {
-        b'N' => crate::records::fresh(),
-        0 => crate::records::stopped(d),
-        _ => crate::records::bad(d),
-    }
-}
-
-// How a record is answered: 1 by a line alone, 2 by output, 3 by another session record, 0 by none of them.
-fn kind_of(letter: u8) -> u8 {
-    match letter {
-        b'C' | b'D' | b's' | b'S' | b'a' | b'd' | b'i' | b'c' | b'p' => 1,
-        b'W' | b'X' | b'w' | b'b' | b'e' | b'j' | b'Z' | b'y' | b'q' => 2,
-        b'R' | b'T' | b'H' | b'Y' => 3,
-        _ => 0,
-    }
-}
-
-// One record without a picture.
-fn plain(d: Desk, r: Record, m: &[u8], out: &mut [u8]) -> Desk {
-    match kind_of(r.letter) {
-        1 => {
-            let last = app_text::loading::first(out, d.written);
-            crate::records::after_told(d, app_records::told::told(r, m, last))
-        }
-        2 => crate::records::with_written(d, app_records::wrote::wrote(r, m, out)),
-        3 => {
-            let last = app_text::loading::first(out, d.written);
-            crate::records::with_session(d, app_records::known::known(d.s, r, m, last))
-        }
-        _ => other(d, r.letter),
-    }
+    crate::records::with_store(d, crate::collector::stored(kind, k, r, m, store))
 }
 
 // A frame call on the picture that is lent.
 fn framed_on(d: Desk, bytes: &[u8], n: Lengths, picture: &mut [u16], wide: &mut [u32]) -> bool {
     app_records::frames::frame(d.s, bytes, n, d.picture, d.wide, picture, wide)
-}
-
-// A frame call on a message, or on what was written last.
-fn framed(d: Desk, r: Record, m: &[u8], out: &[u8], picture: &mut [u16], wide: &mut [u32]) -> bool {
-    let n = app_records::frames::lengths(m);
-    if r.letter == b'F' {
-        return framed_on(d, app_records::taking::one(m, r), n, picture, wide);
-    }
-    let last = app_text::loading::first(out, d.written);
-    framed_on(d, last, n, picture, wide)
-}
-
-// One record but for the collector.
-fn drawn(
-    d: Desk,
-    r: Record,
-    m: &[u8],
-    out: &mut [u8],
-    picture: &mut [u16],
-    wide: &mut [u32],
-) -> Desk {
-    let letter = r.letter;
-    match letter {
-        b'P' => {
-            let n = app_records::frames::set_picture(m, picture, wide);
-            crate::records::with_picture(d, n, app_records::frames::is_wide(m))
-        }
-        b'F' | b'G' => crate::records::after_told(d, framed(d, r, m, out, picture, wide)),
-        _ => plain(d, r, m, out),
-    }
 }
 
 // One record.
@@ -119,57 +50,76 @@ fn make(
     picture: &mut [u16],
     wide: &mut [u32],
 ) -> Desk {
-    let letter = r.letter;
-    match letter {
-        b'k' | b'l' | b't' | b'r' | b'g' => collected(d, r, m, store, picture),
-        _ => drawn(d, r, m, out, picture, wide),
+    let last = app_text::loading::first(out, d.written);
+    let n = app_records::frames::lengths(m);
+    match r.kind {
+        Kind::Told(kind) => {
+            crate::records::after_told(d, app_records::told::told(kind, r, m, last))
+        }
+        Kind::Wrote(kind) => {
+            crate::records::with_written(d, app_records::wrote::wrote(kind, r, m, out))
+        }
+        Kind::Known(kind) => {
+            crate::records::with_session(d, app_records::known::known(kind, d.s, r, m, last))
+        }
+        Kind::Stored(kind) => collected(kind, d, r, m, store),
+        Kind::Given => given(d, r, m, store, picture),
+        Kind::Picture => {
+            let words = app_records::frames::set_picture(m, picture, wide);
+            crate::records::with_picture(d, words, app_records::frames::is_wide(m))
+        }
+        Kind::Frame => {
+            let bytes = app_records::taking::one(m, r);
+            crate::records::after_told(d, framed_on(d, bytes, n, picture, wide))
+        }
+        Kind::FrameBack => crate::records::after_told(d, framed_on(d, last, n, picture, wide)),
+        Kind::Fresh => crate::records::fresh(),
     }
 }
 
-// A proved loop ends, and nothing says that an input does: the turns are counted down from a number that no run uses up.
+// A proved loop ends, and nothing says that an input does: the turns are counted up to a number that no run comes to.
 fn run(
-    rt: &HostRuntime,
-    input: &mut [u8],
+    input: &mut Input,
     message: &mut [u8],
     out: &mut [u8],
     store: &mut [u8],
     picture: &mut [u16],
     wide: &mut [u32],
 ) {
-    let mut from = app_recording::read::start();
     let mut d = crate::records::fresh();
-    let mut turns = u64::MAX;
-    while 0 < turns && d.go {
-        let came = app_records::taking::take(rt, input, from, message);
-        d = make(d, came.record, message, out, store, picture, wide);
-        from = came.from;
-        turns -= 1;
+    for _ in 0..u64::MAX {
+        match app_records::taking::take(input, message) {
+            Ok(Some(r)) => d = make(d, r, message, out, store, picture, wide),
+            Ok(None) => return,
+            Err(_) => d = crate::records::bad(d),
+        }
+        if !d.go {
+            return;
+        }
     }
 }
 
 // The large ones come as arrays: their lengths are known without counting to a million.
 fn run_in(
-    rt: &HostRuntime,
-    input: &mut [u8],
+    input: &mut Input,
     message: &mut [u8; 1114112],
     out: &mut [u8; 1048576],
     store: &mut [u8; 1048576],
     picture: &mut [u16; 1048576],
     wide: &mut [u32; 131072],
 ) {
-    run(rt, input, message, out, store, picture, wide);
+    run(input, message, out, store, picture, wide);
 }
 
 fn main(rt: HostRuntime) {
-    let mut input = [0u8; 65536];
+    let mut lent = [0u8; 65536];
     let mut message = [0u8; 1114112];
     let mut out = [0u8; 1048576];
     let mut store = [0u8; 1048576];
     let mut picture = [0u16; 1048576];
     let mut wide = [0u32; 131072];
     run_in(
-        &rt,
-        &mut input,
+        &mut Input::new(rt.stdin(), &mut lent),
         &mut message,
         &mut out,
         &mut store,

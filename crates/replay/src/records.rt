@@ -26,18 +26,7 @@ pub struct Desk {
 pub fn stopped(d: Desk) -> Desk
     ensures { result ≡ stopped_desk d }
 {
-    let s = d.s;
-    let c = d.c;
-    Desk {
-        s: s,
-        c: c,
-        picture: d.picture,
-        wide: d.wide,
-        written: d.written,
-        lent: d.lent,
-        filled: d.filled,
-        go: false,
-    }
+    Desk { go: false, ..d }
 }
 
 // The recording asks for too much, or is cut.
@@ -53,24 +42,8 @@ pub fn fresh() -> Desk
     ensures { result ≡ fresh_desk }
 {
     Desk {
-        s: Session {
-            headers: 0,
-            mode: 0,
-            width: 0,
-            height: 0,
-            columns: 0,
-            rows: 0,
-            words: 0,
-            glass: 0,
-        },
-        c: Collector {
-            held: 0,
-            end: 0,
-            head: 0,
-            refused: 0,
-            part: 0,
-            seen: 0,
-        },
+        s: session::open(0),
+        c: collect::reset(),
         picture: 0,
         wide: false,
         written: 0,
@@ -104,17 +77,10 @@ pub fn with_written(d: Desk, n: usize) -> Desk
     if n == usize::MAX {
         return bad(d);
     }
-    let s = d.s;
-    let c = d.c;
     Desk {
-        s: s,
-        c: c,
-        picture: d.picture,
-        wide: d.wide,
         written: n,
-        lent: d.lent,
-        filled: d.filled,
         go: true,
+        ..d
     }
 }
 
@@ -125,17 +91,11 @@ pub fn with_picture(d: Desk, n: usize, wide: bool) -> Desk
     if n == usize::MAX {
         return bad(d);
     }
-    let s = d.s;
-    let c = d.c;
     Desk {
-        s: s,
-        c: c,
         picture: n,
-        wide: wide,
-        written: d.written,
-        lent: d.lent,
-        filled: d.filled,
+        wide,
         go: true,
+        ..d
     }
 }
 
@@ -144,14 +104,10 @@ pub fn with_records(d: Desk, s: Session, c: Collector) -> Desk
     ensures { result ≡ records_desk d s c }
 {
     Desk {
-        s: s,
-        c: c,
-        picture: d.picture,
-        wide: d.wide,
-        written: d.written,
-        lent: d.lent,
-        filled: d.filled,
+        s,
+        c,
         go: true,
+        ..d
     }
 }
 
@@ -162,16 +118,11 @@ pub fn with_store(d: Desk, k: Store) -> Desk
     if k.lent == usize::MAX {
         return bad(d);
     }
-    let s = d.s;
-    let c = k.c;
     Desk {
-        s: s,
-        c: c,
-        picture: d.picture,
-        wide: d.wide,
-        written: d.written,
+        c: k.c,
         lent: k.lent,
         filled: k.filled,
         go: true,
+        ..d
     }
 }

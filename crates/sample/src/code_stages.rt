@@ -2,49 +2,25 @@
 // it disagrees with a rule here, its decoded values decide, save in colour and 11". A code that answers 11 is cut to the bits reported; of one that answers 10
 // the bits before its last pair are compared.
 use app_text::lines::OUT;
-use code::element::{Element, Refusal, State};
+use code::element::{Element, State};
 
 // The mode of the sample, RLGR3.
 pub const MODE: u8 = 4;
 
-// One element of a code, refused where the state is none of a code.
-fn element(s: &[u8], c: State, left: usize) -> Element {
-    let kp = c.kp;
-    let krp = c.krp;
-    if 80 < kp {
-        return Element::Refused(Refusal::Cut);
+// One element of a code; none where it is refused, or the state is none of a code.
+fn element(s: &[u8], c: State, left: usize) -> Option<Element> {
+    if 80 < c.kp || 80 < c.krp || 65535 < s.len() {
+        return None;
     }
-    if 80 < krp {
-        return Element::Refused(Refusal::Cut);
-    }
-    if 65535 < s.len() {
-        return Element::Refused(Refusal::Cut);
-    }
-    code::element::read_element(s, true, c, left)
+    code::element::read_element(s, true, c, left).ok()
 }
 
-// How many places an element fills.
-fn places(e: Element) -> usize {
+// How many places an element fills, at most all, and the state past it.
+fn past(e: Element) -> (usize, State) {
     match e {
-        Element::Zeros(z, t) => z,
-        Element::One(z, v, t) => {
-            if z < 4096 {
-                return z + 1;
-            }
-            4096
-        }
-        Element::Two(a, b, t) => 2,
-        Element::Refused(r) => 0,
-    }
-}
-
-// The state past an element.
-fn past(e: Element, c: State) -> State {
-    match e {
-        Element::Zeros(z, t) => t,
-        Element::One(z, v, t) => t,
-        Element::Two(a, b, t) => t,
-        Element::Refused(r) => c,
+        Element::Zeros(z, t) => (z, t),
+        Element::One(z, _, t) => (z.min(4095) + 1, t),
+        Element::Two(_, _, t) => (2, t),
     }
 }
 
@@ -56,39 +32,27 @@ fn before_refusal(s: &[u8]) -> State {
         krp: 8,
     };
     let mut left: usize = 4096;
-    while 0 < left {
-        let e = element(s, c, left);
-        let k = places(e);
-        if k == 0 {
+    while let Some(e) = element(s, c, left) {
+        let (places, t) = past(e);
+        if places == 0 || left < places {
             return c;
         }
-        if left < k {
-            return c;
-        }
-        c = past(e, c);
-        left -= k;
+        c = t;
+        left -= places;
     }
     c
 }
 
 // Whether an element is a pair of these two values.
-fn is_pair(e: Element, first: i32, second: i32) -> bool {
+fn is_pair(e: Option<Element>, first: i32, second: i32) -> bool {
     match e {
-        Element::Two(a, b, t) => {
-            if 65534 < a {
-                return false;
-            }
-            if 65534 < b {
-                return false;
-            }
-            if code::element::unfolded(a) != first {
-                return false;
-            }
-            code::element::unfolded(b) == second
+        Some(Element::Two(a, b, _)) => {
+            a <= 65534
+                && b <= 65534
+                && code::element::unfolded(a) == first
+                && code::element::unfolded(b) == second
         }
-        Element::Zeros(z, t) => false,
-        Element::One(z, v, t) => false,
-        Element::Refused(r) => false,
+        _ => false,
     }
 }
 
@@ -102,35 +66,7 @@ fn digit(s: &[u8], at: usize) -> usize {
 
 // How many of the first n bits are the same.
 fn agree_bits(s: &[u8], t: &[u8], n: usize) -> usize {
-    let mut same = 0;
-    let mut i = 0;
-    while i < n {
-        same += crate::stages::one(digit(s, i) == digit(t, i));
-        i += 1;
-    }
-    same
-}
-
-// 2^(8 - r): what the last of the r high bits of a byte weighs.
-fn weight(r: usize) -> u8 {
-    match r {
-        1 => 128,
-        2 => 64,
-        3 => 32,
-        4 => 16,
-        5 => 8,
-        6 => 4,
-        7 => 2,
-        _ => 1,
-    }
-}
-
-// The bits of a byte from weight w up.
-fn high(b: u8, w: u8) -> u8 {
-    if w == 0 {
-        return 0;
-    }
-    b / w * w
+    (0..n).filter(|i| digit(s, *i) == digit(t, *i)).count()
 }
 
 // A code cut to its first bits, filled up with zeros; the answer is its length in bytes.
@@ -140,7 +76,8 @@ fn cut(code: &mut [u8], bits: usize) -> usize {
         return n;
     }
     if n < code.len() {
-        code[n] = high(code[n], weight(bits % 8));
+        let spare = 8 - bits % 8;
+        code[n] = code[n] >> spare << spare;
         return n + 1;
     }
     0
@@ -177,7 +114,7 @@ fn against_written(name: &[u8], printed: &[u8], list: &[i32], code: &mut [u8]) -
     );
     app_text::lines::say_number(OUT, b" of ", at as u64);
     say_last(is_last(printed, c, list));
-    wire::writing_length(w)
+    wire::count_of(w)
 }
 
 // A code that answers 11, cut to the bits that the reader reports, against the decoded list.

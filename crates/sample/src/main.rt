@@ -10,6 +10,7 @@ mod code_stages;
 mod stages;
 mod wave_stages;
 
+ghost use Rattle.std.specs.Prelude.{◌≡◌, true};
 ghost use Rattle.tile_back.specs.Word.{Plane};
 
 use app_text::lines::OUT;
@@ -32,7 +33,7 @@ fn coefficients(q: Quant, code: &[u8], work: &mut [i32]) -> u8 {
     if !bands::is_good(q) {
         return 7;
     }
-    let n = tile_back::component_fault(crate::code_stages::MODE, q, code, work);
+    let n = wire::number_of(tile_back::component_fault(crate::code_stages::MODE, q, code, work));
     if n != 0 {
         return n;
     }
@@ -51,7 +52,7 @@ fn samples(q: Quant, code: &[u8], work: &mut [i32], tmp: &mut [i32]) -> u8 {
     if !bands::is_good(q) {
         return 7;
     }
-    let n = tile_back::component_fault(crate::code_stages::MODE, q, code, work);
+    let n = wire::number_of(tile_back::component_fault(crate::code_stages::MODE, q, code, work));
     if n != 0 {
         return n;
     }
@@ -61,28 +62,19 @@ fn samples(q: Quant, code: &[u8], work: &mut [i32], tmp: &mut [i32]) -> u8 {
 
 // ---- colour
 
+fn is_plane(samples: &[i32]) -> bool
+    ensures { result ≡ true → Plane samples.now }
+{
+    samples.len() == 4096 && code_write::call::in_range(samples)
+}
+
 // The words of a tile: whether the samples are such that they are made.
 fn words(ys: &[i32], cbs: &[i32], crs: &[i32], out: &mut [u16]) -> bool {
-    if ys.len() != 4096 {
-        return false;
+    if is_plane(ys) && is_plane(cbs) && is_plane(crs) {
+        fill_words(ys, cbs, crs, out);
+        return true;
     }
-    if cbs.len() != 4096 {
-        return false;
-    }
-    if crs.len() != 4096 {
-        return false;
-    }
-    if !code_write::call::in_range(ys) {
-        return false;
-    }
-    if !code_write::call::in_range(cbs) {
-        return false;
-    }
-    if !code_write::call::in_range(crs) {
-        return false;
-    }
-    fill_words(ys, cbs, crs, out);
-    true
+    false
 }
 
 fn word_at(ys: &[i32], cbs: &[i32], crs: &[i32], i: usize) -> u16
@@ -97,10 +89,8 @@ fn word_at(ys: &[i32], cbs: &[i32], crs: &[i32], i: usize) -> u16
 fn fill_words(ys: &[i32], cbs: &[i32], crs: &[i32], out: &mut [u16])
     requires { Plane ys.now × Plane cbs.now × Plane crs.now }
 {
-    let mut i = 0;
-    while i < out.len() {
-        out[i] = word_at(ys, cbs, crs, i);
-        i += 1;
+    for (i, word) in out.iter_mut().enumerate() {
+        *word = word_at(ys, cbs, crs, i);
     }
 }
 
@@ -111,31 +101,25 @@ struct Tally {
     other: usize,
 }
 
-// 0 where a word of a file cannot be read, 1 where it is this one, else 2.
-fn verdict(word: u16, low: u8, high: u8, mark: u8) -> u8 {
+// Whether a word of a file is this one; none where it cannot be read.
+fn is_word(word: u16, low: u8, high: u8, mark: u8) -> Option<bool> {
     if mark == 0 {
-        return 0;
+        return None;
     }
-    if low as u16 + 256 * (high as u16) == word {
-        return 1;
-    }
-    2
+    Some(u16::from_le_bytes([low, high]) == word)
 }
 
 fn count_words(words: &[u16; 4096], data: &[u8; 12288]) -> Tally {
     let mut same = 0;
     let mut other = 0;
-    let mut i = 0;
-    while i < 4096 {
-        let v = verdict(words[i], data[3 * i], data[3 * i + 1], data[3 * i + 2]);
-        same += crate::stages::one(v == 1);
-        other += crate::stages::one(v == 2);
-        i += 1;
+    for (i, word) in words.iter().enumerate() {
+        match is_word(*word, data[3 * i], data[3 * i + 1], data[3 * i + 2]) {
+            Some(true) => same += 1,
+            Some(false) => other += 1,
+            None => {}
+        }
     }
-    Tally {
-        same: same,
-        other: other,
-    }
+    Tally { same, other }
 }
 
 // The words against a file's.
@@ -184,7 +168,7 @@ fn luma_code(rt: &HostRuntime, q: Quant, ys: &mut [i32]) {
     coefficients(q, clean, ys);
 }
 
-// The names of a chroma's list, of its printed list and of its printed samples, by the letter b or r.
+// The names of a chroma's list, of its printed list and of its printed samples, by the letter b or r, which stands in them: a kind would be told by it.
 fn list_name(letter: u8) -> [u8; 15] {
     let mut name = *b"4.2.4.1_cb_list";
     name[9] = letter;

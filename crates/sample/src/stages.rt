@@ -71,10 +71,8 @@ fn value_at(bytes: &[u8; 8320], i: usize) -> i32
 fn unpack(bytes: &[u8; 8320], list: &mut [i32])
     ensures { Unpacked bytes.now list.old list.new }
 {
-    let mut i = 0;
-    while i < list.len() {
-        list[i] = value_at(bytes, i);
-        i += 1;
+    for (i, x) in list.iter_mut().enumerate() {
+        *x = value_at(bytes, i);
     }
 }
 
@@ -111,10 +109,8 @@ pub fn agree(got: &[i32], want: &[i32]) -> usize
     ensures { result ≡ agreeing got.now want.now }
 {
     let mut same = 0;
-    let mut i = 0;
-    while i < got.len() {
-        same += one(holds(want, i, got[i]));
-        i += 1;
+    for (i, x) in got.iter().enumerate() {
+        same += one(holds(want, i, *x));
     }
     same
 }
@@ -147,10 +143,8 @@ pub fn rows_same(rows: &[i32], got: &[i32], w: u8) -> usize
     let step = w as usize + 1;
     let n = rows.len() / step;
     let mut same = 0;
-    let mut i = 0;
-    while i < n {
+    for i in 0..n {
         same += one(row_same(rows, got, w as usize, i * step));
-        i += 1;
     }
     same
 }
@@ -169,10 +163,8 @@ fn say_other(rows: &[i32], got: &[i32], w: usize, a: usize) {
 fn say_others(rows: &[i32], got: &[i32], w: u8) {
     let step = w as usize + 1;
     let n = rows.len() / step;
-    let mut i = 0;
-    while i < n {
+    for i in 0..n {
         say_other(rows, got, w as usize, i * step);
-        i += 1;
     }
 }
 

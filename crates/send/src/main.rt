@@ -12,42 +12,27 @@ mod args;
 mod short;
 
 use crate::args::Options;
-use app_send::Made;
-use app_settings::Kept;
+use app_send::Unmade;
+use app_text::arguments::Usage;
 use app_text::lines::ERR;
 use settings::Settings;
-use settings::read::Reading;
+use wire::Numbered;
 
 // ---- the settings
 
-// The settings of the arguments, or those of the file that -s names.
-fn chosen(rt: &HostRuntime, to: i32, o: Options, data: &mut [u8]) -> Kept {
-    if o.kept == 0 {
-        let s = o.settings;
-        let r = Reading {
-            number: 0,
-            settings: s,
-        };
-        return Kept {
-            n: 0,
-            whole: true,
-            reading: r,
-        };
+// The settings of the arguments, or those of the file that -s names; none where there are none in it, which is said.
+fn chosen(rt: &HostRuntime, to: i32, o: Options, data: &mut [u8]) -> Option<Settings> {
+    match o.kept {
+        Some(_) => app_settings::load(rt, to, b"send", o.kept, data)
+            .reading
+            .ok(),
+        None => Some(o.settings),
     }
-    app_settings::load(rt, to, b"send", o.kept, data)
 }
 
 // ---- one picture
 
-// How many bytes were read, whether they are the whole input, and what was made of them.
-#[derive(Clone, Copy)]
-struct Came {
-    n: usize,
-    whole: bool,
-    made: Made,
-}
-
-// Reads a picture and makes its stream.
+// Reads a picture and makes its stream; none where it was not read whole, which is said.
 fn load_and_make(
     rt: &HostRuntime,
     to: i32,
@@ -55,64 +40,48 @@ fn load_and_make(
     s: Settings,
     data: &mut [u8],
     out: &mut [u8],
-) -> Came {
+) -> Option<Result<usize, Unmade>> {
     let long = b"the picture is too large: at most 1048576 pixels are taken";
-    let l = app_text::loading::load(rt, to, b"send", o.file, data, long);
-    if !l.whole {
-        return Came {
-            n: l.n,
-            whole: false,
-            made: app_send::stopped(255, 0),
-        };
-    }
-    let m = app_send::picture(s, o.index, app_text::loading::first(data, l.n), out);
-    Came {
-        n: l.n,
-        whole: true,
-        made: m,
-    }
+    let n = app_text::loading::load(rt, to, b"send", o.file, data, long)?;
+    Some(app_send::picture(s, o.index, app_text::loading::first(data, n), out))
 }
 
-// Says what was refused; true where nothing was. A file that was not read whole has been spoken of.
-pub fn is_good(to: i32, m: Made) -> bool {
-    if m.fault == 255 {
-        return false;
+// Says why nothing goes out.
+pub fn say_unmade(to: i32, why: Unmade) {
+    match why {
+        Unmade::Faulty(fault) => app_send::faults::say(to, b"send", fault),
+        Unmade::Refused(refusal) => {
+            let number = refusal.number();
+            if number == 13 {
+                app_text::lines::say(to, b"send: the stream would be longer than 4194304 bytes\n");
+            }
+            app_text::lines::say_refusal(to, b"send", number);
+        }
     }
-    if m.fault != 0 {
-        app_send::faults::say(to, b"send", m.fault);
-        return false;
-    }
-    if m.number == 0 {
-        return true;
-    }
-    if m.number == 13 {
-        app_text::lines::say(to, b"send: the stream would be longer than 4194304 bytes\n");
-    }
-    app_text::lines::say_refusal(to, b"send", m.number);
-    false
 }
 
 // "send: done, 12345 bytes"
 fn one(rt: &HostRuntime, to: i32, o: Options, s: Settings, data: &mut [u8], out: &mut [u8]) {
-    let c = load_and_make(rt, to, o, s, data, out);
-    let m = c.made;
-    if is_good(to, m) {
-        let size = m.size;
-        if app_words::saving::save(rt, to, b"send", o.out, app_text::loading::first(out, size)) {
-            app_text::lines::say_number(to, b"send: done, ", size as u64);
-            app_text::lines::say(to, b" bytes\n");
+    match load_and_make(rt, to, o, s, data, out) {
+        Some(Ok(size)) => {
+            let bytes = app_text::loading::first(out, size);
+            if app_words::saving::save(rt, to, b"send", o.out, bytes) {
+                app_text::lines::say_number(to, b"send: done, ", size as u64);
+                app_text::lines::say(to, b" bytes\n");
+            }
         }
+        Some(Err(why)) => say_unmade(to, why),
+        None => (),
     }
 }
 
 // ---- the program
 
 fn run(rt: &HostRuntime, to: i32, o: Options, s: Settings, data: &mut [u8], out: &mut [u8]) {
-    if o.old == 0 {
-        one(rt, to, o, s, data, out);
-        return;
+    match o.old {
+        Some(_) => crate::short::two(rt, to, o, s, data, out),
+        None => one(rt, to, o, s, data, out),
     }
-    crate::short::two(rt, to, o, s, data, out);
 }
 
 // The two large ones come as arrays: their lengths are known without counting to a million. The pictures' has 1,024 bytes for the head of each of two.
@@ -135,18 +104,16 @@ fn start(rt: &HostRuntime, to: i32, o: Options, s: Settings) {
 
 fn main(rt: HostRuntime) {
     let mut kept = [0u8; 4096];
-    let o = crate::args::arguments(&rt);
-    if o.good {
-        let to = app_words::saving::lines_to(o.out);
-        let r = chosen(&rt, to, o, &mut kept).reading;
-        let s = r.settings;
-        if r.number == 0 {
-            start(&rt, to, o, s);
+    match crate::args::arguments(&rt) {
+        Ok(o) => {
+            let to = app_words::saving::lines_to(o.out);
+            if let Some(s) = chosen(&rt, to, o, &mut kept) {
+                start(&rt, to, o, s);
+            }
         }
-        return;
+        Err(Usage) => app_text::lines::say(
+            ERR,
+            b"usage: send [FILE | OLD NEW] [-m 1|3] [-q Q0 Q1 Q2 Q3 Q4 Q5 Q6 Q7 Q8 Q9] [-i INDEX] [-s SETTINGS] [-o OUT]\n",
+        ),
     }
-    app_text::lines::say(
-        ERR,
-        b"usage: send [FILE | OLD NEW] [-m 1|3] [-q Q0 Q1 Q2 Q3 Q4 Q5 Q6 Q7 Q8 Q9] [-i INDEX] [-s SETTINGS] [-o OUT]\n",
-    );
 }

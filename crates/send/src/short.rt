@@ -1,49 +1,43 @@
 // Two pictures of one size: a full frame of the old one, then a short frame of the new one, of the tiles that differ (02, request Eleven).
 use crate::args::Options;
+use app_send::Unmade;
 use app_send::both::Both;
 use settings::Settings;
 
-// Both pictures, read into the two halves of a buffer: how many bytes of each, and whether both were read whole.
+// Both pictures, read into the two halves of a buffer: how many bytes of each.
 #[derive(Clone, Copy)]
 struct Came {
     old: usize,
     new: usize,
-    whole: bool,
 }
 
-fn load_both(rt: &HostRuntime, to: i32, o: Options, data: &mut [u8]) -> Came {
+// None where they were not both read whole, which is said.
+fn load_both(rt: &HostRuntime, to: i32, o: Options, data: &mut [u8]) -> Option<Came> {
     let end = data.len();
     let half = end / 2;
     let long = b"a picture is too large: at most 524288 pixels each are taken";
-    let a = app_text::loading::load(rt, to, b"send", o.old, &mut data[0..half], long);
-    if !a.whole {
-        return Came {
-            old: 0,
-            new: 0,
-            whole: false,
-        };
-    }
-    let b = app_text::loading::load(rt, to, b"send", o.file, &mut data[half..end], long);
-    Came {
-        old: a.n,
-        new: b.n,
-        whole: b.whole,
-    }
+    let old = app_text::loading::load(rt, to, b"send", o.old, &mut data[0..half], long)?;
+    let new = app_text::loading::load(rt, to, b"send", o.file, &mut data[half..end], long)?;
+    Some(Came { old, new })
 }
 
 // ---- the tiles that are sent
 
 // Those that differ; none where the pictures are not of one size, which is said later.
 fn changed(old: &[u8], new: &[u8], picks: &mut [u32]) -> usize {
-    let p = app_send::pair::read(old, new);
-    let q = plan::make::make_plan(
-        p.width,
-        p.height,
-        app_send::rest(old, p.old),
-        app_send::rest(new, p.new),
-        picks,
-    );
-    plan::make::planned_count(q)
+    match app_send::pair::read(old, new) {
+        Ok(p) => {
+            let listed = plan::make::make_plan(
+                p.width,
+                p.height,
+                app_text::loading::rest(old, p.old),
+                app_text::loading::rest(new, p.new),
+                picks,
+            );
+            listed.unwrap_or(0)
+        }
+        Err(_) => 0,
+    }
 }
 
 // ---- the stream
@@ -61,19 +55,25 @@ fn new_of(data: &[u8], c: Came) -> &[u8] {
 }
 
 // The stream of the pictures that were read, and of the tiles that were listed.
-fn make(s: Settings, index: u32, c: Came, data: &[u8], picks: &[u32], out: &mut [u8]) -> Both {
+fn make(
+    s: Settings,
+    index: u32,
+    c: Came,
+    data: &[u8],
+    picks: &[u32],
+    out: &mut [u8],
+) -> Result<Both, Unmade> {
     app_send::both::pictures(s, index, old_of(data, c), new_of(data, c), picks, out)
 }
 
 // "send: done, 2 of 40 tiles, 9000 bytes instead of 120000": of the short frame
 fn say_saved(to: i32, data: &[u8], c: Came, b: Both) {
-    let p = app_send::pair::read(old_of(data, c), new_of(data, c));
+    let of = match app_send::pair::read(old_of(data, c), new_of(data, c)) {
+        Ok(p) => app_send::both::tiles_of(p.width, p.height),
+        Err(_) => 0,
+    };
     app_text::lines::say_number(to, b"send: done, ", b.tiles as u64);
-    app_text::lines::say_number(
-        to,
-        b" of ",
-        app_send::both::tiles_of(p.width, p.height) as u64,
-    );
+    app_text::lines::say_number(to, b" of ", of as u64);
     app_text::lines::say_number(to, b" tiles, ", b.short as u64);
     app_text::lines::say_number(to, b" bytes instead of ", b.full as u64);
     app_text::lines::say(to, b"\n");
@@ -89,13 +89,14 @@ fn send(
     picks: &[u32],
     out: &mut [u8],
 ) {
-    let b = make(s, o.index, c, data, picks, out);
-    let m = b.made;
-    if crate::is_good(to, m) {
-        let size = m.size;
-        if app_words::saving::save(rt, to, b"send", o.out, app_text::loading::first(out, size)) {
-            say_saved(to, data, c, b);
+    match make(s, o.index, c, data, picks, out) {
+        Ok(b) => {
+            let bytes = app_text::loading::first(out, b.size);
+            if app_words::saving::save(rt, to, b"send", o.out, bytes) {
+                say_saved(to, data, c, b);
+            }
         }
+        Err(why) => crate::say_unmade(to, why),
     }
 }
 
@@ -117,8 +118,7 @@ fn pick_and_send(
 
 pub fn two(rt: &HostRuntime, to: i32, o: Options, s: Settings, data: &mut [u8], out: &mut [u8]) {
     let mut picks = [0u32; 2048];
-    let c = load_both(rt, to, o, data);
-    if c.whole {
+    if let Some(c) = load_both(rt, to, o, data) {
         pick_and_send(rt, to, o, s, c, data, &mut picks, out);
     }
 }

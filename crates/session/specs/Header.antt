@@ -1,12 +1,12 @@
 -- The session record and what a header call answers, in 01's order.
 -- (01 is this project's scope document, 02 its change requests, 001 is MS-RDPRFX: README, "What 01 is".)
-use Rattle.std.specs.Prelude.{ℕ, ◌+◌, ◌*◌, ◌/◌, ◌%◌, ◌≡◌, List, Bool, true, false, length, get_or, ltb, leb, eqb}
+use Rattle.std.specs.Prelude.{ℕ, ◌+◌, ◌*◌, ◌/◌, ◌%◌, ◌≡◌, List, Bool, true, false, length, get_or, ltb, leb, eqb, Result, Ok, Err}
 use Rattle.wire.specs.Le.{le16, le32}
 use Rattle.wire.specs.Mode.{is_mode}
 use Rattle.whole.specs.Row.{◌!◌⨾◌, ◌⇒◌∣◌, ◌⨟◌}
 use Rattle.session.specs.declared.Session.{Session}
-use Rattle.session.specs.declared.HeaderReading.{HeaderReading}
-use Rattle.session.specs.declared.HeaderReading.TheVariants.{Taken, Refused}
+use Rattle.wire.specs.Refusal.{refusal_of}
+use Rattle.wire.specs.declared.Refusal.{Refusal}
 
 -- ---- the record: "how many headers are in, width, height, mode (et), all 0 when fresh"; and, by 02's request Six, "Tile columns and rows"
 -- and "the picture's word count": "Keep both .. in the session record, set when channels are taken and cleared by a sync."; by request Thirteen
@@ -177,14 +177,10 @@ record_after s m =
 
 -- ---- the answer: 01's number, and the record after the call: "A refused header or frame changes neither record nor picture."
 
-unfoldable pub header_number : HeaderReading → ℕ
-header_number (Taken s) = 0
-header_number (Refused number) = number
-
-unfoldable pub header_record : HeaderReading → Session → Session
-header_record (Taken s) before = s
-header_record (Refused number) before = before
+abbrev pub header_record : Result Session Refusal → Session → Session
+header_record (Ok s) before = s
+header_record (Err refusal) before = before
 
 -- what the call answers, of the record and the message
-unfoldable pub header_reading : Session → List ℕ → HeaderReading
-header_reading s m = eqb (header_fault s m) 0 ⇒ Taken (record_after s m) ∣ Refused (header_fault s m)
+unfoldable pub header_reading : Session → List ℕ → Result Session Refusal
+header_reading s m = eqb (header_fault s m) 0 ⇒ Ok (record_after s m) ∣ Err (refusal_of (header_fault s m))

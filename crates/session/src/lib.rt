@@ -4,8 +4,11 @@
 #![tactic(auto)]
 
 ghost use Rattle.std.specs.Prelude.{◌≡◌, ◌+◌, ◌≤◌, ◌<◌, length};
-ghost use Rattle.session.specs.Header.{tiles_over, record_of, of_glass, of_numbers, stepped, right, size_good, counted, made, ready, due, size_of, sync_judge, versions_judge, channels_judge, properties_good, context_judge, et_of, sync_fault, versions_fault, channels_fault, context_fault, field_fault, head_judge, header_fault, kept_glass, record_after, header_number, header_record, header_reading};
+ghost use Rattle.wire.specs.Refusal.{number_of};
+ghost use Rattle.session.specs.Header.{tiles_over, record_of, of_glass, of_numbers, stepped, right, size_good, counted, made, ready, due, size_of, sync_judge, versions_judge, channels_judge, properties_good, context_judge, et_of, sync_fault, versions_fault, channels_fault, context_fault, field_fault, head_judge, header_fault, kept_glass, record_after, header_record, header_reading};
 ghost use Rattle.session.specs.laws.Header.{Good};
+
+use wire::Refusal;
 
 // How many headers are in, mode (et), width, height; tile columns, tile rows and words of the picture, which follow from the size; the glass, 0 where a
 // word of the picture has 16 bits, 1 where it has 32. All 0 when fresh, but for the glass. Laid out as C does, for the edge: 16 bytes with no hole
@@ -23,31 +26,11 @@ pub struct Session {
     pub glass: u8,
 }
 
-// What reading a header came to: the record after it, or 01's number.
-#[derive(Clone, Copy)]
-pub enum HeaderReading {
-    Taken(Session),
-    Refused(u8),
-}
-
-// 01's number.
-pub fn header_number(h: HeaderReading) -> u8
-    ensures { result ≡ header_number h }
-{
-    match h {
-        HeaderReading::Taken(s) => 0,
-        HeaderReading::Refused(number) => number,
-    }
-}
-
 // The record after the call; a refused header leaves the one from before.
-pub fn header_record(h: HeaderReading, before: Session) -> Session
-    ensures { result ≡ header_record h before }
+pub fn header_record(answer: Result<Session, Refusal>, before: Session) -> Session
+    ensures { result ≡ header_record answer before }
 {
-    match h {
-        HeaderReading::Taken(s) => s,
-        HeaderReading::Refused(number) => before,
-    }
+    answer.unwrap_or(before)
 }
 
 // Is the size one that 01 allows?
@@ -210,46 +193,46 @@ fn size_of(t: usize) -> usize
     12
 }
 
-fn sync_judge(magic: usize, version: usize) -> u8
-    ensures { result ≡ sync_judge magic version }
+fn sync_judge(magic: usize, version: usize) -> Result<(), Refusal>
+    ensures { number_of result ≡ sync_judge magic version }
 {
     if magic != 0xCACCACCA {
-        return 5;
+        return Err(Refusal::Field);
     }
     if version != 0x0100 {
-        return 5;
+        return Err(Refusal::Field);
     }
-    0
+    Ok(())
 }
 
-fn versions_judge(count: u8, codec: u8, version: usize) -> u8
-    ensures { result ≡ versions_judge count codec version }
+fn versions_judge(count: u8, codec: u8, version: usize) -> Result<(), Refusal>
+    ensures { number_of result ≡ versions_judge count codec version }
 {
     if count != 1 {
-        return 5;
+        return Err(Refusal::Field);
     }
     if codec != 1 {
-        return 5;
+        return Err(Refusal::Field);
     }
     if version != 0x0100 {
-        return 5;
+        return Err(Refusal::Field);
     }
-    0
+    Ok(())
 }
 
-fn channels_judge(count: u8, id: u8, w: usize, h: usize) -> u8
-    ensures { result ≡ channels_judge count id w h }
+fn channels_judge(count: u8, id: u8, w: usize, h: usize) -> Result<(), Refusal>
+    ensures { number_of result ≡ channels_judge count id w h }
 {
     if count != 1 {
-        return 5;
+        return Err(Refusal::Field);
     }
     if id != 0 {
-        return 5;
+        return Err(Refusal::Field);
     }
     if is_size(w, h) {
-        return 0;
+        return Ok(());
     }
-    5
+    Err(Refusal::Field)
 }
 
 fn et_of(p: usize) -> usize
@@ -273,59 +256,59 @@ fn properties_good(p: usize) -> bool
     false
 }
 
-fn context_judge(codec: u8, channel: u8, context: u8, side: usize, p: usize) -> u8
-    ensures { result ≡ context_judge codec channel context side p }
+fn context_judge(codec: u8, channel: u8, context: u8, side: usize, p: usize) -> Result<(), Refusal>
+    ensures { number_of result ≡ context_judge codec channel context side p }
 {
     if codec != 1 {
-        return 5;
+        return Err(Refusal::Field);
     }
     if channel != 0xFF {
-        return 5;
+        return Err(Refusal::Field);
     }
     if context != 0 {
-        return 5;
+        return Err(Refusal::Field);
     }
     if side != 64 {
-        return 5;
+        return Err(Refusal::Field);
     }
     if properties_good(p) {
-        return 0;
+        return Ok(());
     }
-    5
+    Err(Refusal::Field)
 }
 
-fn sync_fault(m: &[u8]) -> u8
+fn sync_fault(m: &[u8]) -> Result<(), Refusal>
     requires { 12 ≤ length m.now }
-    ensures { result ≡ sync_fault m.now }
+    ensures { number_of result ≡ sync_fault m.now }
 {
     sync_judge(wire::le32_at(m, 6), wire::le16_at(m, 10))
 }
 
-fn versions_fault(m: &[u8]) -> u8
+fn versions_fault(m: &[u8]) -> Result<(), Refusal>
     requires { 10 ≤ length m.now }
-    ensures { result ≡ versions_fault m.now }
+    ensures { number_of result ≡ versions_fault m.now }
 {
     versions_judge(m[6], m[7], wire::le16_at(m, 8))
 }
 
-fn channels_fault(m: &[u8]) -> u8
+fn channels_fault(m: &[u8]) -> Result<(), Refusal>
     requires { 12 ≤ length m.now }
-    ensures { result ≡ channels_fault m.now }
+    ensures { number_of result ≡ channels_fault m.now }
 {
     channels_judge(m[6], m[7], wire::le16_at(m, 8), wire::le16_at(m, 10))
 }
 
-fn context_fault(m: &[u8]) -> u8
+fn context_fault(m: &[u8]) -> Result<(), Refusal>
     requires { 13 ≤ length m.now }
-    ensures { result ≡ context_fault m.now }
+    ensures { number_of result ≡ context_fault m.now }
 {
     context_judge(m[6], m[7], m[8], wire::le16_at(m, 9), wire::le16_at(m, 11))
 }
 
 // The fields of a whole block of a known type.
-fn field_fault(m: &[u8], t: usize) -> u8
+fn field_fault(m: &[u8], t: usize) -> Result<(), Refusal>
     requires { (0xCCC0 ≤ t) × (t ≤ 0xCCC3) × (size_of t ≤ length m.now) }
-    ensures { result ≡ field_fault m.now t }
+    ensures { number_of result ≡ field_fault m.now t }
 {
     if t == 0xCCC0 {
         return sync_fault(m);
@@ -340,48 +323,42 @@ fn field_fault(m: &[u8], t: usize) -> u8
 }
 
 // Type (3), due (12), length (4), whole block present (1).
-fn head_judge(s: Session, t: usize, size: usize, len: usize) -> u8
-    ensures { result ≡ head_judge s t size len }
+fn head_judge(s: Session, t: usize, size: usize, len: usize) -> Result<(), Refusal>
+    ensures { number_of result ≡ head_judge s t size len }
 {
     if t < 0xCCC0 {
-        return 3;
+        return Err(Refusal::Kind);
     }
     if 0xCCC3 < t {
-        return 3;
+        return Err(Refusal::Kind);
     }
     if is_due(s, t) {
         if size != size_of(t) {
-            return 4;
+            return Err(Refusal::Length);
         }
         if len < size {
-            return 1;
+            return Err(Refusal::Cut);
         }
-        return 0;
+        return Ok(());
     }
-    12
+    Err(Refusal::Order)
 }
 
 // The first fault of the message, in 01's order.
-fn header_fault(s: Session, m: &[u8]) -> u8
-    ensures { result ≡ header_fault s m.now }
+fn header_fault(s: Session, m: &[u8]) -> Result<(), Refusal>
+    ensures { number_of result ≡ header_fault s m.now }
 {
     if m.len() < 6 {
-        return 1;
+        return Err(Refusal::Cut);
     }
     let t = wire::le16_at(m, 0);
     let size = wire::le32_at(m, 2);
-    let n = head_judge(s, t, size, m.len());
-    if n != 0 {
-        return n;
-    }
-    let f = field_fault(m, t);
-    if f != 0 {
-        return f;
-    }
+    head_judge(s, t, size, m.len())?;
+    field_fault(m, t)?;
     if m.len() != size {
-        return 4;
+        return Err(Refusal::Length);
     }
-    0
+    Ok(())
 }
 
 // The glass after a sync.
@@ -424,13 +401,9 @@ fn record_after(s: Session, m: &[u8]) -> Session
 }
 
 // The header call: the record after a header without a fault, or the first fault's number.
-pub fn take_header(s: Session, m: &[u8]) -> HeaderReading
+pub fn take_header(s: Session, m: &[u8]) -> Result<Session, Refusal>
     ensures { result ≡ header_reading s m.now }
 {
-    let n = header_fault(s, m);
-    if n != 0 {
-        return HeaderReading::Refused(n);
-    }
-    let after = record_after(s, m);
-    HeaderReading::Taken(after)
+    header_fault(s, m)?;
+    Ok(record_after(s, m))
 }

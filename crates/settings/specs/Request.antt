@@ -1,17 +1,18 @@
 -- 02's request Five, the settings, over the calls: what may be relied on, sentence by sentence. `request_five` (specs/laws/Request) proves all of it.
 -- (01 is this project's scope document, 02 its change requests, 001 is MS-RDPRFX: README, "What 01 is".)
-use Rattle.std.specs.Prelude.{ℕ, suc, ◌≤◌, ◌<◌, ◌≡◌, true, false, ◌⊎◌, List, [], ◌∷◌, ◌++◌, length, take}
+use Rattle.std.specs.Prelude.{ℕ, suc, ◌≤◌, ◌<◌, ◌≡◌, true, false, ◌⊎◌, Result, List, [], ◌∷◌, ◌++◌, length, take}
 use Rattle.whole.specs.Row.{◌⇒◌∣◌}
 use Rattle.whole.specs.Among.{Among}
 use Rattle.wire.specs.Mode.{is_mode}
-use Rattle.wire.specs.Wrote.{Wrote, writing_number, writing_length}
-use Rattle.wire.specs.declared.Writing.{Writing}
+use Rattle.wire.specs.Refusal.{number_of, count_of}
+use Rattle.wire.specs.Wrote.{Wrote}
+use Rattle.wire.specs.declared.Refusal.{Refusal}
 use Rattle.bands.specs.Bands.{quant_of, is_good}
 use Rattle.quants.specs.Quants.{same}
-use Rattle.settings.specs.Settings.{settings, Kept, Refused, body_of, known, takes, record_fault, read_settings, version_record, one_record, two_record}
+use Rattle.settings.specs.Settings.{Reading, settings, Kept, Refused, store_number, given, body_of, known, takes, record_fault, read_settings}
+use Rattle.settings.specs.Settings.{version_record, one_record, two_record}
 use Rattle.settings.specs.Settings.{settings_of, write_fault, GoodSettings}
 use Rattle.settings.specs.declared.Settings.{Settings}
-use Rattle.settings.specs.declared.read.Reading.{Reading}
 
 -- ---- a store: a version record, and records of kind 1 or 2 behind it
 
@@ -56,18 +57,18 @@ pub record WriteSettings : Type 0 where
   pub chroma : length settings.quants.chroma.v ≡ 10
   pub out : List ℕ
   pub out' : List ℕ
-  pub answer : Writing
+  pub answer : Result ℕ Refusal
   pub promise : Wrote (write_fault settings (length out)) (settings_of settings) out out' answer
 
 -- what it has written, where it is done
 abbrev pub written_by : WriteSettings → List ℕ
-written_by c = take (writing_length c.answer) c.out'
+written_by c = take (count_of c.answer) c.out'
 
 pub record RequestFive : Type 0 where
   -- one answer alone meets the reader's promise, and one answer and one content of the output the writer's
   pub one_answer : (newest : ℕ) (m : List ℕ) (r r' : Reading) → r ≡ read_settings newest m → r' ≡ read_settings newest m → r ≡ r'
   pub one_output :
-      (s : Settings) (out a b : List ℕ) (r q : Writing)
+      (s : Settings) (out a b : List ℕ) (r q : Result ℕ Refusal)
       → Wrote (write_fault s (length out)) (settings_of s) out a r
       → Wrote (write_fault s (length out)) (settings_of s) out b q
       → (r ≡ q) × (a ≡ b)
@@ -95,6 +96,13 @@ pub record RequestFive : Type 0 where
       → AllGood v rs
       → record_fault newest v kind rest ≡ suc n
       → read_settings newest (store_of v rs ++ (kind ∷ rest)) ≡ Refused (suc n)
+  -- and the number said is the one of the fault
+  pub first_number :
+      (newest v kind n : ℕ) (rs : List Setting) (rest : List ℕ)
+      → takes newest v ≡ true
+      → AllGood v rs
+      → record_fault newest v kind rest ≡ suc n
+      → store_number (read_settings newest (store_of v rs ++ (kind ∷ rest))) ≡ suc n
   -- "Version 1 allows kinds 0 and 1, version 2 all three", "an unknown kind is 3"
   pub unknown_kind :
       (newest v kind : ℕ) (rs : List Setting) (rest : List ℕ)
@@ -158,10 +166,10 @@ pub record RequestFive : Type 0 where
   pub kept_back : (s : Settings) → GoodSettings s → read_settings 2 (settings_of s) ≡ Kept s
   pub old_reader : (s : Settings) → GoodSettings s → read_settings 1 (settings_of s) ≡ (same s.quants ⇒ Kept s ∣ Refused 14)
   -- the same of a call that is done
-  pub call_back : (c : WriteSettings) → writing_number c.answer ≡ 0 → read_settings 2 (written_by c) ≡ Kept c.settings
+  pub call_back : (c : WriteSettings) → number_of c.answer ≡ 0 → read_settings 2 (written_by c) ≡ Kept c.settings
   pub old_call :
-      (c : WriteSettings) → writing_number c.answer ≡ 0 → read_settings 1 (written_by c) ≡ (same c.settings.quants ⇒ Kept c.settings ∣ Refused 14)
+      (c : WriteSettings) → number_of c.answer ≡ 0 → read_settings 1 (written_by c) ≡ (same c.settings.quants ⇒ Kept c.settings ∣ Refused 14)
   -- settings that a reader gives are such as the frame writer takes, and this writer
-  pub given_good : (newest : ℕ) (m : List ℕ) → (read_settings newest m).number ≡ 0 → GoodSettings (read_settings newest m).settings
+  pub given_good : (newest : ℕ) (m : List ℕ) → store_number (read_settings newest m) ≡ 0 → GoodSettings (given (read_settings newest m))
   -- which numbers a reader answers
-  pub numbers : (newest : ℕ) (m : List ℕ) → Among (0 ∷ 1 ∷ 3 ∷ 5 ∷ 7 ∷ 12 ∷ 14 ∷ 15 ∷ []) (read_settings newest m).number
+  pub numbers : (newest : ℕ) (m : List ℕ) → Among (0 ∷ 1 ∷ 3 ∷ 5 ∷ 7 ∷ 12 ∷ 14 ∷ 15 ∷ []) (store_number (read_settings newest m))

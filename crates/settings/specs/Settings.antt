@@ -2,14 +2,17 @@
 -- the kind fixes: kind 0, two bytes version, low first (first, once); kind 1, five quantiser bytes and one mode byte; kind 2, five luma, five chroma
 -- quantiser bytes and one mode byte."
 -- (01 is this project's scope document, 02 its change requests, 001 is MS-RDPRFX: README, "What 01 is".)
-use Rattle.std.specs.Prelude.{ℕ, zero, suc, ◌≡◌, Bool, true, false, List, [], ◌∷◌, ◌++◌, eqb, leb, length, get_or, take, drop, replicate}
+use Rattle.std.specs.Prelude.{ℕ, zero, suc, ◌≡◌, Bool, true, false, Option, Some, None, Result, Ok, Err, List, [], ◌∷◌, ◌++◌, eqb, leb, length, get_or}
+use Rattle.std.specs.Prelude.{take, drop, replicate}
 use Rattle.whole.specs.Row.{◌!◌⨾◌, ◌⇒◌∣◌, ◌⨟◌}
 use Rattle.wire.specs.Le.{le16, bytes16}
 use Rattle.wire.specs.Mode.{is_mode}
+use Rattle.wire.specs.Refusal.{refusal_number, refusal_of, number_by}
 use Rattle.bands.specs.Bands.{quant_of, is_good}
 use Rattle.quants.specs.Quants.{quant_bytes, same}
 use Rattle.settings.specs.declared.Settings.{Settings}
-use Rattle.settings.specs.declared.read.Reading.{Reading}
+use Rattle.settings.specs.declared.StoreRefusal.{StoreRefusal}
+use Rattle.settings.specs.declared.StoreRefusal.TheVariants.{Common, Version, Alone}
 use Rattle.settings.specs.declared.read.State.{State}
 
 -- settings by their ten luma and ten chroma values, and the mode
@@ -19,13 +22,38 @@ settings luma chroma mode = record { quants = record { luma = record { v = luma 
 abbrev pub no_settings : Settings
 no_settings = settings (replicate 10 0) (replicate 10 0) 0
 
--- ---- what a reader answers: the settings, or the number of the first fault; a refusal gives no settings, all of them are 0
+-- ---- what a reader answers: the settings, or why it refuses
+
+-- the number of a refusal: 01's, or one of those that request Five adds, 14 and 15
+abbrev pub why_number : StoreRefusal → ℕ
+why_number (Common refusal) = refusal_number refusal
+why_number Version = 14
+why_number Alone = 15
+
+-- the refusal of a number
+unfoldable pub why_of : ℕ → StoreRefusal
+why_of n =
+    eqb n 14 ⇒ Version ∣
+    eqb n 15 ⇒ Alone ∣
+    Common (refusal_of n)
+
+abbrev pub Reading : Type 0
+Reading = Result Settings StoreRefusal
 
 abbrev pub Kept : Settings → Reading
-Kept s = record { number = 0; settings = s }
+Kept s = Ok s
 
 abbrev pub Refused : ℕ → Reading
-Refused n = record { number = n; settings = no_settings }
+Refused n = Err (why_of n)
+
+-- the number of an answer, 0 where it is done
+abbrev pub store_number : {A : Type 0} → Result A StoreRefusal → ℕ
+store_number answer = number_by why_number answer
+
+-- a refusal gives no settings, all of them are 0
+abbrev pub given : Reading → Settings
+given (Ok s) = s
+given (Err why) = no_settings
 
 -- ---- one record: its kind, and the bytes behind the kind
 
@@ -85,25 +113,28 @@ record_fault newest version kind rest = front_fault version kind (length rest) �
 
 -- ---- all records, one after the other
 
--- what the records so far have said: the version, or 0; whether there was a setting; the last setting
-abbrev pub state : ℕ → Bool → Settings → State
-state version any last = record { version = version; any = any; last = last }
+-- what the records so far have said: the version, or 0; the last setting, if there was one
+abbrev pub state : ℕ → Option Settings → State
+state version last = record { version = version; last = last }
 
 abbrev pub start : State
-start = state 0 false no_settings
+start = state 0 None
 
 -- "The last record of kind 1 or 2 counts"
 unfoldable pub after : State → ℕ → List ℕ → State
 after s kind body =
-    eqb kind 0 ⇒ state (le16 body 0) s.any s.last ∣
-    state s.version true (settings_in kind body)
+    eqb kind 0 ⇒ state (le16 body 0) s.last ∣
+    state s.version (Some (settings_in kind body))
 
 -- "an empty store 1, version alone 15"
+unfoldable pub last_or : Option Settings → Reading
+last_or (Some s) = Kept s
+last_or None = Refused 15
+
 unfoldable pub ended : State → Reading
 ended s =
     eqb s.version 0 ⇒ Refused 1 ∣
-    s.any ⇒ Kept s.last ∣
-    Refused 15
+    last_or s.last
 
 -- a fault ends the reading
 unfoldable pub unless : ℕ → Reading → Reading

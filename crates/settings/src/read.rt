@@ -1,84 +1,56 @@
 // The reader: record by record, each in full before the next (specs/Settings). It lends no memory and keeps no state.
 ghost use Rattle.std.specs.Prelude.{◌≡◌, ◌+◌, ◌≤◌, length, drop};
-ghost use Rattle.settings.specs.Settings.{no_settings, Kept, Refused, start, body_of, known, placed, front_fault, takes, settings_in, settings_fault, bytes_fault, record_fault, after, ended, read_settings};
+ghost use Rattle.wire.specs.Refusal.{number_of};
+ghost use Rattle.settings.specs.Settings.{no_settings, body_of, known, placed, front_fault, takes, settings_in};
+ghost use Rattle.settings.specs.Settings.{settings_fault, bytes_fault, record_fault, after, ended, read_settings, store_number, given};
 
-use crate::Settings;
+use crate::{Settings, StoreRefusal};
 use bands::Quant;
 use quants::Quants;
+use wire::Refusal;
 
-// What reading came to: 0 and the settings, or the number of the first fault, and then the settings are all 0.
-#[derive(Clone, Copy)]
-pub struct Reading {
-    pub number: u8,
-    pub settings: Settings,
-}
-
-// What the records so far have said: the version, 0 before it is read; whether there was a setting; and the last one, all 0 before the first.
+// What the records so far have said: the version, 0 before it is read, which is no version (`known` and `placed` of specs/Settings read it as a number); and
+// the last setting.
 #[derive(Clone, Copy)]
 struct State {
     version: usize,
-    any: bool,
-    last: Settings,
+    last: Option<Settings>,
 }
 
 fn no_settings() -> Settings
     ensures { result ≡ no_settings }
 {
-    let none = Quant { v: [0u8; 10] };
-    let quants = Quants {
-        luma: none,
-        chroma: none,
-    };
+    let none = Quant { v: [0; 10] };
     Settings {
-        quants: quants,
+        quants: Quants {
+            luma: none,
+            chroma: none,
+        },
         mode: 0,
     }
 }
 
-fn kept(s: Settings) -> Reading
-    ensures { result ≡ Kept s }
+// The settings of what reading came to, all 0 where it is refused.
+pub fn given(answer: Result<Settings, StoreRefusal>) -> Settings
+    ensures { result ≡ given answer }
 {
-    Reading {
-        number: 0,
-        settings: s,
-    }
-}
-
-fn refused(n: u8) -> Reading
-    ensures { result ≡ Refused n }
-{
-    let none = no_settings();
-    Reading {
-        number: n,
-        settings: none,
-    }
-}
-
-fn start() -> State
-    ensures { result ≡ start }
-{
-    let none = no_settings();
-    State {
-        version: 0,
-        any: false,
-        last: none,
-    }
+    answer.unwrap_or(no_settings())
 }
 
 // How many bytes stand behind a kind.
+#[tactic(auto, using(whole::specs::laws::Row::rows), unfolding(crate::specs::Settings::body_of))]
 fn body_of(kind: usize) -> usize
     ensures { (result ≡ body_of kind) × (result ≤ 11) }
 {
-    if kind == 0 {
-        return 2;
+    match kind {
+        0 => 2,
+        1 => 6,
+        _ => 11,
     }
-    if kind == 1 {
-        return 6;
-    }
-    11
 }
 
 // Is the kind one that the version allows? Until a version is read, all three are.
+#[tactic(auto, using(whole::specs::laws::Row::rows), unfolding(crate::specs::Settings::known))]
 fn is_known(version: usize, kind: usize) -> bool
     ensures { result ≡ known version kind }
 {
@@ -89,6 +61,7 @@ fn is_known(version: usize, kind: usize) -> bool
 }
 
 // The version is the first record, and no other is.
+#[tactic(auto, using(whole::specs::laws::Row::rows), unfolding(crate::specs::Settings::placed))]
 fn is_placed(version: usize, kind: usize) -> bool
     ensures { result ≡ placed version kind }
 {
@@ -102,22 +75,24 @@ fn is_placed(version: usize, kind: usize) -> bool
 }
 
 // Kind (3), place (12), presence (1) of a record with so many bytes behind its kind.
-fn front_fault(version: usize, kind: usize, left: usize) -> u8
-    ensures { result ≡ front_fault version kind left }
+#[tactic(auto, using(whole::specs::laws::Row::rows), unfolding(crate::specs::Settings::front_fault))]
+fn front_fault(version: usize, kind: usize, left: usize) -> Result<(), Refusal>
+    ensures { number_of result ≡ front_fault version kind left }
 {
-    if is_known(version, kind) {
-        if is_placed(version, kind) {
-            if left < body_of(kind) {
-                return 1;
-            }
-            return 0;
-        }
-        return 12;
+    if !is_known(version, kind) {
+        return Err(Refusal::Kind);
     }
-    3
+    if !is_placed(version, kind) {
+        return Err(Refusal::Order);
+    }
+    if left < body_of(kind) {
+        return Err(Refusal::Cut);
+    }
+    Ok(())
 }
 
 // Does a reader whose newest version is this take that one?
+#[tactic(auto, using(whole::specs::laws::Row::rows), unfolding(crate::specs::Settings::takes))]
 fn is_taken(newest: usize, version: usize) -> bool
     ensures { result ≡ takes newest version }
 {
@@ -137,68 +112,62 @@ fn settings_at(m: &[u8], at: usize, kind: usize) -> Settings
 {
     let luma = bands::quant_at(m, at);
     if kind == 1 {
-        let one = Quants {
-            luma: luma,
-            chroma: luma,
-        };
         return Settings {
-            quants: one,
+            quants: Quants { luma, chroma: luma },
             mode: m[at + 5],
         };
     }
     let chroma = bands::quant_at(m, at + 5);
-    let two = Quants {
-        luma: luma,
-        chroma: chroma,
-    };
     Settings {
-        quants: two,
+        quants: Quants { luma, chroma },
         mode: m[at + 10],
     }
 }
 
 // Quantisers (7), luma's then chroma's, then the mode (5).
-pub fn settings_fault(s: Settings) -> u8
-    ensures { result ≡ settings_fault s }
+#[tactic(auto, using(whole::specs::laws::Row::rows), unfolding(crate::specs::Settings::settings_fault))]
+pub fn settings_fault(s: Settings) -> Result<(), Refusal>
+    ensures { number_of result ≡ settings_fault s }
 {
-    let q = s.quants;
-    let luma = q.luma;
-    let chroma = q.chroma;
-    if bands::is_good(luma) {
-        if bands::is_good(chroma) {
-            if wire::is_mode(s.mode as usize) {
-                return 0;
-            }
-            return 5;
-        }
-        return 7;
+    if !bands::is_good(s.quants.luma) {
+        return Err(Refusal::Quant);
     }
-    7
+    if !bands::is_good(s.quants.chroma) {
+        return Err(Refusal::Quant);
+    }
+    if !wire::is_mode(s.mode as usize) {
+        return Err(Refusal::Field);
+    }
+    Ok(())
 }
 
 // The bytes of a body that is there, as they stand.
-fn bytes_fault(newest: usize, m: &[u8], at: usize, kind: usize) -> u8
+fn bytes_fault(newest: usize, m: &[u8], at: usize, kind: usize) -> Result<(), StoreRefusal>
     requires { at + body_of kind ≤ length m.now }
-    ensures { result ≡ bytes_fault newest kind (drop at m.now) }
+    ensures { store_number result ≡ bytes_fault newest kind (drop at m.now) }
 {
     if kind == 0 {
         if is_taken(newest, wire::le16_at(m, at)) {
-            return 0;
+            return Ok(());
         }
-        return 14;
+        return Err(StoreRefusal::Version);
     }
-    settings_fault(settings_at(m, at, kind))
+    settings_fault(settings_at(m, at, kind))?;
+    Ok(())
 }
 
 // The first fault of a record whose body would stand at a place.
-fn record_fault(newest: usize, version: usize, m: &[u8], at: usize, kind: usize) -> u8
+fn record_fault(
+    newest: usize,
+    version: usize,
+    m: &[u8],
+    at: usize,
+    kind: usize,
+) -> Result<(), StoreRefusal>
     requires { at ≤ length m.now }
-    ensures { result ≡ record_fault newest version kind (drop at m.now) }
+    ensures { store_number result ≡ record_fault newest version kind (drop at m.now) }
 {
-    let front = front_fault(version, kind, m.len() - at);
-    if front != 0 {
-        return front;
-    }
+    front_fault(version, kind, m.len() - at)?;
     bytes_fault(newest, m, at, kind)
 }
 
@@ -207,48 +176,42 @@ fn after(s: State, m: &[u8], at: usize, kind: usize) -> State
     requires { at + body_of kind ≤ length m.now }
     ensures { result ≡ after s kind (drop at m.now) }
 {
-    let last = s.last;
     if kind == 0 {
         return State {
             version: wire::le16_at(m, at),
-            any: s.any,
-            last: last,
+            last: s.last,
         };
     }
     let now = settings_at(m, at, kind);
     State {
         version: s.version,
-        any: true,
-        last: now,
+        last: Some(now),
     }
 }
 
 // Nothing read is 1, the version alone 15; else the last setting counts.
-fn ended(s: State) -> Reading
+fn ended(s: State) -> Result<Settings, StoreRefusal>
     ensures { result ≡ ended s }
 {
-    let last = s.last;
     if s.version == 0 {
-        return refused(1);
+        return Err(StoreRefusal::Common(Refusal::Cut));
     }
-    if s.any {
-        return kept(last);
-    }
-    refused(15)
+    s.last.ok_or(StoreRefusal::Alone)
 }
 
 // Reads the records of a store, for a reader whose newest version is given: 1 takes version 1, 2 and above take 1 and 2, 0 takes none.
-pub fn read_settings(newest: u8, m: &[u8]) -> Reading
+pub fn read_settings(newest: u8, m: &[u8]) -> Result<Settings, StoreRefusal>
     ensures { result ≡ read_settings newest m.now }
 {
-    let mut s = start();
+    let mut s = State {
+        version: 0,
+        last: None,
+    };
     let mut at = 0;
+    // A step is as long as its record, so there is no range.
     while at < m.len() {
         let kind = wire::byte_at(m, at);
-        let n = record_fault(newest as usize, s.version, m, at + 1, kind);
-        if n != 0 {
-            return refused(n);
-        }
+        record_fault(newest as usize, s.version, m, at + 1, kind)?;
         s = after(s, m, at + 1, kind);
         at = at + 1 + body_of(kind);
     }

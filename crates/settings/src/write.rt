@@ -1,6 +1,7 @@
 // The writer: what it refuses, then the bytes of specs/Settings. The output is untouched on a refusal, and so are the bytes past the length.
 ghost use Rattle.std.specs.Prelude.{◌≡◌, [], ◌∷◌, ◌++◌, ◌≤◌, length};
 ghost use Rattle.wire.specs.Le.{patch, written};
+ghost use Rattle.wire.specs.Refusal.{number_of};
 ghost use Rattle.wire.specs.Wrote.{Wrote};
 ghost use Rattle.bands.specs.Bands.{QuantGood};
 ghost use Rattle.settings.specs.Settings.{version_record, one_record, two_record, size_of, settings_of, write_fault};
@@ -8,9 +9,9 @@ ghost use Rattle.settings.specs.Settings.{version_record, one_record, two_record
 use crate::Settings;
 use crate::read::settings_fault;
 use bands::Quant;
-use wire::Writing;
+use wire::Refusal;
 
-// The version's record, and the kind of the one behind it.
+// The version's record, and the kind of the one behind it, which is a byte of the store.
 fn put_front(out: &mut [u8], version: usize, kind: u8)
     requires { 4 ≤ length out.old }
     ensures { out.new ≡ patch out.old 0 (version_record version ++ (kind ∷ [])) }
@@ -20,6 +21,7 @@ fn put_front(out: &mut [u8], version: usize, kind: u8)
     wire::put8_at(out, 3, kind);
 }
 
+// One set for both. Two short functions: what they have in common is `put_front`.
 fn put_one(out: &mut [u8], q: Quant, mode: u8)
     requires { (10 ≤ length out.old) × QuantGood q.v }
     ensures { out.new ≡ written (version_record 1 ++ one_record q.v mode) out.old }
@@ -39,44 +41,32 @@ fn put_two(out: &mut [u8], luma: Quant, chroma: Quant, mode: u8)
     wire::put8_at(out, 14, mode);
 }
 
+#[tactic(auto, using(whole::specs::laws::Row::rows), unfolding(crate::specs::Settings::size_of))]
 fn size_of(s: Settings) -> usize
     ensures { result ≡ size_of s }
 {
-    let q = s.quants;
-    if quants::is_same(q) {
-        return 10;
-    }
-    15
+    if quants::is_same(s.quants) { 10 } else { 15 }
 }
 
-fn write_fault(s: Settings, room: usize) -> u8
-    ensures { result ≡ write_fault s room }
+fn write_fault(s: Settings, room: usize) -> Result<(), Refusal>
+    ensures { number_of result ≡ write_fault s room }
 {
-    let n = settings_fault(s);
-    if n != 0 {
-        return n;
-    }
+    settings_fault(s)?;
     if room < size_of(s) {
-        return 13;
+        return Err(Refusal::Room);
     }
-    0
+    Ok(())
 }
 
 // Writes the records of settings.
-pub fn write_settings(s: Settings, out: &mut [u8]) -> Writing
+pub fn write_settings(s: Settings, out: &mut [u8]) -> Result<usize, Refusal>
     ensures { Wrote (write_fault s (length out.old)) (settings_of s) out.old out.new result }
 {
-    let n = write_fault(s, out.len());
-    if n != 0 {
-        return Writing::Refused(n);
+    write_fault(s, out.len())?;
+    if quants::is_same(s.quants) {
+        put_one(out, s.quants.luma, s.mode);
+        return Ok(10);
     }
-    let q = s.quants;
-    let luma = q.luma;
-    let chroma = q.chroma;
-    if quants::is_same(q) {
-        put_one(out, luma, s.mode);
-        return Writing::Done(10);
-    }
-    put_two(out, luma, chroma, s.mode);
-    Writing::Done(15)
+    put_two(out, s.quants.luma, s.quants.chroma, s.mode);
+    Ok(15)
 }

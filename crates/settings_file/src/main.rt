@@ -4,107 +4,70 @@
 // standard output where the result goes to OUT, else on standard error.
 #![tactic(auto)]
 
+use app_text::arguments::{Kind, Usage};
 use app_text::lines::ERR;
 use quants::Quants;
 use settings::Settings;
 use std::rt::Env;
+use wire::Numbered;
 
-// What the arguments ask: the file's argument and the result's (0 none), whether settings are to be written, and which; whether the arguments are as the usage says,
-// each option at most once.
+// What the arguments ask, each option at most once: the file's argument, whose settings are printed; or settings that are written, and the result's argument.
 #[derive(Clone, Copy)]
-struct Options {
-    file: usize,
-    out: usize,
-    writes: bool,
-    settings: Settings,
-    good: bool,
+enum Asked {
+    Print(Option<usize>),
+    Write(Settings, Option<usize>),
 }
 
-fn arguments(rt: &impl Env) -> Options {
-    let known = [b'm', 1, b'q', 10, b'Q', 10, b'o', 1, 0, 0, 0, 0, 0, 0, 0, 0];
-    let file = app_text::arguments::find(rt, known, 0);
-    let m = app_text::arguments::find(rt, known, b'm');
-    let q = app_text::arguments::find(rt, known, b'q');
-    let c = app_text::arguments::find(rt, known, b'Q');
-    let out = app_text::arguments::find(rt, known, b'o');
-    let other = app_text::arguments::find(rt, known, b'-');
-    let once = file.times < 2 && m.times < 2 && q.times < 2 && c.times < 2 && out.times < 2;
-    let mode = app_settings::mode_of(rt, m.at);
-    let luma = app_settings::quantisers(rt, q.at, app_settings::usual());
-    let first = luma.q;
-    let chroma = app_settings::quantisers(rt, c.at, first);
-    let second = chroma.q;
-    let both = Quants {
-        luma: first,
-        chroma: second,
-    };
-    let s = Settings {
-        quants: both,
-        mode: mode,
-    };
-    let alone = q.times == 0 && c.times == 0 && m.times == 0 && out.times == 0;
-    let numbers = mode != 0 && luma.good && chroma.good;
-    Options {
-        file: file.at,
-        out: out.at,
-        writes: q.times != 0,
-        settings: s,
-        good: file.whole
-            && once
-            && other.times == 0
-            && numbers
-            && (alone || q.times != 0 && file.times == 0),
-    }
-}
-
-// The result goes out, and the last line is said.
-fn finish(rt: &HostRuntime, to: i32, out: usize, bytes: &[u8]) {
-    if app_words::saving::save(rt, to, b"settings", out, bytes) {
-        app_text::lines::say_done(to, b"settings");
+fn arguments(rt: &impl Env) -> Result<Asked, Usage> {
+    let known = [(b'm', 1), (b'q', 10), (b'Q', 10), (b'o', 1)];
+    app_text::arguments::only_known(rt, &known)?;
+    let file = app_text::arguments::find_once(rt, &known, Kind::File)?;
+    let m = app_text::arguments::find_once(rt, &known, Kind::Option(b'm'))?;
+    let q = app_text::arguments::find_once(rt, &known, Kind::Option(b'q'))?;
+    let c = app_text::arguments::find_once(rt, &known, Kind::Option(b'Q'))?;
+    let out = app_text::arguments::find_once(rt, &known, Kind::Option(b'o'))?;
+    let mode = app_settings::mode_of(rt, m)?;
+    let luma = app_settings::quantisers(rt, q, app_settings::usual())?;
+    let chroma = app_settings::quantisers(rt, c, luma)?;
+    let quants = Quants { luma, chroma };
+    match (file, m, q, c, out) {
+        (_, None, None, None, None) => Ok(Asked::Print(file)),
+        (None, _, Some(_), _, _) => Ok(Asked::Write(Settings { quants, mode }, out)),
+        _ => Err(Usage),
     }
 }
 
 // A file in words, on standard output; the last line is on standard error.
-fn print(rt: &HostRuntime, file: usize) {
+fn print(rt: &HostRuntime, file: Option<usize>) {
     let mut data = [0u8; 4096];
-    let k = app_settings::load(rt, ERR, b"settings", file, &mut data);
-    let r = k.reading;
-    let s = r.settings;
-    if r.number == 0 {
+    if let Ok(s) = app_settings::load(rt, ERR, b"settings", file, &mut data).reading {
         app_settings::say(s);
         app_text::lines::say_done(ERR, b"settings");
     }
 }
 
-fn write(rt: &HostRuntime, to: i32, s: Settings, out: usize) {
+// The settings go out, and the last line is said.
+fn write(rt: &HostRuntime, s: Settings, out: Option<usize>) {
+    let to = app_words::saving::lines_to(out);
     let mut bytes = [0u8; 15];
-    let w = settings::write::write_settings(s, &mut bytes);
-    let number = wire::writing_number(w);
-    if number != 0 {
-        app_text::lines::say_refusal(to, b"settings", number);
-        return;
+    match settings::write::write_settings(s, &mut bytes) {
+        Ok(n) => {
+            let bytes = app_text::loading::first(&bytes, n);
+            if app_words::saving::save(rt, to, b"settings", out, bytes) {
+                app_text::lines::say_done(to, b"settings");
+            }
+        }
+        Err(refusal) => app_text::lines::say_refusal(to, b"settings", refusal.number()),
     }
-    finish(
-        rt,
-        to,
-        out,
-        app_text::loading::first(&bytes, wire::writing_length(w)),
-    );
 }
 
 fn main(rt: HostRuntime) {
-    let o = arguments(&rt);
-    if !o.good {
-        app_text::lines::say(
+    match arguments(&rt) {
+        Ok(Asked::Print(file)) => print(&rt, file),
+        Ok(Asked::Write(s, out)) => write(&rt, s, out),
+        Err(Usage) => app_text::lines::say(
             ERR,
             b"usage: settings [FILE] | settings -q Q0 .. Q9 [-Q Q0 .. Q9] [-m 1|3] [-o OUT]\n",
-        );
-        return;
+        ),
     }
-    let s = o.settings;
-    if o.writes {
-        write(&rt, app_words::saving::lines_to(o.out), s, o.out);
-        return;
-    }
-    print(&rt, o.file);
 }

@@ -4,29 +4,26 @@
 
 ghost use Rattle.std.specs.Prelude.{◌≡◌, length};
 ghost use Rattle.whole.specs.Row.{◌⨟◌};
-ghost use Rattle.wire.specs.Wrote.{Wrote};
+ghost use Rattle.wire.specs.Refusal.{number_of};
 ghost use Rattle.plan.specs.Plan.{Pictures, picks_fault};
 ghost use Rattle.frame_write.specs.Job.{JobReady};
 ghost use Rattle.frame_write.specs.Picked.{frame_picked, send_fault_picked};
+ghost use Rattle.short_write.specs.Answer.{WroteShort};
 ghost use Rattle.short_write.specs.Short.{own_fault, ShortWritten};
 
 use frame_write::size::Job;
-use wire::Writing;
+use plan::check::PlanRefusal;
+use wire::Refusal;
 
 // What is judged of the arguments alone: 5, 7, 2. By the lengths of the old picture, of the new one and of the two work lists.
-fn own_judge(job: Job, old: usize, new: usize, list: usize, scratch: usize) -> u8
-    ensures { result ≡ own_fault job.width job.height job.mode job.quants old new list scratch }
+fn own_judge(job: Job, old: usize, new: usize, list: usize, scratch: usize) -> Result<(), Refusal>
+    ensures { number_of result ≡ own_fault job.width job.height job.mode job.quants old new list scratch }
 {
-    let w = job.width;
-    let h = job.height;
-    let fault = frame_write::call::arg_judge(w, h, job.mode, job.quants, new, list, scratch);
-    if fault != 0 {
-        return fault;
+    frame_write::call::arg_judge(job, new, list, scratch)?;
+    if !frame_pieces::is_pixels(job.width, job.height, old) {
+        return Err(Refusal::Buffer);
     }
-    if !frame_pieces::is_pixels(w, h, old) {
-        return 2;
-    }
-    0
+    Ok(())
 }
 
 // What is left to refuse once the arguments are good: 16, 8, 17, then 9, 6, 13; then the frame of the listed tiles is written.
@@ -38,15 +35,12 @@ fn send_listed(
     new: &[u8],
     picks: &[u32],
     job: Job,
-) -> Writing
+) -> Result<usize, PlanRefusal>
     requires { JobReady job new.now list.old scratch.old × Pictures job.width job.height old.now new.now }
-    ensures { Wrote (picks_fault old.now new.now job.width job.height picks.now ⨟ send_fault_picked job.index job.width job.height job.mode job.quants new.now picks.now (length out.old)) (frame_picked job.index job.width job.height job.mode job.quants new.now picks.now) out.old out.new result }
+    ensures { WroteShort (picks_fault old.now new.now job.width job.height picks.now ⨟ send_fault_picked job.index job.width job.height job.mode job.quants new.now picks.now (length out.old)) (frame_picked job.index job.width job.height job.mode job.quants new.now picks.now) out.old out.new result }
 {
-    let fault = plan::check::picks_judge(job.width, job.height, old, new, picks);
-    if fault != 0 {
-        return Writing::Refused(fault);
-    }
-    frame_send::send(out, list, scratch, new, picks, job, picks.len())
+    plan::check::picks_judge(job.width, job.height, old, new, picks)?;
+    Ok(frame_send::send(out, list, scratch, new, picks, job, picks.len())?)
 }
 
 // The short frame's writer, for any input: what the frame writer is asked (`job`), the old and the new picture of three bytes a pixel, the numbers of the
@@ -59,13 +53,10 @@ pub fn write_frame_short(
     list: &mut [i32],
     scratch: &mut [i32],
     out: &mut [u8],
-) -> Writing
+) -> Result<usize, PlanRefusal>
     ensures { ShortWritten job.width job.height job.mode job.quants job.index old.now new.now picks.now list.old list.new scratch.old scratch.new out.old out.new result }
 {
-    let fault = own_judge(job, old.len(), new.len(), list.len(), scratch.len());
-    if fault != 0 {
-        return Writing::Refused(fault);
-    }
+    own_judge(job, old.len(), new.len(), list.len(), scratch.len())?;
     let r = send_listed(out, list, scratch, old, new, picks, job);
     whole::clear(list);
     whole::clear(scratch);

@@ -10,7 +10,6 @@
 
 mod args;
 mod drawing;
-mod drawing_32;
 mod playing;
 
 ghost use Rattle.std.specs.Prelude.{◌≡◌};
@@ -20,9 +19,12 @@ ghost use Rattle.app_calls.specs.Given.{fresh_desk};
 
 use crate::args::Options;
 use app_calls::given::Desk;
+use app_pictures::word::Word;
+use app_text::arguments::Usage;
 use app_text::files::Source;
 use app_text::lines::ERR;
 use collect::Collector;
+use colour::GlassWord;
 
 // What the collector is left with: a refusal, or bytes of a block or frame that is not whole.
 fn say_left(c: Collector) {
@@ -35,7 +37,7 @@ fn say_left(c: Collector) {
         app_text::lines::say_number(
             ERR,
             b"show: the stream ends inside a block or frame, after bytes of it: ",
-            std::num::wrapping_add_u64(c.held as u64, c.seen as u64),
+            (c.held as u64).wrapping_add(c.seen as u64),
         );
         app_text::lines::say(ERR, b"\n");
     }
@@ -71,42 +73,30 @@ fn fresh(glass: u8) -> Desk
     app_calls::given::fresh(session::open(glass), collect::reset())
 }
 
-fn show(
+// Shows a stream, and writes its picture; the desk at the end where there is one to write.
+fn show<W: GlassWord + Word>(
     rt: &HostRuntime,
     o: Options,
     source: &mut Source,
     piece: &mut [u8],
     store: &mut [u8],
-    picture: &mut [u16],
-) {
-    let d = crate::drawing::run(fresh(0), source, o.size, piece, store, picture);
+    picture: &mut [W],
+) -> Option<Desk> {
+    let d = crate::drawing::run(fresh(W::GLASS), source, o.size, piece, store, picture);
     say_left(d.c);
     if is_whole(d, picture.len()) {
         app_pictures::out::picture_out(rt, o.out, picture, d.width, d.height);
-        app_pictures::out::pic_out(rt, o.pic, picture, d.width, d.height);
+        return Some(d);
     }
-}
-
-fn show_32(
-    rt: &HostRuntime,
-    o: Options,
-    source: &mut Source,
-    piece: &mut [u8],
-    store: &mut [u8],
-    picture: &mut [u32],
-) {
-    let d = crate::drawing_32::run(fresh(1), source, o.size, piece, store, picture);
-    say_left(d.c);
-    if is_whole(d, picture.len()) {
-        app_pictures::out::picture_out_32(rt, o.out, picture, d.width, d.height);
-    }
+    None
 }
 
 // Opens the file that an argument names, or standard input; none where that failed, which is said.
-fn open_input(rt: &HostRuntime, i: usize) -> Option<Source> {
-    if i == 0 {
-        return Some(Source::Standard(rt.stdin()));
-    }
+fn open_input(rt: &HostRuntime, i: Option<usize>) -> Option<Source> {
+    let i = match i {
+        Some(i) => i,
+        None => return Some(Source::Standard(rt.stdin())),
+    };
     let mut path = io::buffer();
     let n = app_text::arguments::argument(rt, i, &mut path);
     match app_text::files::open(rt, &path[..n]) {
@@ -119,69 +109,64 @@ fn open_input(rt: &HostRuntime, i: usize) -> Option<Source> {
 }
 
 // The large ones come as arrays: their lengths are known without counting to a million.
-fn show_in(
+fn show_in<W: GlassWord + Word, const N: usize>(
     rt: &HostRuntime,
     o: Options,
     source: &mut Source,
     piece: &mut [u8; 65536],
     store: &mut [u8; 3145728],
-    picture: &mut [u16; 2073600],
-) {
-    show(rt, o, source, piece, store, picture);
+    picture: &mut [W; N],
+) -> Option<Desk> {
+    show(rt, o, source, piece, store, picture)
 }
 
-fn show_in_32(
-    rt: &HostRuntime,
-    o: Options,
-    source: &mut Source,
-    piece: &mut [u8; 65536],
-    store: &mut [u8; 3145728],
-    picture: &mut [u32; 1048576],
-) {
-    show_32(rt, o, source, piece, store, picture);
-}
-
+// On a glass of 16 bits; a .pic file too, where one is asked for.
 fn start(rt: &HostRuntime, o: Options, source: &mut Source) {
     let mut piece = [0u8; 65536];
     let mut store = [0u8; 3145728];
     let mut picture = [0u16; 2073600];
-    show_in(rt, o, source, &mut piece, &mut store, &mut picture);
+    let shown = show_in(rt, o, source, &mut piece, &mut store, &mut picture);
+    if let (Some(d), Some(i)) = (shown, o.pic) {
+        app_pictures::out::pic_out(rt, i, &picture, d.width, d.height);
+    }
 }
 
 fn start_32(rt: &HostRuntime, o: Options, source: &mut Source) {
     let mut piece = [0u8; 65536];
     let mut store = [0u8; 3145728];
     let mut picture = [0u32; 1048576];
-    show_in_32(rt, o, source, &mut piece, &mut store, &mut picture);
+    show_in(rt, o, source, &mut piece, &mut store, &mut picture);
 }
 
 // On the one glass or the other.
 fn on_glass(rt: &HostRuntime, o: Options, source: &mut Source) {
-    if o.glass == 0 {
-        start(rt, o, source);
+    if o.wide {
+        start_32(rt, o, source);
         return;
     }
-    start_32(rt, o, source);
+    start(rt, o, source);
 }
 
-fn main(rt: HostRuntime) {
-    let o = crate::args::arguments(&rt);
-    if !o.good {
-        app_text::lines::say(
-            ERR,
-            b"usage: show [FILE] [-o OUT.bmp|OUT.png] [-p OUT.pic] [-c N] [-g 16|32]\n",
-        );
-        return;
-    }
-    if o.glass != 0 && o.pic != 0 {
+fn run(rt: &HostRuntime, o: Options) {
+    if let (true, Some(_)) = (o.wide, o.pic) {
         app_text::lines::say(
             ERR,
             b"show: a .pic file has words of 16 bits: -p does not go with -g 32\n",
         );
         return;
     }
-    if let Some(source) = open_input(&rt, o.file) {
+    if let Some(source) = open_input(rt, o.file) {
         let mut from = source;
-        on_glass(&rt, o, &mut from);
+        on_glass(rt, o, &mut from);
+    }
+}
+
+fn main(rt: HostRuntime) {
+    match crate::args::arguments(&rt) {
+        Ok(o) => run(&rt, o),
+        Err(Usage) => app_text::lines::say(
+            ERR,
+            b"usage: show [FILE] [-o OUT.bmp|OUT.png] [-p OUT.pic] [-c N] [-g 16|32]\n",
+        ),
     }
 }

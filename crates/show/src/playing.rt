@@ -1,6 +1,6 @@
 // Reads a stream piece by piece and gives each to the collector; the parts that it hands on go to their calls, each with a line on standard error. Document 02,
 // request One. A block of a foreign type is said, and passed over by its blockLen; at any other refusal the stream ends. specs/Play says what the picture shows
-// then, whatever pieces the input gave, on either glass. What lends no picture is here; `drawing` and `drawing_32` have the rest.
+// then, whatever pieces the input gave, on either glass. What lends no picture is here; `drawing` has the rest.
 ghost use Rattle.std.specs.Prelude.{◌≡◌};
 ghost use Rattle.app_text.specs.First.{first_of};
 ghost use Rattle.app_calls.specs.Given.{desk_part};
@@ -36,27 +36,14 @@ pub fn begin(d: Desk) -> Turn
 fn at_place(d: Desk, at: usize) -> Desk
     ensures { result ≡ placed d at }
 {
-    let s = d.s;
-    let c = d.c;
-    Desk {
-        s: s,
-        c: c,
-        at: at,
-        width: d.width,
-        height: d.height,
-        headers: d.headers,
-        frames: d.frames,
-    }
+    Desk { at, ..d }
 }
 
 // Reads at most so many bytes: how many came, 0 at the end of the input.
 fn read_piece(source: &mut Source, piece: &mut [u8], size: usize) -> usize {
-    if piece.len() < size {
-        return 0;
-    }
-    match source.read(&mut piece[0..size]) {
-        Ok(n) => n,
-        Err(_) => 0,
+    match piece.get_mut(..size) {
+        Some(part) => source.read(part).unwrap_or(0),
+        None => 0,
     }
 }
 
@@ -92,15 +79,10 @@ fn foreign(c: Collector) -> bool
 fn renewed(d: Desk) -> Desk
     ensures { result ≡ anew_desk d }
 {
-    let s = d.s;
     Desk {
-        s: s,
         c: collect::reset(),
-        at: std::num::wrapping_add_usize(d.at, behind(d.c)),
-        width: d.width,
-        height: d.height,
-        headers: d.headers,
-        frames: d.frames,
+        at: d.at.wrapping_add(behind(d.c)),
+        ..d
     }
 }
 
@@ -108,11 +90,7 @@ fn renewed(d: Desk) -> Desk
 fn behind(c: Collector) -> usize
     ensures { result ≡ behind_of c }
 {
-    let size = c.head / 65536;
-    if size < 6 {
-        return 0;
-    }
-    size - 6
+    (c.head / 65536).saturating_sub(6)
 }
 
 // After a hand-over: a foreign block is said and passed over.
@@ -130,10 +108,7 @@ fn settle(d: Desk) -> Desk
 
 // Any other refusal ends the stream.
 fn on_with(c: Collector, go: bool) -> bool {
-    if c.refused == 0 {
-        return go;
-    }
-    false
+    c.refused == 0 && go
 }
 
 // A part that is handed on: a header goes to its call, a frame is counted.
@@ -145,8 +120,8 @@ fn part(d: Desk, answer: Collected, store: &[u8]) -> Desk
         Collected::Header(size) => {
             app_calls::given::header(d, app_text::loading::first(store, size), true)
         }
-        Collected::Frame(size) => app_calls::given::after_frame(d),
-        Collected::Refused(number) => d,
+        Collected::Frame(_) => app_calls::given::after_frame(d),
+        Collected::Refused(_) => d,
     }
 }
 
@@ -172,6 +147,6 @@ pub fn next(t: Turn, source: &mut Source, size: usize, piece: &mut [u8], store: 
     ensures { Handed t.d (first_of piece.old t.n) store.old (first_of piece.new result.n) store.new result.d result.answer }
 {
     let a = fill(t, source, size, piece);
-    let bytes = app_calls::given::rest(app_text::loading::first(piece, a.n), a.d.at);
+    let bytes = app_text::loading::rest(app_text::loading::first(piece, a.n), a.d.at);
     hand_over(a, bytes, store)
 }

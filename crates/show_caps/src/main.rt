@@ -4,8 +4,8 @@
 #![tactic(auto)]
 
 use app_text::lines::{ERR, OUT};
-use caps::read::CapsReading;
 use caps::{Caps, Entry};
+use wire::Numbered;
 
 // 001, 2.2.1.1: the one flag that has a meaning.
 fn say_capture(flags: u32) {
@@ -42,48 +42,39 @@ fn say_entry(i: u64, e: Entry) {
 }
 
 fn say_caps(c: Caps) {
-    let n = c.n;
-    let first = c.first;
-    let second = c.second;
     say_capture(c.flags);
-    app_text::lines::say_number(OUT, b"entries ", n as u64);
+    app_text::lines::say_number(OUT, b"entries ", c.n as u64);
     app_text::lines::say(OUT, b"\n");
-    if 0 < n {
-        say_entry(1, first);
+    if c.n > 0 {
+        say_entry(1, c.first);
     }
-    if 1 < n {
-        say_entry(2, second);
+    if c.n > 1 {
+        say_entry(2, c.second);
     }
 }
 
 fn show(message: &[u8]) {
     match caps::read::read_caps(message) {
-        CapsReading::Taken(c) => {
+        Ok(c) => {
             say_caps(c);
             app_text::lines::say_done(ERR, b"caps");
         }
-        CapsReading::Refused(number) => app_text::lines::say_refusal(ERR, b"caps", number),
+        Err(refusal) => app_text::lines::say_refusal(ERR, b"caps", refusal.number()),
     }
-}
-
-// The number of the argument that names a file, 0 for none.
-fn file_of(count: usize) -> usize {
-    if count == 2 {
-        return 1;
-    }
-    0
 }
 
 fn main(rt: HostRuntime) {
     let mut space = [0u8; 64];
-    let count = app_text::arguments::count(&rt);
-    if 2 < count {
-        app_text::lines::say(ERR, b"usage: caps [FILE]\n");
-        return;
-    }
+    let file = match app_text::arguments::count(&rt) {
+        0 | 1 => None,
+        2 => Some(1),
+        _ => {
+            app_text::lines::say(ERR, b"usage: caps [FILE]\n");
+            return;
+        }
+    };
     let long = b"no container has more than 49 bytes";
-    let l = app_text::loading::load(&rt, ERR, b"caps", file_of(count), &mut space, long);
-    if l.whole {
-        show(app_text::loading::first(&space, l.n));
+    if let Some(n) = app_text::loading::load(&rt, ERR, b"caps", file, &mut space, long) {
+        show(app_text::loading::first(&space, n));
     }
 }

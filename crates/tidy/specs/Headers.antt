@@ -4,6 +4,7 @@
 use Rattle.std.specs.Prelude.{ℕ, zero, suc, ◌≡◌, Bool, true, false, List, [], ◌∷◌, ◌++◌, leb, eqb, length, take, drop}
 use Rattle.whole.specs.Row.{◌!◌⨾◌, ◌⇒◌∣◌}
 use Rattle.wire.specs.Le.{le16, patch}
+use Rattle.wire.specs.Refusal.{number_of, count_of}
 use Rattle.wire.specs.Wrote.{length_said, out_left}
 use Rattle.session.specs.Header.{record_of, header_fault as panelFault}
 use Rattle.tidy.specs.declared.headers.Waiting.{Waiting}
@@ -130,8 +131,8 @@ store_left (suc f) next store = store
 
 -- by the number of the first fault, the bytes that go on, what waits then and the store then: the answer, the store and the output
 pub record GaveOn (fault : ℕ) (bytes : List ℕ) (next w : Waiting) (after store store' out out' : List ℕ) (r : Gave) : Type 0 where
-  pub number : r.number ≡ fault
-  pub size : r.size ≡ length_said fault bytes
+  pub number : number_of r.answer ≡ fault
+  pub size : count_of r.answer ≡ length_said fault bytes
   pub waiting : r.waiting ≡ waiting_said fault next w
   pub kept : store' ≡ store_left fault after store
   pub left : out' ≡ out_left fault bytes out

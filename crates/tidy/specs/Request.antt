@@ -1,7 +1,7 @@
 -- What is promised of frames and headers that were passed on, for every session record and all bytes, on one page. Proved by `tidy_frames` and `tidy_headers`
 -- (laws/Request).
 -- (01 is this project's scope document, 02 its change requests, 001 is MS-RDPRFX: README, "What 01 is".)
-use Rattle.std.specs.Prelude.{ℕ, ◌<◌, ◌≤◌, ◌≡◌, true, false, eqb, ℤ, length}
+use Rattle.std.specs.Prelude.{ℕ, ◌<◌, ◌≤◌, ◌≡◌, true, false, eqb, ℤ, length, Result}
 use mathlib.Core.List.{List, [], ◌∷◌, ◌++◌, map, flatten, Perm}
 use Rattle.bits.specs.laws.Bytes.{Bytes}
 use Rattle.whole.specs.Row.{◌!◌⨾◌}
@@ -12,13 +12,14 @@ use Rattle.frame_layout.specs.Reader.{frame_fault, frame_tiles, rect_count, set_
 use Rattle.frame_blocks.specs.Blocks.{rects_of}
 use Rattle.frame_blocks.specs.Judged.{judged}
 use Rattle.tidy_code.specs.Sent.{tidy_code}
-use Rattle.tidy.specs.Tidy.{tidy_tile, fault_for, is_tidied, tidy_frame, FrameTidied}
+use Rattle.tidy.specs.Tidy.{tidy_tile, fault_for, is_tidied, tidy_frame, told_of, FrameTidied}
 use Rattle.tidy.specs.Headers.{kind_of, is_sync, all_on, none, blocks_on, GaveOn}
+use Rattle.wire.specs.Refusal.{number_of, count_of}
+use Rattle.wire.specs.declared.Refusal.{Refusal}
 use Rattle.tidy.specs.Held.{HeldGave}
 use Rattle.tidy.specs.declared.frames.Tidied.{Tidied}
 use Rattle.tidy.specs.declared.headers.Gave.{Gave}
 use Rattle.tidy.specs.declared.headers.Waiting.{Waiting}
-use Rattle.tidy.specs.declared.held.Passed.{Passed}
 
 -- a component judged by what its code means for a sender: the panel's number of the tidied code. That the bytes are the sender's own form of a list and not
 -- 01's
@@ -50,8 +51,9 @@ pub record TidyFrames : Type 1 where
   pub never_longer : (sd : ℕ) (s : Session) (m : List ℕ) → length (tidy_frame sd s m) ≤ length m
   -- one answer: two that meet the promise for the same input are equal, the lent lists too
   pub one_answer :
-      (sd : ℕ) (s : Session) (m : List ℕ) (list a b : List ℤ) (out x y : List ℕ) (r q : Tidied) → FrameTidied sd s m list a out x r →
-      FrameTidied sd s m list b out y q → (r.number ≡ q.number) × (r.size ≡ q.size) × (r.cut ≡ q.cut) × (a ≡ b) × (x ≡ y)
+      (sd : ℕ) (s : Session) (m : List ℕ) (list a b : List ℤ) (out x y : List ℕ) (r q : Result Tidied Refusal) → FrameTidied sd s m list a out x r →
+      FrameTidied sd s m list b out y q →
+      (number_of r ≡ number_of q) × ((told_of r).size ≡ (told_of q).size) × ((told_of r).cut ≡ (told_of q).cut) × (a ≡ b) × (x ≡ y)
 
 -- ---- headers
 
@@ -84,9 +86,11 @@ pub record TidyHeaders : Type 1 where
   -- one answer of giving a block, and of letting go what waits: two that meet the promise for the same input are equal, the store and the output too
   pub one_answer :
       (fault : ℕ) (bytes : List ℕ) (next w : Waiting) (after store a b out x y : List ℕ) (r q : Gave) → GaveOn fault bytes next w after store a out x r →
-      GaveOn fault bytes next w after store b out y q → (r.number ≡ q.number) × (r.size ≡ q.size) × (r.waiting ≡ q.waiting) × (a ≡ b) × (x ≡ y)
+      GaveOn fault bytes next w after store b out y q →
+      (number_of r.answer ≡ number_of q.answer) × (count_of r.answer ≡ count_of q.answer) × (r.waiting ≡ q.waiting) × (a ≡ b) × (x ≡ y)
   -- and with what waits in 38 bytes
   pub one_held :
-      (fault : ℕ) (bytes after held a b out x y : List ℕ) (r q : Passed) → HeldGave fault bytes after held a out x r → HeldGave fault bytes after held b out y
+      (fault : ℕ) (bytes after held a b out x y : List ℕ) (r q : Result ℕ Refusal) → HeldGave fault bytes after held a out x r →
+      HeldGave fault bytes after held b out y
       q →
-      (r.number ≡ q.number) × (r.size ≡ q.size) × (a ≡ b) × (x ≡ y)
+      (number_of r ≡ number_of q) × (count_of r ≡ count_of q) × (a ≡ b) × (x ≡ y)

@@ -2,9 +2,12 @@
 -- and data size filled in again" where it is accepted then; and whatever else it is, as it came, "to be refused by number".
 -- What a code means is the sender's, whose number is sd (specs/Sent of the crate tidy_code).
 -- (01 is this project's scope document, 02 its change requests, 001 is MS-RDPRFX: README, "What 01 is".)
-use Rattle.std.specs.Prelude.{ℕ, zero, suc, ◌+◌, ◌*◌, ◌≡◌, Bool, true, false, List, [], ◌∷◌, ◌++◌, leb, eqb, ℤ, pos, length, take, drop, replicate}
+use Rattle.std.specs.Prelude.{ℕ, zero, suc, ◌+◌, ◌*◌, ◌≡◌, Bool, true, false, List, [], ◌∷◌, ◌++◌, leb, eqb, ℤ, pos, length, take, drop}
+use Rattle.std.specs.Prelude.{replicate, Result, Ok, Err}
 use Rattle.whole.specs.Row.{◌!◌⨾◌, ◌⇒◌∣◌}
 use Rattle.wire.specs.Le.{bytes32, patch}
+use Rattle.wire.specs.Refusal.{number_of}
+use Rattle.wire.specs.declared.Refusal.{Refusal}
 use Rattle.wire.specs.Wrote.{length_said, out_left}
 use Rattle.session.specs.Header.{ready}
 use Rattle.session.specs.declared.Session.{Session}
@@ -102,14 +105,19 @@ unfoldable pub cut_said : ℕ → ℕ → ℕ
 cut_said zero n = n
 cut_said (suc f) n = 0
 
+-- length and count of an answer: a refused one has 0 of both
+abbrev pub told_of : Result Tidied Refusal → Tidied
+told_of (Ok t) = t
+told_of (Err refusal) = record { size = 0; cut = 0 }
+
 -- the work list: untouched where the call is refused, else zeros
 unfoldable pub list_left : ℕ → List ℤ → List ℤ
 list_left zero list = replicate 4096 (pos 0)
 list_left (suc f) list = list
 
-pub record FrameTidied (sd : ℕ) (s : Session) (m : List ℕ) (list list' : List ℤ) (out out' : List ℕ) (r : Tidied) : Type 0 where
-  pub number : r.number ≡ tidy_fault sd (length list) (length m) (length out)
-  pub size : r.size ≡ length_said (tidy_fault sd (length list) (length m) (length out)) (tidy_frame sd s m)
-  pub cut : r.cut ≡ cut_said (tidy_fault sd (length list) (length m) (length out)) (codes_cut sd s m)
+pub record FrameTidied (sd : ℕ) (s : Session) (m : List ℕ) (list list' : List ℤ) (out out' : List ℕ) (r : Result Tidied Refusal) : Type 0 where
+  pub number : number_of r ≡ tidy_fault sd (length list) (length m) (length out)
+  pub size : (told_of r).size ≡ length_said (tidy_fault sd (length list) (length m) (length out)) (tidy_frame sd s m)
+  pub cut : (told_of r).cut ≡ cut_said (tidy_fault sd (length list) (length m) (length out)) (codes_cut sd s m)
   pub left : out' ≡ out_left (tidy_fault sd (length list) (length m) (length out)) (tidy_frame sd s m) out
   pub work : list' ≡ list_left (tidy_fault sd (length list) (length m) (length out)) list

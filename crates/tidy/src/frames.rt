@@ -1,6 +1,7 @@
 // A frame passed on: as it came where the panel accepts it, with its codes tidied, by the sender that was named, where that makes it acceptable, and as it came otherwise. The tidied frame
 // is written straight into the output and then judged as the panel would judge it; lengths are those of what was written.
-ghost use Rattle.std.specs.Prelude.{◌≡◌, true, ◌+◌, ◌*◌, ◌≤◌, length};
+ghost use Rattle.std.specs.Prelude.{◌≡◌, ◌+◌, ◌*◌, ◌≤◌, length};
+ghost use Rattle.wire.specs.Refusal.{number_of};
 ghost use Rattle.session.specs.Header.{Right};
 ghost use Rattle.wire.specs.Le.{patch};
 ghost use Rattle.frame_layout.specs.Bytes.{tile_of};
@@ -8,15 +9,15 @@ ghost use Rattle.frame_layout.specs.Reader.{size_at, tile_at, tiles_fault, data_
 ghost use Rattle.frame_blocks.specs.Tiles.{TileWhole};
 ghost use Rattle.frame_blocks.specs.Judged.{SetSound};
 ghost use Rattle.tidy_code.specs.Sent.{tidy_code};
-ghost use Rattle.tidy.specs.Tidy.{tidy_tile, tidy_tiles, frame_tidied, layout_for, tidy_frame, same_bytes, cut_code, cut_tiles, codes_cut, FrameTidied};
+ghost use Rattle.tidy.specs.Tidy.{tidy_tile, tidy_tiles, frame_tidied, layout_for, tidy_frame, same_bytes, cut_code, cut_tiles, codes_cut, told_of, FrameTidied};
 ghost use Rattle.tidy.specs.Put.{Puts, head_with, tile_cut, AllWhole, Laid, closed_as, is_due};
 
 use session::Session;
+use wire::Refusal;
 
-// What passing a frame on came to: 01's number, how many bytes went on, and how many codes were changed.
+// What passing a frame on came to: how many bytes went on, and how many codes were changed.
 #[derive(Clone, Copy)]
 pub struct Tidied {
-    pub number: u8,
     pub size: usize,
     pub cut: usize,
 }
@@ -31,17 +32,7 @@ pub struct Put {
 fn is_same(a: &[u8], b: &[u8]) -> bool
     ensures { result ≡ same_bytes a.now b.now }
 {
-    if a.len() != b.len() {
-        return false;
-    }
-    let mut i = 0;
-    while i < a.len() {
-        if a[i] != b[i] {
-            return false;
-        }
-        i += 1;
-    }
-    true
+    a == b
 }
 
 // One code, tidied, at a place.
@@ -122,15 +113,13 @@ fn put_tiles(
     let mut at = 0;
     let mut to = from;
     let mut cut = 0;
-    let mut i = 0;
-    while i < n {
+    for i in 0..n {
         let p = put_tile(sender, mode, d, at, list, out, to);
         to = p.to;
-        cut = cut + p.cut;
-        at = at + wire::le32_at(d, at + 2);
-        i += 1;
+        cut += p.cut;
+        at += wire::le32_at(d, at + 2);
     }
-    Put { to: to, cut: cut }
+    Put { to, cut }
 }
 
 // The tileset's end and what follows it, and its two lengths: its tiles stand in the output from a place on to before another.
@@ -163,29 +152,24 @@ fn put_frame(sender: u8, mode: u8, m: &[u8], list: &mut [i32], out: &mut [u8]) -
 }
 
 // What is wrong with n tiles of a tileset's data where every code is taken for good.
-fn tiles_layout(s: Session, q: usize, n: usize, d: &[u8]) -> u8
+fn tiles_layout(s: Session, q: usize, n: usize, d: &[u8]) -> Result<(), Refusal>
     requires { Right s }
-    ensures { result ≡ tiles_fault (λ j code. 0) s.width s.height q d.now n 0 }
+    ensures { number_of result ≡ tiles_fault (λ j code. 0) s.width s.height q d.now n 0 }
 {
     let mut at = 0;
-    let mut i = 0;
-    while i < n {
-        let f = frame_blocks::tile::tile_front(s, q, d, at);
-        if f != 0 {
-            return f;
-        }
-        at = at + wire::le32_at(d, at + 2);
-        i += 1;
+    for i in 0..n {
+        frame_blocks::tile::tile_front(s, q, d, at)?;
+        at += wire::le32_at(d, at + 2);
     }
     if at != d.len() {
-        return 4;
+        return Err(Refusal::Length);
     }
-    0
+    Ok(())
 }
 
-fn set_layout(s: Session, m: &[u8], sp: usize) -> u8
+fn set_layout(s: Session, m: &[u8], sp: usize) -> Result<(), Refusal>
     requires { Right s × SetSound m.now sp }
-    ensures { result ≡ tiles_fault (λ j code. 0) s.width s.height (quant_count m.now sp) (data_of m.now sp) (tile_count m.now sp) 0 }
+    ensures { number_of result ≡ tiles_fault (λ j code. 0) s.width s.height (quant_count m.now sp) (data_of m.now sp) (tile_count m.now sp) 0 }
 {
     let q = wire::byte_at(m, sp + 14);
     let n = wire::le16_at(m, sp + 16);
@@ -194,19 +178,13 @@ fn set_layout(s: Session, m: &[u8], sp: usize) -> u8
 }
 
 // What is wrong with a frame's layout, indices and places.
-fn layout_fault(s: Session, m: &[u8]) -> u8
+fn layout_fault(s: Session, m: &[u8]) -> Result<(), Refusal>
     requires { Right s }
-    ensures { result ≡ layout_for s m.now }
+    ensures { number_of result ≡ layout_for s m.now }
 {
-    let f = frame::call::front_fault(s.mode, m);
-    if f != 0 {
-        return f;
-    }
+    frame::call::front_fault(s.mode, m)?;
     let sp = 14 + wire::le32_at(m, 16);
-    let g = set_layout(s, m, sp);
-    if g != 0 {
-        return g;
-    }
+    set_layout(s, m, sp)?;
     let size = wire::le32_at(m, sp + 2);
     frame_blocks::block::end_fault(m, sp + size)
 }
@@ -216,14 +194,13 @@ fn is_due(s: Session, m: &[u8], list: &mut [i32]) -> bool
     requires { length list.old ≡ 4096 }
     ensures { result ≡ is_due s m.now }
 {
-    if session::is_ready(s) {
-        let f = frame::call::message_fault(s, m, list);
-        if f == 0 {
-            return false;
-        }
-        return layout_fault(s, m) == 0;
+    if !session::is_ready(s) {
+        return false;
     }
-    false
+    if frame::call::message_fault(s, m, list).is_ok() {
+        return false;
+    }
+    layout_fault(s, m).is_ok()
 }
 
 fn keep(m: &[u8], out: &mut [u8]) -> Put
@@ -244,8 +221,7 @@ fn pass_frame(sender: u8, s: Session, m: &[u8], list: &mut [i32], out: &mut [u8]
 {
     if is_due(s, m, list) {
         let p = put_frame(sender, s.mode, m, list, out);
-        let n = p.to;
-        if frame::call::message_fault(s, &out[..n], list) == 0 {
+        if frame::call::message_fault(s, &out[..p.to], list).is_ok() {
             return p;
         }
         return keep(m, out);
@@ -260,35 +236,29 @@ pub fn tidy_frame(
     message: &[u8],
     list: &mut [i32],
     out: &mut [u8],
-) -> Tidied
+) -> Result<Tidied, Refusal>
     ensures { FrameTidied sender s message.now list.old list.new out.old out.new result }
 {
     if !tidy_code::is_sender(sender) {
-        return Tidied {
-            number: 5,
-            size: 0,
-            cut: 0,
-        };
+        return Err(Refusal::Field);
     }
     if list.len() != 4096 {
-        return Tidied {
-            number: 2,
-            size: 0,
-            cut: 0,
-        };
+        return Err(Refusal::Buffer);
     }
     if out.len() < message.len() {
-        return Tidied {
-            number: 13,
-            size: 0,
-            cut: 0,
-        };
+        return Err(Refusal::Room);
     }
     let p = pass_frame(sender, s, message, list, out);
     whole::clear(list);
-    Tidied {
-        number: 0,
+    Ok(Tidied {
         size: p.to,
         cut: p.cut,
-    }
+    })
+}
+
+// Length and count of an answer; a refused one has 0 of both.
+pub fn told(answer: Result<Tidied, Refusal>) -> Tidied
+    ensures { result ≡ told_of answer }
+{
+    answer.unwrap_or(Tidied { size: 0, cut: 0 })
 }

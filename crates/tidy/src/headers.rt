@@ -2,10 +2,14 @@
 // Nothing is lost: where another block comes before that, what waits goes on as it came, and the block behind it.
 ghost use Rattle.std.specs.Prelude.{◌≡◌, true, ◌++◌, ◌+◌, ◌≤◌, length};
 ghost use Rattle.wire.specs.Le.{patch};
+ghost use Rattle.wire.specs.Refusal.{number_of};
 ghost use Rattle.tidy.specs.Headers.{kind_by, kind_of, is_sync, place_of, length_of, waiting_bytes, waits, waiting_by, waiting_after, held_on};
 ghost use Rattle.tidy.specs.Headers.{passed_on, store_after, flag_of, header_fault, none, GaveOn};
 
-// Whether blocks wait (behind a good sync), and which: 1 versions, 2 channels, 3 context, 0 none.
+use wire::Refusal;
+
+// Whether blocks wait (behind a good sync), and which: 1 versions, 2 channels, 3 context, 0 none. Numbers and no enum: a caller in C keeps them among 38 bytes, and
+// `header_fault` judges them.
 #[derive(Clone, Copy)]
 pub struct Waiting {
     pub on: u8,
@@ -13,12 +17,11 @@ pub struct Waiting {
     pub second: u8,
 }
 
-// What giving a block came to: what waits then, 01's number, and how many bytes go on.
+// What giving a block came to: what waits then, and how many bytes go on.
 #[derive(Clone, Copy)]
 pub struct Gave {
     pub waiting: Waiting,
-    pub number: u8,
-    pub size: usize,
+    pub answer: Result<usize, Refusal>,
 }
 
 // One of the three by its type and length; 0 is any other block.
@@ -59,7 +62,7 @@ fn kind_of(block: &[u8]) -> u8
 fn is_sync(block: &[u8]) -> bool
     ensures { result ≡ is_sync block.now }
 {
-    session::header_number(session::take_header(session::open(0), block)) == 0
+    session::take_header(session::open(0), block).is_ok()
 }
 
 // The place of each of the three in the store.
@@ -151,22 +154,22 @@ fn waiting_by(w: Waiting, k: u8, sync: bool) -> Waiting
 }
 
 // The refusals of a call that passes on so many bytes at most.
-fn header_fault(store: usize, w: Waiting, most: usize, room: usize) -> u8
-    ensures { result ≡ header_fault store w most room }
+fn header_fault(store: usize, w: Waiting, most: usize, room: usize) -> Result<(), Refusal>
+    ensures { number_of result ≡ header_fault store w most room }
 {
     if store != 35 {
-        return 2;
+        return Err(Refusal::Buffer);
     }
     if 3 < w.first {
-        return 2;
+        return Err(Refusal::Buffer);
     }
     if 3 < w.second {
-        return 2;
+        return Err(Refusal::Buffer);
     }
     if room < most {
-        return 13;
+        return Err(Refusal::Room);
     }
-    0
+    Ok(())
 }
 
 // What waits, as it came.
@@ -208,12 +211,10 @@ fn put_other(w: Waiting, block: &[u8], store: &[u8], out: &mut [u8]) -> usize
 pub fn give_header(w: Waiting, block: &[u8], store: &mut [u8], out: &mut [u8]) -> Gave
     ensures { GaveOn (header_fault (length store.old) w (35 + length block.now) (length out.old)) (passed_on w store.old block.now) (waiting_after w block.now) w (store_after w store.old block.now) store.old store.new out.old out.new result }
 {
-    let f = header_fault(store.len(), w, 35 + block.len(), out.len());
-    if f != 0 {
+    if let Err(refusal) = header_fault(store.len(), w, 35 + block.len(), out.len()) {
         return Gave {
             waiting: w,
-            number: f,
-            size: 0,
+            answer: Err(refusal),
         };
     }
     let k = kind_of(block);
@@ -222,15 +223,13 @@ pub fn give_header(w: Waiting, block: &[u8], store: &mut [u8], out: &mut [u8]) -
         let n = hold(w, k, block, store, out);
         return Gave {
             waiting: next,
-            number: 0,
-            size: n,
+            answer: Ok(n),
         };
     }
     let n = put_other(w, block, store, out);
     Gave {
         waiting: next,
-        number: 0,
-        size: n,
+        answer: Ok(n),
     }
 }
 
@@ -238,12 +237,10 @@ pub fn give_header(w: Waiting, block: &[u8], store: &mut [u8], out: &mut [u8]) -
 pub fn flush(w: Waiting, store: &[u8], out: &mut [u8]) -> Gave
     ensures { GaveOn (header_fault (length store.now) w 35 (length out.old)) (waiting_bytes w store.now) none w store.now store.now store.now out.old out.new result }
 {
-    let f = header_fault(store.len(), w, 35, out.len());
-    if f != 0 {
+    if let Err(refusal) = header_fault(store.len(), w, 35, out.len()) {
         return Gave {
             waiting: w,
-            number: f,
-            size: 0,
+            answer: Err(refusal),
         };
     }
     let n = put_waiting(w, store, out);
@@ -254,7 +251,6 @@ pub fn flush(w: Waiting, store: &[u8], out: &mut [u8]) -> Gave
     };
     Gave {
         waiting: nothing,
-        number: 0,
-        size: n,
+        answer: Ok(n),
     }
 }

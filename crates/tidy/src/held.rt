@@ -5,13 +5,7 @@ ghost use Rattle.tidy.specs.Held.{HeldGave, held_fault, waiting_in, store_in, he
 ghost use Rattle.tidy.specs.Headers.{none, waiting_bytes, passed_on, waiting_after, store_after};
 
 use crate::headers::Waiting;
-
-// 01's number, and how many bytes go on.
-#[derive(Clone, Copy)]
-pub struct Passed {
-    pub number: u8,
-    pub size: usize,
-}
+use wire::Refusal;
 
 // What waits, of 38 bytes.
 fn waiting_in(held: &[u8]) -> Waiting
@@ -35,34 +29,28 @@ fn put_waiting_in(held: &mut [u8], w: Waiting)
     held[2] = w.second;
 }
 
-// One block given: what goes on now is in the output, what waits in the 38 bytes. Another number of them is 2.
-pub fn give_held(held: &mut [u8], block: &[u8], out: &mut [u8]) -> Passed
+// One block given, and how many bytes go on: what goes on now is in the output, what waits in the 38 bytes. Another number of them is 2.
+pub fn give_held(held: &mut [u8], block: &[u8], out: &mut [u8]) -> Result<usize, Refusal>
     ensures { HeldGave (held_fault held.old (35 + length block.now) (length out.old)) (passed_on (waiting_in held.old) (store_in held.old) block.now) (held_of (waiting_after (waiting_in held.old) block.now) (store_after (waiting_in held.old) (store_in held.old) block.now)) held.old held.new out.old out.new result }
 {
     if held.len() != 38 {
-        return Passed { number: 2, size: 0 };
+        return Err(Refusal::Buffer);
     }
     let w = waiting_in(held);
     let g = crate::headers::give_header(w, block, &mut held[3..], out);
     put_waiting_in(held, g.waiting);
-    Passed {
-        number: g.number,
-        size: g.size,
-    }
+    g.answer
 }
 
 // What waits let go: it goes on as it came, and nothing waits then.
-pub fn flush_held(held: &mut [u8], out: &mut [u8]) -> Passed
+pub fn flush_held(held: &mut [u8], out: &mut [u8]) -> Result<usize, Refusal>
     ensures { HeldGave (held_fault held.old 35 (length out.old)) (waiting_bytes (waiting_in held.old) (store_in held.old)) (held_of none (store_in held.old)) held.old held.new out.old out.new result }
 {
     if held.len() != 38 {
-        return Passed { number: 2, size: 0 };
+        return Err(Refusal::Buffer);
     }
     let w = waiting_in(held);
     let g = crate::headers::flush(w, &held[3..], out);
     put_waiting_in(held, g.waiting);
-    Passed {
-        number: g.number,
-        size: g.size,
-    }
+    g.answer
 }

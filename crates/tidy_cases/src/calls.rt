@@ -2,6 +2,7 @@
 ghost use Rattle.std.specs.Prelude.{length, ◌≤◌, ◌≡◌};
 
 use app_text::lines::OUT;
+use wire::Refusal;
 
 // What a record asks of the frame's call.
 #[derive(Clone, Copy)]
@@ -24,18 +25,11 @@ fn end_with(h: u64) {
     app_text::lines::say(OUT, b"\n");
 }
 
-fn said(changed: bool) -> u64 {
-    if changed {
-        return 1;
-    }
-    0
-}
-
 // The line of a code: whether it changed, the bytes that go on, and their hash.
 fn say_code(changed: bool, goes: &[u8]) {
-    app_text::lines::say_number(OUT, b"", said(changed));
+    app_text::lines::say_number(OUT, b"", u64::from(changed));
     say_next(goes.len() as u64);
-    end_with(app_recording::lent::hash_bytes(goes));
+    end_with(app_recording::lent::hash(goes));
 }
 
 // A code tidied, with room for what came.
@@ -52,12 +46,12 @@ pub fn code(sender: u8, mode: u8, s: &[u8], out: &mut [u8]) {
     }
     let n = code_on(sender, mode, s, &mut list, out);
     let goes = app_text::loading::first(out, n);
-    say_code(!check::same(goes, s), goes);
+    say_code(goes != s, goes);
 }
 
 // The state of a work list: none, untouched, zeros.
 fn letter_of(list: &[i32]) -> u8 {
-    if list.len() == 0 {
+    if list.is_empty() {
         return b'-';
     }
     if app_recording::lent::all_are(list, 7) {
@@ -71,69 +65,64 @@ fn letter_of(list: &[i32]) -> u8 {
 
 // A frame tidied on the lists lent; how many bytes were written.
 fn frame_on(a: Asked, message: &[u8], list: &mut [i32], out: &mut [u8]) -> usize {
-    app_recording::lent::fill_bytes(out, 0xA5);
+    out.fill(0xA5);
     let s = session::of_numbers(4, a.width, a.height, a.mode);
     let t = tidy::frames::tidy_frame(a.sender, s, message, list, out);
-    app_text::lines::say_number(OUT, b"", t.number as u64);
-    say_next(t.size as u64);
-    say_next(t.cut as u64);
+    let on = tidy::frames::told(t);
+    app_text::lines::say_number(OUT, b"", wire::number_of(t) as u64);
+    say_next(on.size as u64);
+    say_next(on.cut as u64);
     app_text::lines::say(OUT, b" ");
     app_text::lines::say(OUT, &[letter_of(list)]);
-    end_with(app_recording::lent::hash_bytes(out));
-    t.size
+    end_with(app_recording::lent::hash(out));
+    on.size
 }
 
 pub fn frame(a: Asked, message: &[u8], out: &mut [u8]) -> usize {
     let mut space = [7i32; 8192];
-    let list: &mut [i32] = &mut space;
-    let n = a.list;
-    let room = a.room;
-    if list.len() < n {
-        return 0;
+    match (space.get_mut(..a.list), out.get_mut(..a.room)) {
+        (Some(list), Some(part)) => frame_on(a, message, list, part),
+        _ => 0,
     }
-    if out.len() < room {
-        return 0;
-    }
-    frame_on(a, message, &mut list[0..n], &mut out[0..room])
 }
 
 // Bytes kept elsewhere, as many as there is room for; how many.
 pub fn kept(from: &[u8], to: &mut [u8]) -> usize {
-    if to.len() < from.len() {
-        return 0;
+    match to.get_mut(..from.len()) {
+        Some(part) => {
+            part.copy_from_slice(from);
+            from.len()
+        }
+        None => 0,
     }
-    collect::copy(to, 0, from, 0, from.len());
-    from.len()
 }
 
-fn say_passed(p: tidy::held::Passed, out: &[u8]) {
-    app_text::lines::say_number(OUT, b"", p.number as u64);
-    say_next(p.size as u64);
-    end_with(app_recording::lent::hash_bytes(out));
+fn say_passed(p: Result<usize, Refusal>, out: &[u8]) {
+    app_text::lines::say_number(OUT, b"", wire::number_of(p) as u64);
+    say_next(wire::count_of(p) as u64);
+    end_with(app_recording::lent::hash(out));
 }
 
 fn header_on(held: &mut [u8], block: &[u8], out: &mut [u8]) {
-    app_recording::lent::fill_bytes(out, 0xA5);
+    out.fill(0xA5);
     let p = tidy::held::give_held(held, block, out);
     say_passed(p, out);
 }
 
 pub fn header(held: &mut [u8], block: &[u8], out: &mut [u8], room: usize) {
-    if out.len() < room {
-        return;
+    if let Some(part) = out.get_mut(..room) {
+        header_on(held, block, part);
     }
-    header_on(held, block, &mut out[0..room]);
 }
 
 fn flush_on(held: &mut [u8], out: &mut [u8]) {
-    app_recording::lent::fill_bytes(out, 0xA5);
+    out.fill(0xA5);
     let p = tidy::held::flush_held(held, out);
     say_passed(p, out);
 }
 
 pub fn flush(held: &mut [u8], out: &mut [u8], room: usize) {
-    if out.len() < room {
-        return;
+    if let Some(part) = out.get_mut(..room) {
+        flush_on(held, part);
     }
-    flush_on(held, &mut out[0..room]);
 }

@@ -5,66 +5,51 @@ ghost use Rattle.std.specs.Prelude.{◌≡◌, ◌/◌, ◌<◌, ◌≤◌, leng
 ghost use Rattle.bits.specs.Bits.{bits_of, num_of};
 ghost use Rattle.code.specs.ReadList.{run_first, elem_of};
 
-use bits::Num;
-use code::element::{Element, Refusal, State};
+use code::element::{Element, State};
+use wire::Refusal;
 
 // An element with k = 0: the GR number, and in RLGR3 the first half behind it.
-fn low(s: &[u8], rlgr3: bool, c: State, left: usize) -> Element
+#[tactic(auto, unfolding(code::specs::ReadList::elem_of))]
+fn low(s: &[u8], rlgr3: bool, c: State, left: usize) -> Result<Element, Refusal>
     requires { (length s.now ≤ 65535) × (c.kp < 8) × (c.krp ≤ 80) }
     ensures { result ≡ elem_of rlgr3 c.kp c.krp left c.at (bits_of s.now) }
 {
-    match bits::golomb(s, c.at, c.krp / 8) {
-        Num::Cut => Element::Refused(Refusal::Cut),
-        Num::Got(g, mid) => {
-            if rlgr3 {
-                match bits::number(s, mid, code::element::bit_size(g)) {
-                    Num::Cut => Element::Refused(Refusal::Cut),
-                    Num::Got(a, next) => code::element::judge_pair(c, left, g, a, next),
-                }
-            } else {
-                code::element::judge_one(c, g, mid)
-            }
-        }
+    let (g, mid) = bits::golomb(s, c.at, c.krp / 8).ok_or(Refusal::Cut)?;
+    if !rlgr3 {
+        return code::element::judge_one(c, g, mid);
     }
+    let (a, next) = bits::number(s, mid, code::element::bit_size(g)).ok_or(Refusal::Cut)?;
+    code::element::judge_pair(c, left, g, a, next)
 }
 
 // The bits of a run after its 1: the zeros, the sign, the GR number.
-fn run_value(s: &[u8], c: State, left: usize, from: usize) -> Element
+fn run_value(s: &[u8], c: State, left: usize, from: usize) -> Result<Element, Refusal>
     requires { (length s.now ≤ 65535) × (c.kp ≤ 80) × (c.krp ≤ 80) }
     ensures { result ≡ run_first c.kp c.krp left (bits_of s.now) (num_of (c.kp / 8) 0 from (drop from (bits_of s.now))) }
 {
-    match bits::number(s, from, c.kp / 8) {
-        Num::Cut => Element::Refused(Refusal::Cut),
-        Num::Got(z, mid) => match bits::number(s, mid, 1) {
-            Num::Cut => Element::Refused(Refusal::Cut),
-            Num::Got(sign, late) => match bits::golomb(s, late, c.krp / 8) {
-                Num::Cut => Element::Refused(Refusal::Cut),
-                Num::Got(g, next) => code::element::judge_run(c, left, z, sign, g, next),
-            },
-        },
-    }
+    let (z, mid) = bits::number(s, from, c.kp / 8).ok_or(Refusal::Cut)?;
+    let (sign, late) = bits::number(s, mid, 1).ok_or(Refusal::Cut)?;
+    let (g, next) = bits::golomb(s, late, c.krp / 8).ok_or(Refusal::Cut)?;
+    code::element::judge_run(c, left, z, sign, g, next)
 }
 
 // One code element.
-pub fn read_element(s: &[u8], rlgr3: bool, c: State, left: usize) -> Element
+#[tactic(auto, unfolding(code::specs::ReadList::elem_of))]
+pub fn read_element(s: &[u8], rlgr3: bool, c: State, left: usize) -> Result<Element, Refusal>
     requires { (length s.now ≤ 65535) × (c.kp ≤ 80) × (c.krp ≤ 80) }
     ensures { result ≡ elem_of rlgr3 c.kp c.krp left c.at (bits_of s.now) }
 {
     if c.kp < 8 {
         return low(s, rlgr3, c, left);
     }
-    match bits::number(s, c.at, 1) {
-        Num::Cut => Element::Refused(Refusal::Cut),
-        Num::Got(b, next) => {
-            if b == 0 {
-                let t = State {
-                    at: next,
-                    kp: code::element::more(c.kp, 4),
-                    krp: c.krp,
-                };
-                return Element::Zeros(1usize << (c.kp / 8), t);
-            }
-            run_value(s, c, left, next)
-        }
+    let (b, next) = bits::number(s, c.at, 1).ok_or(Refusal::Cut)?;
+    if b == 0 {
+        let t = State {
+            at: next,
+            kp: code::element::more(c.kp, 4),
+            krp: c.krp,
+        };
+        return Ok(Element::Zeros(1usize << (c.kp / 8), t));
     }
+    run_value(s, c, left, next)
 }

@@ -32,11 +32,11 @@ fn read_padded(mode: u8, w: &[u8], list: &mut [i32]) -> bool
     ensures { Answers (padded_meant mode w.now) list.new result }
 {
     let a = code::read::read_component(mode, w, list);
-    if code::read::reading_number(a) == 0 {
-        if 5 <= code::read::reading_bits(a) % 8 {
-            return true;
-        }
+    if code::read::reading_number(a) != 0 {
         return refuse(list);
+    }
+    if 5 <= code::read::reading_bits(a) % 8 {
+        return true;
     }
     refuse(list)
 }
@@ -60,13 +60,8 @@ fn read_others(sender: u8, mode: u8, s: &[u8], list: &mut [i32]) -> bool
     requires { (length s.now ≤ 65535) × (length list.old ≡ 4096) }
     ensures { Answers (others_meant sender mode s.now) list.new result }
 {
-    let n = s.len();
-    if 0 < n {
-        let m = n - 1;
-        if s[m] == 0 {
-            return read_surplus(sender, mode, &s[..m], list);
-        }
-        return refuse(list);
+    if let [w @ .., 0] = s {
+        return read_surplus(sender, mode, w, list);
     }
     refuse(list)
 }

@@ -1,6 +1,6 @@
 // The form of MS-RDPRFX's own sample without its last byte: a code of 4,097 values, of which the last is -1. 01's elements with 4,097 places (01, "The component code"),
 // into a list of 4,096; the last value is not stored, but looked at.
-ghost use Rattle.std.specs.Prelude.{◌≡◌, true, ◌+◌, ◌*◌, ◌-◌, ◌<◌, ◌≤◌, min, length, drop, set, replicate, pos};
+ghost use Rattle.std.specs.Prelude.{◌≡◌, true, ◌+◌, ◌*◌, ◌-◌, ◌<◌, ◌≤◌, length, drop, set, replicate, pos};
 ghost use Rattle.bits.specs.Bits.{bits_of};
 ghost use Rattle.code.specs.Fold.{unfold_z};
 ghost use Rattle.code.specs.ReadList.{read_list};
@@ -9,30 +9,8 @@ ghost use Rattle.code.specs.Fill.{Fine};
 ghost use Rattle.tidy_code.specs.Sent.{longer_meant, Answers};
 ghost use Rattle.tidy_code.specs.Longer.{with_last, PlacedAs, FilledAs};
 
-use bits::Num;
 use code::element::{Element, State};
-
-// What storing an element found: the next place, the state there and the last value; or a refusal.
-#[derive(Clone, Copy)]
-pub enum Placed {
-    At(usize, State, usize),
-    No,
-}
-
-// What filling found: the code's length in bits and the last value; or a refusal.
-#[derive(Clone, Copy)]
-pub enum Filled {
-    Whole(usize, usize),
-    Bad,
-}
-
-// The place z places past i, at most 4,097.
-fn past(i: usize, z: usize) -> usize
-    requires { i ≤ 4097 }
-    ensures { result ≡ min 4097 (i + z) }
-{
-    if 4097 - i < z { 4097 } else { i + z }
-}
+use wire::Refusal;
 
 // Stores a folded value at place i of 4,097; the answer is the last value.
 fn store(list: &mut [i32], last: usize, i: usize, v: usize) -> usize
@@ -46,31 +24,30 @@ fn store(list: &mut [i32], last: usize, i: usize, v: usize) -> usize
     v
 }
 
-// Stores the values of an element at place i of 4,097, which hold zeros from there on.
-fn place(list: &mut [i32], last: usize, i: usize, e: Element) -> Placed
+// Stores the values of an element at place i of 4,097, which hold zeros from there on. The answer is the next place, the state there and the last value.
+fn place(list: &mut [i32], last: usize, i: usize, e: Element) -> (usize, State, usize)
     requires { (length list.old ≡ 4096) × (i < 4097) × Fine 4097 i e }
     ensures { PlacedAs (with_last list.old last) i e list.new result }
 {
     match e {
-        Element::Refused(r) => Placed::No,
-        Element::Zeros(z, t) => Placed::At(past(i, z), t, last),
+        Element::Zeros(z, t) => (code::read::clipped(4097, i, z), t, last),
         Element::One(z, v, t) => {
             let l = store(list, last, i + z, v);
-            Placed::At(i + z + 1, t, l)
+            (i + z + 1, t, l)
         }
         Element::Two(a, b, t) => {
             let l = store(list, last, i, a);
             if i + 1 < 4097 {
                 let k = store(list, l, i + 1, b);
-                return Placed::At(i + 2, t, k);
+                return (i + 2, t, k);
             }
-            Placed::At(4097, t, l)
+            (4097, t, l)
         }
     }
 }
 
-// Reads the values of a code into 4,097 places that hold zeros.
-fn fill(s: &[u8], rlgr3: bool, list: &mut [i32]) -> Filled
+// Reads the values of a code into 4,097 places that hold zeros: the code's length in bits and the last value.
+fn fill(s: &[u8], rlgr3: bool, list: &mut [i32]) -> Result<(usize, usize), Refusal>
     requires { (length s.now ≤ 65535) × (length list.old ≡ 4096) × (list.old ≡ replicate 4096 (pos 0)) }
     ensures { FilledAs (read_list rlgr3 4097 (bits_of s.now)) list.new result }
 {
@@ -81,24 +58,18 @@ fn fill(s: &[u8], rlgr3: bool, list: &mut [i32]) -> Filled
     };
     let mut i: usize = 0;
     let mut last: usize = 0;
+    // (A `while`: how many places a turn covers is its element's.)
     while i < 4097 {
-        let e = crate::element::read_element(s, rlgr3, c, 4097 - i);
-        match place(list, last, i, e) {
-            Placed::No => {
-                return Filled::Bad;
-            }
-            Placed::At(j, t, l) => {
-                i = j;
-                c = t;
-                last = l;
-            }
-        }
+        let e = crate::element::read_element(s, rlgr3, c, 4097 - i)?;
+        let (j, t, l) = place(list, last, i, e);
+        i = j;
+        c = t;
+        last = l;
     }
-    let at = c.at;
-    Filled::Whole(at, last)
+    Ok((c.at, last))
 }
 
-// Whether fewer than 8 bits stand from a place on, and none of them is 1.
+// Whether fewer than 8 bits stand from a place on, and none of them is 1. (The component reader has its own: an edit bends this one.)
 fn clean_tail(s: &[u8], at: usize) -> bool
     requires { (length s.now ≤ 65535) × (at ≤ length s.now * 8) }
     ensures { result ≡ clean (drop at (bits_of s.now)) }
@@ -108,8 +79,8 @@ fn clean_tail(s: &[u8], at: usize) -> bool
         return false;
     }
     match bits::number(s, at, left) {
-        Num::Cut => false,
-        Num::Got(v, next) => v == 0,
+        None => false,
+        Some((v, _)) => v == 0,
     }
 }
 
@@ -120,15 +91,15 @@ pub fn read_longer(s: &[u8], rlgr3: bool, list: &mut [i32]) -> bool
 {
     whole::clear(list);
     match fill(s, rlgr3, list) {
-        Filled::Bad => crate::refuse(list),
-        Filled::Whole(at, last) => {
-            if clean_tail(s, at) {
-                if last == 1 {
-                    return true;
-                }
+        Err(_) => crate::refuse(list),
+        Ok((at, last)) => {
+            if !clean_tail(s, at) {
                 return crate::refuse(list);
             }
-            crate::refuse(list)
+            if last != 1 {
+                return crate::refuse(list);
+            }
+            true
         }
     }
 }

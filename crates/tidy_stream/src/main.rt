@@ -7,16 +7,14 @@
 mod passing;
 
 use crate::passing::Desk;
+use app_text::arguments::Usage;
 use app_text::lines::ERR;
 use std::io::Read;
 use std::rt::Env;
 
 // Reads the next piece: how many bytes came, 0 at the end of the input.
 fn read_piece(rt: &HostRuntime, piece: &mut [u8]) -> usize {
-    match rt.stdin().read(piece) {
-        Ok(n) => n,
-        Err(_) => 0,
-    }
+    rt.stdin().read(piece).unwrap_or(0)
 }
 
 // What was done, in one line.
@@ -51,7 +49,7 @@ fn turn(
     )
 }
 
-// The whole input. A proved loop ends, and nothing says that an input does: the turns are counted down from a number that no run uses up.
+// The whole input. A proved loop ends, and nothing says that an input does: the turns are counted up to a number that no run comes to.
 fn run(
     rt: &HostRuntime,
     sender: u8,
@@ -62,10 +60,11 @@ fn run(
     out: &mut [u8],
 ) {
     let mut d = crate::passing::fresh(sender);
-    let mut turns = u64::MAX;
-    while 0 < turns && d.go {
+    for _ in 0..u64::MAX {
+        if !d.go {
+            break;
+        }
         d = turn(rt, d, piece, store, held, list, out);
-        turns -= 1;
     }
     say_all(crate::passing::finish(d, store, held, out));
 }
@@ -87,54 +86,56 @@ fn run_in(
 fn is_word(rt: &impl Env, i: usize, word: &[u8]) -> bool {
     let mut text = [0u8; 16];
     let n = app_text::arguments::argument(rt, i, &mut text);
-    check::same(app_text::loading::first(&text, n), word)
+    app_text::loading::first(&text, n) == word
 }
 
-// The sender's number by its name; 255 where there is none of that name.
-fn named(rt: &impl Env) -> u8 {
+// The sender's number by its name.
+fn named(rt: &impl Env) -> Result<u8, Usage> {
     if is_word(rt, 2, b"strict") {
-        return 0;
+        return Ok(0);
     }
     if is_word(rt, 2, b"freerdp") {
-        return 1;
+        return Ok(1);
     }
     if is_word(rt, 2, b"sample") {
-        return 2;
+        return Ok(2);
     }
-    255
+    Err(Usage)
 }
 
-// The sender that the arguments name: strict where there are none, which is said; 255 where they are not as the usage says.
-fn sender_of(rt: &impl Env) -> u8 {
+// The sender that the arguments name: strict where there are none, which is said.
+fn sender_of(rt: &impl Env) -> Result<u8, Usage> {
     let n = app_text::arguments::count(rt);
     if n < 2 {
         app_text::lines::say(
             ERR,
             b"tidy: sender strict; --sender freerdp or --sender sample names another\n",
         );
-        return 0;
+        return Ok(0);
     }
     if n == 3 && is_word(rt, 1, b"--sender") {
         return named(rt);
     }
-    255
+    Err(Usage)
 }
 
-fn main(rt: HostRuntime) {
-    let sender = sender_of(&rt);
-    if sender == 255 {
-        app_text::lines::say(
-            ERR,
-            b"usage: tidy_stream [--sender strict|freerdp|sample] < IN.rfx > OUT.rfx\n",
-        );
-        return;
-    }
+fn start(rt: &HostRuntime, sender: u8) {
     let mut piece = [0u8; 65536];
     let mut store = [0u8; 3145728];
     let mut held = [0u8; 35];
     let mut list = [0i32; 4096];
     let mut out = [0u8; 3145792];
     run_in(
-        &rt, sender, &mut piece, &mut store, &mut held, &mut list, &mut out,
+        rt, sender, &mut piece, &mut store, &mut held, &mut list, &mut out,
     );
+}
+
+fn main(rt: HostRuntime) {
+    match sender_of(&rt) {
+        Ok(sender) => start(&rt, sender),
+        Err(Usage) => app_text::lines::say(
+            ERR,
+            b"usage: tidy_stream [--sender strict|freerdp|sample] < IN.rfx > OUT.rfx\n",
+        ),
+    }
 }

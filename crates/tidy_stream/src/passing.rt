@@ -7,6 +7,7 @@ use collect::{Collected, Collector};
 use session::Session;
 use tidy::frames::Tidied;
 use tidy::headers::{Gave, Waiting};
+use wire::{Numbered, Refusal};
 
 // What goes on from part to part: the sender's number; the session's record, the collector's, the headers that wait, what is passed over, the place in the bytes that
 // are given; how many frames went on and how many of them changed; whether all goes on as it came, whether it could be written, and whether more is to come.
@@ -57,7 +58,7 @@ fn put(bytes: &[u8], n: usize) -> bool {
 
 // The block at a place, by its blockLen; nothing where it is not whole.
 fn block_at(m: &[u8], at: usize) -> &[u8] {
-    let left = app_stream::pieces::rest(m, at);
+    let left = app_text::loading::rest(m, at);
     if left.len() < 6 {
         return &left[..0];
     }
@@ -68,45 +69,40 @@ fn block_at(m: &[u8], at: usize) -> &[u8] {
 fn read_all(from: Session, m: &[u8]) -> Session {
     let mut s = from;
     let mut at: usize = 0;
-    let mut turns = m.len();
-    while 0 < turns && at < m.len() {
+    for _ in 0..m.len() {
+        if m.len() <= at {
+            return s;
+        }
         let b = block_at(m, at);
         s = session::header_record(session::take_header(s, b), s);
-        at = std::num::wrapping_add_usize(at, b.len());
-        turns -= 1;
+        at = at.wrapping_add(b.len());
     }
     s
 }
 
 // After bytes that were passed on.
 fn passed(d: Desk, s: Session, w: Waiting, good: bool) -> Desk {
-    let c = d.c;
-    let k = d.k;
     Desk {
-        sender: d.sender,
-        s: s,
-        c: c,
-        w: w,
-        k: k,
-        at: d.at,
-        frames: d.frames,
-        changed: d.changed,
-        plain: d.plain,
+        s,
+        w,
         good: d.good && good,
-        go: d.go,
+        ..d
     }
 }
 
 // What goes on of a header block; where the lent memory did not do, the block as it came.
 fn headers_on(d: Desk, g: Gave, block: &[u8], out: &[u8]) -> Desk {
-    if g.number != 0 {
-        let same = put(block, block.len());
-        return passed(d, d.s, d.w, same);
+    match g.answer {
+        Ok(n) => {
+            let good = put(out, n);
+            let s = read_all(d.s, app_text::loading::first(out, n));
+            passed(d, s, g.waiting, good)
+        }
+        Err(_) => {
+            let same = put(block, block.len());
+            passed(d, d.s, d.w, same)
+        }
     }
-    let w = g.waiting;
-    let good = put(out, g.size);
-    let s = read_all(d.s, app_text::loading::first(out, g.size));
-    passed(d, s, w, good)
 }
 
 // A header block.
@@ -117,9 +113,9 @@ fn header(d: Desk, block: &[u8], held: &mut [u8], out: &mut [u8]) -> Desk {
 
 // The headers that wait, as they came: a frame or the end of the input is there before the third of them.
 fn let_go(d: Desk, held: &[u8], out: &mut [u8]) -> Desk {
-    let g = tidy::headers::flush(d.w, held, out);
-    let good = put(out, g.size);
-    let s = read_all(d.s, app_text::loading::first(out, g.size));
+    let n = wire::count_of(tidy::headers::flush(d.w, held, out).answer);
+    let good = put(out, n);
+    let s = read_all(d.s, app_text::loading::first(out, n));
     passed(d, s, none(), good)
 }
 
@@ -135,35 +131,27 @@ fn say_cut(frame: u64, cut: usize) {
 
 // After a frame of which so many codes were cut.
 fn counted(d: Desk, cut: usize, good: bool) -> Desk {
-    let s = d.s;
-    let c = d.c;
-    let w = d.w;
-    let k = d.k;
-    let more = if cut == 0 { 0 } else { 1 };
     Desk {
-        sender: d.sender,
-        s: s,
-        c: c,
-        w: w,
-        k: k,
-        at: d.at,
-        frames: std::num::wrapping_add_u64(d.frames, 1),
-        changed: std::num::wrapping_add_u64(d.changed, more),
-        plain: d.plain,
+        frames: d.frames.wrapping_add(1),
+        changed: d.changed.wrapping_add(u64::from(cut != 0)),
         good: d.good && good,
-        go: d.go,
+        ..d
     }
 }
 
 // What goes on of a frame; where the lent memory did not do, the frame as it came.
-fn frame_on(d: Desk, t: Tidied, message: &[u8], out: &[u8]) -> Desk {
-    if t.number != 0 {
-        let same = put(message, message.len());
-        return counted(d, 0, same);
+fn frame_on(d: Desk, answer: Result<Tidied, Refusal>, message: &[u8], out: &[u8]) -> Desk {
+    match answer {
+        Ok(t) => {
+            say_cut(d.frames.wrapping_add(1), t.cut);
+            let good = put(out, t.size);
+            counted(d, t.cut, good)
+        }
+        Err(_) => {
+            let same = put(message, message.len());
+            counted(d, 0, same)
+        }
     }
-    say_cut(std::num::wrapping_add_u64(d.frames, 1), t.cut);
-    let good = put(out, t.size);
-    counted(d, t.cut, good)
 }
 
 // A frame, behind the headers that still wait.
@@ -175,15 +163,7 @@ fn frame(from: Desk, message: &[u8], held: &[u8], list: &mut [i32], out: &mut [u
 
 // The bytes of a head that waits beside the store, as many as are there.
 fn put_head(c: Collector) -> bool {
-    let mut head = [0u8; 8];
-    let h = c.head;
-    head[0] = (h % 256) as u8;
-    head[1] = (h / 256 % 256) as u8;
-    head[2] = (h / 65536 % 256) as u8;
-    head[3] = (h / 16777216 % 256) as u8;
-    head[4] = (h / 4294967296 % 256) as u8;
-    head[5] = (h / 1099511627776 % 256) as u8;
-    put(&head, c.seen as usize)
+    put(&(c.head as u64).to_le_bytes(), c.seen as usize)
 }
 
 // What the collector holds, as it came: the store's first bytes and the head that waits.
@@ -197,53 +177,35 @@ fn put_held(c: Collector, store: &[u8]) -> bool {
 fn plainly(d: Desk, number: u8, good: bool) -> Desk {
     app_text::lines::say(ERR, b"tidy: from here on as it came: ");
     app_text::lines::say_refused(ERR, number);
-    let s = d.s;
-    let w = d.w;
-    let k = d.k;
     Desk {
-        sender: d.sender,
-        s: s,
         c: collect::reset(),
-        w: w,
-        k: k,
-        at: d.at,
-        frames: d.frames,
-        changed: d.changed,
         plain: true,
         good: d.good && good,
-        go: d.go,
+        ..d
     }
 }
 
 // What is longer than the store is passed on as it came, and counts as a frame.
 fn over(d: Desk, number: u8, good: bool) -> Desk {
-    let frames = std::num::wrapping_add_u64(d.frames, 1);
+    let frames = d.frames.wrapping_add(1);
     app_text::lines::say_frame(ERR, frames, number, 0);
-    let s = d.s;
-    let w = d.w;
     Desk {
-        sender: d.sender,
-        s: s,
         c: collect::reset(),
-        w: w,
         k: app_stream::skip::begin(d.c),
-        at: d.at,
-        frames: frames,
-        changed: d.changed,
-        plain: d.plain,
+        frames,
         good: d.good && good,
-        go: d.go,
+        ..d
     }
 }
 
 // A head that the collector refused: what it holds goes on as it came.
-fn refuse(from: Desk, number: u8, store: &[u8], held: &[u8], out: &mut [u8]) -> Desk {
+fn refuse(from: Desk, refusal: Refusal, store: &[u8], held: &[u8], out: &mut [u8]) -> Desk {
     let d = let_go(from, held, out);
     let good = put_held(d.c, store);
-    if number == 13 {
-        return over(d, number, good);
+    match refusal {
+        Refusal::Room => over(d, refusal.number(), good),
+        _ => plainly(d, refusal.number(), good),
     }
-    plainly(d, number, good)
 }
 
 // A part that is handed on.
@@ -259,26 +221,17 @@ fn part(
         Collected::More => d,
         Collected::Header(n) => header(d, app_text::loading::first(store, n), held, out),
         Collected::Frame(n) => frame(d, app_text::loading::first(store, n), held, list, out),
-        Collected::Refused(number) => refuse(d, number, store, held, out),
+        Collected::Refused(refusal) => refuse(d, refusal, store, held, out),
     }
 }
 
 // After a hand-over that took so many bytes.
 fn advance(d: Desk, c: Collector, k: Skip, taken: usize) -> Desk {
-    let s = d.s;
-    let w = d.w;
     Desk {
-        sender: d.sender,
-        s: s,
-        c: c,
-        w: w,
-        k: k,
-        at: std::num::wrapping_add_usize(d.at, taken),
-        frames: d.frames,
-        changed: d.changed,
-        plain: d.plain,
-        good: d.good,
-        go: d.go,
+        c,
+        k,
+        at: d.at.wrapping_add(taken),
+        ..d
     }
 }
 
@@ -304,7 +257,7 @@ fn step(
     list: &mut [i32],
     out: &mut [u8],
 ) -> Desk {
-    let left = app_stream::pieces::rest(bytes, d.at);
+    let left = app_text::loading::rest(bytes, d.at);
     if d.plain {
         let good = put(left, left.len());
         let e = advance(d, d.c, d.k, left.len());
@@ -319,32 +272,12 @@ fn step(
     part(advance(d, c, d.k, t.taken), answer, store, held, list, out)
 }
 
-// Whether more is to come behind n bytes: not at the end of the input, and not where the output could not be written.
-fn goes_on(n: usize, good: bool) -> bool {
-    if n == 0 {
-        return false;
-    }
-    good
-}
-
-// At the first of n bytes that are given.
+// At the first of n bytes that are given. More is to come behind them, but at the end of the input and where the output could not be written.
 fn start(d: Desk, n: usize) -> Desk {
-    let s = d.s;
-    let c = d.c;
-    let w = d.w;
-    let k = d.k;
     Desk {
-        sender: d.sender,
-        s: s,
-        c: c,
-        w: w,
-        k: k,
         at: 0,
-        frames: d.frames,
-        changed: d.changed,
-        plain: d.plain,
-        good: d.good,
-        go: goes_on(n, d.good),
+        go: 0 < n && d.good,
+        ..d
     }
 }
 
@@ -358,10 +291,11 @@ pub fn give(
     out: &mut [u8],
 ) -> Desk {
     let mut e = start(d, bytes.len());
-    let mut turns = std::num::wrapping_add_usize(bytes.len(), 1);
-    while 0 < turns && e.at < bytes.len() {
+    for _ in 0..bytes.len().wrapping_add(1) {
+        if bytes.len() <= e.at {
+            return e;
+        }
         e = step(e, bytes, store, held, list, out);
-        turns -= 1;
     }
     e
 }

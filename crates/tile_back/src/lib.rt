@@ -3,24 +3,27 @@
 // pass) judges and answers nothing (document 02, request Eight).
 #![tactic(auto)]
 
-ghost use Rattle.std.specs.Prelude.{◌≡◌, ◌+◌, ◌*◌, ◌<◌, length};
+ghost use Rattle.std.specs.Prelude.{◌≡◌, ◌+◌, ◌*◌, ◌<◌, length, map};
 ghost use Rattle.bands.specs.Bands.{QuantGood};
+ghost use Rattle.wire.specs.Refusal.{number_of};
 ghost use Rattle.tile_back.specs.Component.{component_fault, coefficients_of, samples_of, Checked};
 ghost use Rattle.tile_back.specs.Word.{Plane, word_at, WordsRow};
 
 use bands::Quant;
+use code::read::Reading;
+use colour::GlassWord;
+use wire::Refusal;
 
-// The check pass: the number of a component. The work list is left as the component reader leaves it.
-pub fn component_fault(mode: u8, q: Quant, code: &[u8], work: &mut [i32]) -> u8
+// The check pass: a component's fault. The work list is left as the component reader leaves it.
+pub fn component_fault(mode: u8, q: Quant, code: &[u8], work: &mut [i32]) -> Result<(), Refusal>
     requires { (length work.old ≡ 4096) × QuantGood q.v }
-    ensures { Checked mode q.v code.now work.old work.new result }
+    ensures { Checked mode q.v code.now work.old work.new (number_of result) }
 {
-    let read = code::read::read_component(mode, code, work);
-    let n = code::read::reading_number(read);
-    if n != 0 {
-        return n;
+    match code::read::read_component(mode, code, work) {
+        Reading::Done(_) => bands::judge(work, q),
+        Reading::Tail(_) => Err(Refusal::Tail),
+        Reading::Refused(refusal) => Err(refusal),
     }
-    bands::judge(work, q)
 }
 
 // The coefficients of a component that has been checked.
@@ -42,42 +45,20 @@ pub fn samples(mode: u8, q: Quant, code: &[u8], work: &mut [i32], tmp: &mut [i32
     wave_back::tile::tile_back(work, tmp);
 }
 
-// The word at place i of a tile, on a glass of 16 bits.
-pub fn pixel(ys: &[i32], cbs: &[i32], crs: &[i32], i: usize) -> u16
+// The word at place i of a tile, on a glass of either size.
+pub fn pixel<W: GlassWord>(ys: &[i32], cbs: &[i32], crs: &[i32], i: usize) -> W
     requires { (i < 4096) × Plane ys.now × Plane cbs.now × Plane crs.now }
-    ensures { result ≡ word_at 0 ys.now cbs.now crs.now i }
+    ensures { W.number result ≡ word_at W.GLASS ys.now cbs.now crs.now i }
 {
     colour::word(ys[i], cbs[i], crs[i])
 }
 
 // The 64 words of row y of a tile, in a loop of their own, so that they are made once and side by side.
-pub fn words_row(ys: &[i32], cbs: &[i32], crs: &[i32], y: usize, row: &mut [u16])
+pub fn words_row<W: GlassWord>(ys: &[i32], cbs: &[i32], crs: &[i32], y: usize, row: &mut [W])
     requires { (y < 64) × (length row.old ≡ 64) × Plane ys.now × Plane cbs.now × Plane crs.now }
-    ensures { WordsRow 0 ys.now cbs.now crs.now y row.new }
+    ensures { WordsRow W.GLASS ys.now cbs.now crs.now y (map W.number row.new) }
 {
-    let mut x = 0;
-    while x < 64 {
+    for x in 0..64 {
         row[x] = pixel(ys, cbs, crs, 64 * y + x);
-        x += 1;
-    }
-}
-
-// The word at place i of a tile, on a glass of 32 bits.
-pub fn pixel_32(ys: &[i32], cbs: &[i32], crs: &[i32], i: usize) -> u32
-    requires { (i < 4096) × Plane ys.now × Plane cbs.now × Plane crs.now }
-    ensures { result ≡ word_at 1 ys.now cbs.now crs.now i }
-{
-    colour::word_32(ys[i], cbs[i], crs[i])
-}
-
-// The 64 words of row y of a tile, on a glass of 32 bits.
-pub fn words_row_32(ys: &[i32], cbs: &[i32], crs: &[i32], y: usize, row: &mut [u32])
-    requires { (y < 64) × (length row.old ≡ 64) × Plane ys.now × Plane cbs.now × Plane crs.now }
-    ensures { WordsRow 1 ys.now cbs.now crs.now y row.new }
-{
-    let mut x = 0;
-    while x < 64 {
-        row[x] = pixel_32(ys, cbs, crs, 64 * y + x);
-        x += 1;
     }
 }

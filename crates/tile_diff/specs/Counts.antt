@@ -1,10 +1,9 @@
 -- The counts of all tiles, kept row after row: what the functions of `count` do with the list that they are lent.
-use Rattle.std.specs.Prelude.{ℕ, zero, suc, ◌+◌, ◌*◌, ◌-◌, ◌/◌, Bool, List, length, get_or, set, leb, ltb}
+use Rattle.std.specs.Prelude.{ℕ, zero, suc, ◌+◌, ◌*◌, ◌-◌, ◌/◌, Bool, List, length, get_or, set, leb, ltb, Option, Some, None}
 use Rattle.whole.specs.Row.{◌!◌⨾◌, ◌⇒◌∣◌}
 use Rattle.session.specs.Header.{tiles_over}
 use Rattle.tile_diff.specs.Tiles.{not_same, line_of}
-use Rattle.tile_diff.specs.declared.count.Next.{Next}
-use Rattle.tile_diff.specs.declared.count.Next.TheVariants.{Tile, End}
+use Rattle.tile_diff.specs.declared.count.Line.{Line}
 
 -- one more at place k, if it is there; no count goes past the largest
 unfoldable pub one_more : ℕ → List ℕ → List ℕ
@@ -27,11 +26,11 @@ row_counted ps qs w y cs =
     columns_counted ps qs w y w cs
 
 -- of m tiles from tile k on the first with a count above 0
-unfoldable pub next_of : List ℕ → ℕ → ℕ → ℕ → Next
-next_of cs columns zero k = End
+unfoldable pub next_of : List ℕ → ℕ → ℕ → ℕ → Option (ℕ × Line)
+next_of cs columns zero k = None
 next_of cs columns (suc m) k =
-    ltb 0 (get_or cs k 0) ⇒ Tile k (line_of columns k (get_or cs k 0)) ∣
+    ltb 0 (get_or cs k 0) ⇒ Some (k, line_of columns k (get_or cs k 0)) ∣
     next_of cs columns m (k + 1)
 
-unfoldable pub next_tile : List ℕ → ℕ → ℕ → ℕ → Next
+unfoldable pub next_tile : List ℕ → ℕ → ℕ → ℕ → Option (ℕ × Line)
 next_tile cs w h from = next_of cs (tiles_over w) (tiles_over w * tiles_over h - from) from

@@ -1,15 +1,13 @@
 -- Two whole pictures, lent as words of either glass: the counts of all their tiles, and the tile that is told next. `glasses_counted`
 -- (specs/laws/Pictures) proves that these are request Seven's counts and lines.
 -- (01 is this project's scope document, 02 its change requests, 001 is MS-RDPRFX: README, "What 01 is".)
-use Rattle.std.specs.Prelude.{ℕ, zero, suc, ◌+◌, ◌*◌, ◌/◌, ◌%◌, ◌<◌, ◌≡◌, List, length, get_or, replicate, leb}
+use Rattle.std.specs.Prelude.{ℕ, zero, suc, ◌+◌, ◌*◌, ◌/◌, ◌%◌, ◌<◌, ◌≡◌, List, length, get_or, replicate, leb, Option, Some, None}
 use Rattle.whole.specs.Row.{◌!◌⨾◌}
 use Rattle.session.specs.Header.{tiles_over, size_good}
 use Rattle.tile_diff.specs.Tiles.{not_same, differs, listed}
 use Rattle.tile_diff.specs.Counts.{counted_if, next_tile}
 use Rattle.tile_diff.specs.Request.{Asked}
 use Rattle.tile_diff.specs.declared.count.Line.{Line}
-use Rattle.tile_diff.specs.declared.count.Next.{Next}
-use Rattle.tile_diff.specs.declared.count.Next.TheVariants.{Tile, End}
 use Rattle.tile_diff.specs.declared.glasses.Found.{Found}
 
 -- the number of the tile over place i
@@ -46,9 +44,9 @@ pub record TilesCounted (w h : ℕ) (ps qs cs cs' : List ℕ) (n : ℕ) : Type 0
   pub left : cs' ≡ counts_left (tiles_fault w h (length ps) (length qs) (length cs)) ps qs w h cs
 
 -- a tile as it is told, and its line; no tile has a count of 0, so that says that there is none
-unfoldable pub found_of : Next → Found
-found_of (Tile k l) = record { number = 0; tile = k; x = l.x; y = l.y; n = l.n }
-found_of End = record { number = 0; tile = 0; x = 0; y = 0; n = 0 }
+unfoldable pub found_of : Option (ℕ × Line) → Found
+found_of (Some (k, l)) = record { number = 0; tile = k; x = l.x; y = l.y; n = l.n }
+found_of None = record { number = 0; tile = 0; x = 0; y = 0; n = 0 }
 
 -- the first tile that differs, from tile `from` on; a size that 01 does not allow is 5
 unfoldable pub found_from : List ℕ → ℕ → ℕ → ℕ → Found

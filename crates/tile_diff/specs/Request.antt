@@ -1,7 +1,7 @@
 -- 02's request Seven over the calls: two files whose rows were counted one after the other, and the lines that were then asked for. `request_seven`
 -- (specs/laws/Request) proves all of it.
 -- (01 is this project's scope document, 02 its change requests, 001 is MS-RDPRFX: README, "What 01 is".)
-use Rattle.std.specs.Prelude.{ℕ, zero, suc, ◌+◌, ◌*◌, ◌<◌, ◌≤◌, ◌≡◌, ◌⊎◌, true, false, take, drop, replicate, ltb, eqb}
+use Rattle.std.specs.Prelude.{ℕ, zero, suc, ◌+◌, ◌*◌, ◌<◌, ◌≤◌, ◌≡◌, ◌⊎◌, true, false, take, drop, replicate, ltb, eqb, Some, None}
 use mathlib.Core.List.{List, [], ◌∷◌, Memᴰ}
 use Rattle.whole.specs.Row.{◌!◌⨾◌, ◌⇒◌∣◌}
 use Rattle.session.specs.Header.{tiles_over}
@@ -9,7 +9,6 @@ use Rattle.tile_diff.specs.Tiles.{words_of, differs, listed}
 use Rattle.tile_diff.specs.Pic.{pic_of, is_whole, verdict_of}
 use Rattle.tile_diff.specs.Counts.{row_counted, next_tile}
 use Rattle.tile_diff.specs.declared.count.Line.{Line}
-use Rattle.tile_diff.specs.declared.count.Next.TheVariants.{Tile, End}
 use Rattle.tile_diff.specs.declared.pic.Pic.{Pic}
 use Rattle.tile_diff.specs.declared.pic.Verdict.TheVariants.{Bad, Size, Tiles}
 
@@ -32,8 +31,8 @@ no_counts = replicate 2048 0
 
 -- what a caller gets who asks for the next tile from tile k on, until there is none
 pub data Asked (cs : List ℕ) (w h : ℕ) : ℕ → List Line → Type 0 where
-  none : {k : ℕ} → next_tile cs w h k ≡ End → Asked cs w h k []
-  more : {k j : ℕ} {l : Line} {ls : List Line} → next_tile cs w h k ≡ Tile j l → Asked cs w h (j + 1) ls → Asked cs w h k (l ∷ ls)
+  none : {k : ℕ} → next_tile cs w h k ≡ None → Asked cs w h k []
+  more : {k j : ℕ} {l : Line} {ls : List Line} → next_tile cs w h k ≡ Some (j, l) → Asked cs w h (j + 1) ls → Asked cs w h k (l ∷ ls)
 
 -- two files that are neither bad nor of different sizes, and a caller who has asked for their lines: all that `lines` below asks for
 pub record CanBeAsked : Type 0 where

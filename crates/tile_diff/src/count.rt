@@ -12,21 +12,12 @@ pub struct Line {
     pub n: u32,
 }
 
-// A tile that differs, by its number, with its line; or no more.
-#[derive(Clone, Copy)]
-pub enum Next {
-    Tile(usize, Line),
-    End,
-}
-
 // One more at a place, if it is there; no count goes past the largest.
 pub fn add_one(counts: &mut [u32], k: usize)
     ensures { counts.new ≡ one_more k counts.old }
 {
     if k < counts.len() {
-        if counts[k] < 4294967295 {
-            counts[k] += 1;
-        }
+        counts[k] = counts[k].saturating_add(1);
     }
 }
 
@@ -52,10 +43,8 @@ pub fn count_row(a: &[u8], b: &[u8], width: u16, y: u16, counts: &mut [u32])
         return;
     }
     let first = y as usize / 64 * session::tiles_over(width);
-    let mut x: usize = 0;
-    while x < w {
+    for x in 0..w {
         count_word(a, b, x, first + x / 64, counts);
-        x += 1;
     }
 }
 
@@ -63,10 +52,7 @@ pub fn count_row(a: &[u8], b: &[u8], width: u16, y: u16, counts: &mut [u32])
 pub fn count_at(counts: &[u32], k: usize) -> u32
     ensures { result ≡ get_or counts.now k 0 }
 {
-    if k < counts.len() {
-        return counts[k];
-    }
-    0
+    counts.get(k).copied().unwrap_or(0)
 }
 
 // The line of tile k.
@@ -77,23 +63,21 @@ fn line_of(columns: usize, k: usize, n: u32) -> Line
     Line {
         x: k % columns,
         y: k / columns,
-        n: n,
+        n,
     }
 }
 
-// The first tile that differs, from tile `from` on, row by row.
-pub fn next_tile(counts: &[u32], width: u16, height: u16, from: usize) -> Next
+// The first tile that differs, from tile `from` on, row by row: its number, and its line.
+pub fn next_tile(counts: &[u32], width: u16, height: u16, from: usize) -> Option<(usize, Line)>
     ensures { result ≡ next_tile counts.now width height from }
 {
     let columns = session::tiles_over(width);
     let all = columns * session::tiles_over(height);
-    let mut k = from;
-    while k < all {
+    for k in from..all {
         let n = count_at(counts, k);
         if 0 < n {
-            return Next::Tile(k, line_of(columns, k, n));
+            return Some((k, line_of(columns, k, n)));
         }
-        k += 1;
     }
-    Next::End
+    None
 }

@@ -1,13 +1,15 @@
 // Which tiles of two whole pictures differ, as a program has them in its memory: lent as words, of a glass of 16 bits or of 32. What is counted is request Seven's
 // (specs/Pictures); nothing here that another crate calls has a `requires`.
-ghost use Rattle.std.specs.Prelude.{◌≡◌, ◌*◌, ◌≤◌, length, replicate};
-ghost use Rattle.tile_diff.specs.Tiles.{not_same};
+ghost use Rattle.std.specs.Prelude.{◌≡◌, ◌*◌, ◌≤◌, length, map};
+ghost use Rattle.wire.specs.Refusal.{number_of};
 ghost use Rattle.tile_diff.specs.Counts.{counted_if};
 ghost use Rattle.tile_diff.specs.Pictures.{tile_at, places_counted, lent_fault, tiles_fault, TilesCounted, found_of, found_from};
 
-use crate::count::Next;
+use crate::count::Line;
+use colour::GlassWord;
+use wire::{Numbered, Refusal};
 
-// A tile that differs, with its line; n is 0 where there is none. The number is 01's.
+// A tile that differs, with its line; n is 0 where there is none. The number is 01's. It is what `xurbalenz_next_tile` tells C, which has all five whatever they are.
 #[derive(Clone, Copy)]
 pub struct Found {
     pub number: u8,
@@ -18,40 +20,36 @@ pub struct Found {
 }
 
 // What is lent, judged: the lengths of two pictures and of the counts, for so many words and tiles.
-fn lent_fault(words: usize, tiles: usize, a: usize, b: usize, counts: usize) -> u8
-    ensures { result ≡ lent_fault words tiles a b counts }
+fn lent_fault(words: usize, tiles: usize, a: usize, b: usize, counts: usize) -> Result<(), Refusal>
+    ensures { number_of result ≡ lent_fault words tiles a b counts }
 {
     if a < words {
-        return 2;
+        return Err(Refusal::Buffer);
     }
     if b < words {
-        return 2;
+        return Err(Refusal::Buffer);
     }
     if counts < tiles {
-        return 13;
+        return Err(Refusal::Room);
     }
-    0
+    Ok(())
 }
 
 // The size goes before what is lent.
-fn tiles_fault(width: usize, height: usize, a: usize, b: usize, counts: usize) -> u8
-    ensures { result ≡ tiles_fault width height a b counts }
+fn tiles_fault(
+    width: usize,
+    height: usize,
+    a: usize,
+    b: usize,
+    counts: usize,
+) -> Result<(), Refusal>
+    ensures { number_of result ≡ tiles_fault width height a b counts }
 {
-    if session::is_size(width, height) {
-        let tiles = (width + 63) / 64 * ((height + 63) / 64);
-        return lent_fault(height * width, tiles, a, b, counts);
+    if !session::is_size(width, height) {
+        return Err(Refusal::Field);
     }
-    5
-}
-
-fn clear_counts(counts: &mut [u32])
-    ensures { counts.new ≡ replicate (length counts.old) 0 }
-{
-    let mut i: usize = 0;
-    while i < counts.len() {
-        counts[i] = 0;
-        i += 1;
-    }
+    let tiles = (width + 63) / 64 * ((height + 63) / 64);
+    lent_fault(height * width, tiles, a, b, counts)
 }
 
 // The number of the tile over place i.
@@ -60,24 +58,6 @@ fn tile_at(width: usize, i: usize) -> usize
     ensures { result ≡ tile_at width i }
 {
     i / width / 64 * ((width + 63) / 64) + i % width / 64
-}
-
-fn not_same(a: u16, b: u16) -> bool
-    ensures { result ≡ not_same a b }
-{
-    if a == b {
-        return false;
-    }
-    true
-}
-
-fn not_same_32(a: u32, b: u32) -> bool
-    ensures { result ≡ not_same a b }
-{
-    if a == b {
-        return false;
-    }
-    true
 }
 
 // One more for tile k, if so.
@@ -90,67 +70,44 @@ fn count_if(differ: bool, k: usize, counts: &mut [u32])
 }
 
 // The first n words of two pictures: those that differ are added to their tiles' counts.
-fn count_words(width: usize, n: usize, a: &[u16], b: &[u16], counts: &mut [u32])
+fn count_words<W: GlassWord>(width: usize, n: usize, a: &[W], b: &[W], counts: &mut [u32])
     requires { (1 ≤ width) × (width ≤ 4096) × (n ≤ 8388608) × (n ≤ length a.now) × (n ≤ length b.now) }
-    ensures { counts.new ≡ places_counted a.now b.now width n counts.old }
+    ensures { counts.new ≡ places_counted (map W.number a.now) (map W.number b.now) width n counts.old }
 {
-    let mut i: usize = 0;
-    while i < n {
-        count_if(not_same(a[i], b[i]), tile_at(width, i), counts);
-        i += 1;
+    for i in 0..n {
+        count_if(a[i] != b[i], tile_at(width, i), counts);
     }
 }
 
-// The same for words of 32 bits.
-fn count_words_32(width: usize, n: usize, a: &[u32], b: &[u32], counts: &mut [u32])
-    requires { (1 ≤ width) × (width ≤ 4096) × (n ≤ 8388608) × (n ≤ length a.now) × (n ≤ length b.now) }
-    ensures { counts.new ≡ places_counted a.now b.now width n counts.old }
+// Counts the differing words of each tile of two pictures, of 16-bit or of 32-bit words.
+pub fn count_tiles<W: GlassWord>(
+    width: usize,
+    height: usize,
+    a: &[W],
+    b: &[W],
+    counts: &mut [u32],
+) -> Result<(), Refusal>
+    ensures { TilesCounted width height (map W.number a.now) (map W.number b.now) counts.old counts.new (number_of result) }
 {
-    let mut i: usize = 0;
-    while i < n {
-        count_if(not_same_32(a[i], b[i]), tile_at(width, i), counts);
-        i += 1;
-    }
-}
-
-// Counts the differing words of each tile of two pictures of 16-bit words.
-pub fn count_tiles(width: usize, height: usize, a: &[u16], b: &[u16], counts: &mut [u32]) -> u8
-    ensures { TilesCounted width height a.now b.now counts.old counts.new result }
-{
-    let fault = tiles_fault(width, height, a.len(), b.len(), counts.len());
-    if fault != 0 {
-        return fault;
-    }
-    clear_counts(counts);
+    tiles_fault(width, height, a.len(), b.len(), counts.len())?;
+    counts.fill(0);
     count_words(width, height * width, a, b, counts);
-    0
+    Ok(())
 }
 
-// The same for words of 32 bits.
-pub fn count_tiles_32(width: usize, height: usize, a: &[u32], b: &[u32], counts: &mut [u32]) -> u8
-    ensures { TilesCounted width height a.now b.now counts.old counts.new result }
-{
-    let fault = tiles_fault(width, height, a.len(), b.len(), counts.len());
-    if fault != 0 {
-        return fault;
-    }
-    clear_counts(counts);
-    count_words_32(width, height * width, a, b, counts);
-    0
-}
-
-fn found_of(next: Next) -> Found
+#[tactic(auto, unfolding(crate::specs::Pictures::found_of))]
+fn found_of(next: Option<(usize, Line)>) -> Found
     ensures { result ≡ found_of next }
 {
     match next {
-        Next::Tile(k, line) => Found {
+        Some((k, line)) => Found {
             number: 0,
             tile: k,
             x: line.x,
             y: line.y,
             n: line.n,
         },
-        Next::End => Found {
+        None => Found {
             number: 0,
             tile: 0,
             x: 0,
@@ -168,7 +125,7 @@ pub fn found_from(counts: &[u32], width: usize, height: usize, from: usize) -> F
         return found_of(crate::count::next_tile(counts, width as u16, height as u16, from));
     }
     Found {
-        number: 5,
+        number: Refusal::Field.number(),
         tile: 0,
         x: 0,
         y: 0,

@@ -53,10 +53,7 @@ pub fn mark_row(row: &[u8], width: u16, height: u16, y: u16, counts: &[u32], out
     if out.len() < width as usize {
         return;
     }
-    let mut x: u16 = 0;
-    while x < width {
-        let i = x as usize;
-        out[i] = shown(row, width, height, x, y, counts);
-        x += 1;
+    for x in 0..width {
+        out[x as usize] = shown(row, width, height, x, y, counts);
     }
 }

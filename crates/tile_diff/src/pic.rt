@@ -10,6 +10,7 @@ pub struct Pic {
     pub bytes: usize,
 }
 
+// What two files give. All three are printed, and none has a value: an enum of three is plainer than a Result of nothing.
 #[derive(Clone, Copy)]
 pub enum Verdict {
     Bad,

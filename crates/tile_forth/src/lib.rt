@@ -72,10 +72,8 @@ fn load_row(
     ensures { Loaded (sample_at pixels.now w h tx ty c) (64 * (j + 1)) work.new }
 {
     let from = 3 * (last_or(h, 64 * ty + j) * w);
-    let mut x = 0;
-    while x < 64 {
+    for x in 0..64 {
         work[64 * j + x] = bytes_at(pixels, c, from + 3 * column(w, 64 * tx + 63, 64 * tx + x));
-        x += 1;
     }
 }
 
@@ -84,10 +82,8 @@ fn load(pixels: &[u8], w: usize, h: usize, tx: usize, ty: usize, c: usize, work:
     requires { (1 ≤ w) × (w ≤ 4096) × (1 ≤ h) × (h ≤ 2048) × (3 * (w * h) ≡ length pixels.now) × (tx < 64) × (ty < 64) × (length work.old ≡ 4096) }
     ensures { (work.new ≡ table 4096 (sample_at pixels.now w h tx ty c)) × AllNear 16384 work.new }
 {
-    let mut j = 0;
-    while j < 64 {
+    for j in 0..64 {
         load_row(pixels, w, h, tx, ty, c, j, work);
-        j += 1;
     }
 }
 

@@ -38,32 +38,29 @@ fn line(lo: &[i32], hi: &[i32], out: &mut [i32])
 {
     let last = lo.len() - 1;
     let mut x = even(lo[0], hi[0], hi[0]);
-    let mut j = 0;
-    while j < last {
+    for j in 0..last {
         let y = even(lo[j + 1], hi[j], hi[j + 1]);
         let z = odd_along(hi[j], x, y);
         out[2 * j] = x;
         out[2 * j + 1] = z;
         x = y;
-        j += 1;
     }
-    let z = odd_along(hi[j], x, x);
-    out[2 * j] = x;
-    out[2 * j + 1] = z;
+    let z = odd_along(hi[last], x, x);
+    out[2 * last] = x;
+    out[2 * last + 1] = z;
 }
 
 // All rows of a pair of bands, n by n each.
+#[tactic(auto, using(whole::specs::laws::Tab::row_in))]
 pub fn rows(lo: &[i32], hi: &[i32], out: &mut [i32], n: usize)
     requires { (1 ≤ n) × (n ≤ 64) × (length lo.now ≡ n * n) × (length hi.now ≡ n * n) × (length out.old ≡ n * (2 * n)) × AllNear 268435456 lo.now × AllNear 268435456 hi.now }
     ensures { out.new ≡ grid n (2 * n) (row_at n (at lo.now) (at hi.now)) }
 {
-    let mut r = 0;
-    while r < n {
+    for r in 0..n {
         let a = r * n;
         let b = a + n;
         let p = r * (2 * n);
         let q = p + 2 * n;
         line(&lo[a..b], &hi[a..b], &mut out[p..q]);
-        r += 1;
     }
 }

@@ -21,29 +21,27 @@ fn pair(src: &[i32], dst: &mut [i32], n: usize, w: usize, r: usize, a: usize, z:
     let q = (n + z) * w;
     let e = 2 * r * w;
     let o = (2 * r + 1) * w;
-    let mut c = 0;
-    while c < w {
+    for c in 0..w {
         let s = crate::line::even(src[l + c], src[g + c], src[h + c]);
         let t = crate::line::even(src[m + c], src[p + c], src[q + c]);
         let v = crate::line::odd_down(src[h + c], s, t);
         dst[e + c] = s;
         dst[o + c] = v;
-        c += 1;
     }
 }
 
 // The column pass, by whole rows; the width w comes as a parameter so that the loop of a row vectorises.
+// The first and the last pair stand by themselves: one loop, with the neighbours worked out in `pair`, takes a seventh more instructions.
 fn columns(src: &[i32], dst: &mut [i32], n: usize, w: usize)
     requires { (2 ≤ n) × (n ≤ 32) × (length src.now ≡ 2 * n * (2 * n)) × (length dst.old ≡ 2 * n * (2 * n)) × AllNear 268435456 src.now × (w ≡ 2 * n) }
     ensures { dst.new ≡ grid (2 * n) (2 * n) (col_at n (at src.now)) }
 {
     pair(src, dst, n, w, 0, 0, 1, 0);
-    let mut r = 1;
-    while r + 1 < n {
+    let last = n - 1;
+    for r in 1..last {
         pair(src, dst, n, w, r, r - 1, r + 1, r);
-        r += 1;
     }
-    pair(src, dst, n, w, r, r - 1, r, r - 1);
+    pair(src, dst, n, w, last, last - 1, last, last - 1);
 }
 
 // "LL with HL, LH with HH": the low rows into the upper half of tmp, the high rows into the lower.
@@ -80,7 +78,7 @@ pub fn level_from(work: &mut [i32], tmp: &mut [i32], a: usize, n: usize, w: usiz
     level_back(&mut work[a..e], &mut tmp[z..k], n, w);
 }
 
-// A component's tile, back from its 4,096 scaled numbers.
+// A component's tile, back from its 4,096 scaled numbers. The way forth has the same three calls the other way round: another order and another level.
 pub fn tile_back(work: &mut [i32], tmp: &mut [i32])
     requires { (length work.old ≡ 4096) × (length tmp.old ≡ 4096) × AllNear 32767 work.old }
     ensures { work.new ≡ tile_back work.old }

@@ -30,30 +30,31 @@ fn row(src: &[i32], dst: &mut [i32], n: usize, s: usize, l: usize, h: usize)
 {
     let last = n - 1;
     let mut g = high(src[s + 1], src[s], src[s + 2]);
-    let mut j = 0;
-    while j < last {
+    for j in 0..last {
         let v = high(src[s + (2 * j + 1)], src[s + 2 * j], src[s + (2 * j + 2)]);
         let u = low(src[s + 2 * j], g, v);
         dst[h + j] = v;
         dst[l + j] = u;
         g = v;
-        j += 1;
     }
-    let v = high(src[s + (2 * j + 1)], src[s + 2 * j], src[s + 2 * j]);
-    let u = low(src[s + 2 * j], g, v);
-    dst[h + j] = v;
-    dst[l + j] = u;
+    let v = high(
+        src[s + (2 * last + 1)],
+        src[s + 2 * last],
+        src[s + 2 * last],
+    );
+    let u = low(src[s + 2 * last], g, v);
+    dst[h + last] = v;
+    dst[l + last] = u;
 }
 
 // All rows of one half of the column pass, from place s on, into the band of their low halves at l and of their high halves at h.
+#[tactic(auto, using(whole::specs::laws::Tab::row_in))]
 pub fn rows(src: &[i32], dst: &mut [i32], n: usize, w: usize, s: usize, l: usize, h: usize)
     requires le_n { (2 ≤ n) × (n ≤ 32) × (w ≡ 2 * n) × (s + n * w ≤ length src.now) × (length src.now ≤ 4096) × (l + n * n ≤ length dst.old) × (h + n * n ≤ length dst.old) × (length dst.old ≤ 4096) }
     requires apart { Apart (n * n) l h × AllNear 268435456 src.now }
     ensures { Bands n w s src.now l h n dst.old dst.new }
 {
-    let mut r = 0;
-    while r < n {
+    for r in 0..n {
         row(src, dst, n, s + r * w, l + r * n, h + r * n);
-        r += 1;
     }
 }

@@ -20,29 +20,27 @@ fn pair(src: &[i32], dst: &mut [i32], n: usize, w: usize, r: usize, a: usize, b:
     let m = 2 * b * w;
     let l = r * w;
     let h = (n + r) * w;
-    let mut c = 0;
-    while c < w {
+    for c in 0..w {
         let g = crate::line::high(src[k + c], src[i + c], src[m + c]);
         let t = crate::line::high(src[o + c], src[e + c], src[f + c]);
         let v = crate::line::low(src[e + c], g, t);
         dst[l + c] = v;
         dst[h + c] = t;
-        c += 1;
     }
 }
 
 // The column pass, by whole rows; the width w comes as a parameter so that the loop of a row vectorises.
+// The first and the last pair stand by themselves: one loop, with the neighbours worked out in `pair`, takes a seventh more instructions.
 fn columns(src: &[i32], dst: &mut [i32], n: usize, w: usize)
     requires { (2 ≤ n) × (n ≤ 32) × (length src.now ≡ 2 * n * (2 * n)) × (length dst.old ≡ 2 * n * (2 * n)) × AllNear 268435456 src.now × (w ≡ 2 * n) }
     ensures { dst.new ≡ grid n (2 * n) (low_row n (at src.now)) ++ grid n (2 * n) (high_row n (at src.now)) }
 {
     pair(src, dst, n, w, 0, 0, 1, 1);
-    let mut r = 1;
-    while r + 1 < n {
+    let last = n - 1;
+    for r in 1..last {
         pair(src, dst, n, w, r, r - 1, r, r + 1);
-        r += 1;
     }
-    pair(src, dst, n, w, r, r - 1, r, r);
+    pair(src, dst, n, w, last, last - 1, last, last);
 }
 
 // One level: the low rows give LL and HL, the high rows LH and HH.
@@ -67,7 +65,7 @@ fn level_from(work: &mut [i32], tmp: &mut [i32], a: usize, n: usize, w: usize)
     level_forth(&mut work[a..e], &mut tmp[z..k], n, w);
 }
 
-// A component's tile of 64 rows of 64 numbers, forth to its bands.
+// A component's tile of 64 rows of 64 numbers, forth to its bands. The way back has the same three calls the other way round: another order and another level.
 pub fn tile_forth(work: &mut [i32], tmp: &mut [i32])
     requires { (length work.old ≡ 4096) × (length tmp.old ≡ 4096) × AllNear 32767 work.old }
     ensures { work.new ≡ tile_forth work.old }

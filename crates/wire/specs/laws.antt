@@ -1,3 +1,4 @@
 pub mod Le
 pub mod Mode
+pub mod Refusal
 pub mod Wrote

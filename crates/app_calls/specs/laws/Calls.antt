@@ -6,8 +6,10 @@ use borrow.Author.Tests.{le-leb, lt-leb}
 use Rattle.whole.specs.Row.{◌!◌⨾◌, ◌⇒◌∣◌}
 use Rattle.whole.specs.laws.Row.{fails, passes, case_yes, case_no}
 use Rattle.session.specs.declared.Session.{Session}
-use Rattle.session.specs.declared.HeaderReading.{HeaderReading}
-use Rattle.session.specs.Header.{header_number, header_record, header_reading}
+use Rattle.std.specs.Prelude.{Result}
+use Rattle.wire.specs.declared.Refusal.{Refusal}
+use Rattle.wire.specs.Refusal.{number_of}
+use Rattle.session.specs.Header.{header_record, header_reading}
 use Rattle.frame.specs.Frame.{call_fault, frame_number, frame_picture}
 use Rattle.app_calls.specs.Calls.{header_left, heard, between, four_back, frame_made, frame_made_on, fits, FrameMade}
 use Rattle.app_calls.specs.declared.calls.Heard.{Heard}
@@ -16,11 +18,11 @@ use Rattle.app_calls.specs.declared.calls.Fourfold.{Fourfold}
 -- ---- header calls
 
 pub header_made :
-    (s r : Session) (m : List ℕ) (h : HeaderReading) → r ≡ header_record h s → h ≡ header_reading s m → r ≡ header_left s m
-header_made s r m h e f = e ∙ ap (λ (x : HeaderReading). header_record x s) f
+    (s r : Session) (m : List ℕ) (h : Result Session Refusal) → r ≡ header_record h s → h ≡ header_reading s m → r ≡ header_left s m
+header_made s r m h e f = e ∙ ap (λ (x : Result Session Refusal). header_record x s) f
 
 pub heard_made :
-    (s r : Session) (m : List ℕ) (n : ℕ) (h : HeaderReading) → n ≡ header_number h → r ≡ header_record h s → h ≡ header_reading s m →
+    (s r : Session) (m : List ℕ) (n : ℕ) (h : Result Session Refusal) → n ≡ number_of h → r ≡ header_record h s → h ≡ header_reading s m →
     record { number = n; session = r } ≡ heard s m
 unfolding heard
 heard_made s r m n h e f g = cc

@@ -5,7 +5,8 @@ use Rattle.std.proofs.Common.{sym, ◌∙◌, arith, length-drop, take_all, lt-l
 use Rattle.whole.specs.Row.{◌⇒◌∣◌}
 use Rattle.whole.specs.laws.Row.{fails, passes}
 use Rattle.session.specs.declared.Session.{Session}
-use Rattle.session.specs.declared.HeaderReading.{HeaderReading}
+use Rattle.std.specs.Prelude.{Result}
+use Rattle.wire.specs.declared.Refusal.{Refusal}
 use Rattle.session.specs.Header.{header_reading, header_record}
 use Rattle.collect.specs.Collect.{state, said, collect_of}
 use Rattle.collect.specs.declared.Collected.{Collected}
@@ -30,7 +31,7 @@ pub to_end : (m : List ℕ) (at : ℕ) → take (length m - at) (drop at m) ≡ 
 to_end m at = take_all (length m - at) (drop at m) (rw length-drop (omega arith))
 
 pub header-on :
-    (d r : Desk) (m : List ℕ) (h : HeaderReading) (s : Session) → r ≡ header_desk d s → s ≡ header_record h d.s → h ≡ header_reading d.s m →
+    (d r : Desk) (m : List ℕ) (h : Result Session Refusal) (s : Session) → r ≡ header_desk d s → s ≡ header_record h d.s → h ≡ header_reading d.s m →
     r ≡ header_desk d (header_left d.s m)
 header-on d r m h s a b c = cc
 
@@ -41,7 +42,7 @@ module _ (n : Lengths) (store : List ℕ) (d r : Desk) (a : Collected) (pic : Li
   unfolding desk_part picture_part
   part_more e f = record { desk = f ∙ ap (desk_part store d) (sym e); picture = ap (λ (x : Collected). picture_part n store d x pic) (sym e) }
 
-  pub part_refused : (k : ℕ) → a ≡ Refused k → r ≡ d → PartPlayed n store d a pic pic r
+  pub part_refused : (k : Refusal) → a ≡ Refused k → r ≡ d → PartPlayed n store d a pic pic r
   unfolding desk_part picture_part
   part_refused k e f = record { desk = f ∙ ap (desk_part store d) (sym e); picture = ap (λ (x : Collected). picture_part n store d x pic) (sym e) }
 

@@ -15,7 +15,7 @@ use Rattle.tile_diff.specs.Counts.{next_tile}
 use Rattle.tile_diff.specs.Text.{digits_of, decimal_of, line_text, lines_text, tiles_text, text_of}
 use Rattle.tile_diff.specs.laws.Listed.{end_lines, found_lines, found_below, found_from}
 use Rattle.tile_diff.specs.declared.count.Line.{Line}
-use Rattle.tile_diff.specs.declared.count.Next.TheVariants.{Tile, End}
+use Rattle.std.specs.Prelude.{Option, Some, None}
 use Rattle.tile_diff.specs.declared.pic.Verdict.{Verdict}
 use Rattle.tile_diff.specs.declared.pic.Verdict.TheVariants.{Bad, Size, Tiles}
 use Rattle.app_compare.specs.Text.{Texted, Put, tiles_in, lines_in, Lined}
@@ -142,7 +142,7 @@ pub record Next (cs : List ℕ) (w h : ℕ) (out : List ℕ) (n t k j : ℕ) : T
   pub less : tiles_in w h - (j + 1) < tiles_in w h - k
 
 pub lining_next :
-    {cs : List ℕ} {w h : ℕ} {out : List ℕ} {n t k j : ℕ} {l : Line} → Lining cs w h out n t k → next_tile cs w h k ≡ Tile j l → Next cs w h out n t k j
+    {cs : List ℕ} {w h : ℕ} {out : List ℕ} {n t k j : ℕ} {l : Line} → Lining cs w h out n t k → next_tile cs w h k ≡ Some (j, l) → Next cs w h out n t k j
 unfolding next_tile
 lining_next {cs} {w} {h} {out} {n} {t} {k} {j} {l} s e =
     let sum : k + (tiles_in w h - k) ≡ tiles_in w h = omega (arith, s.within) in
@@ -153,7 +153,7 @@ lining_next {cs} {w} {h} {out} {n} {t} {k} {j} {l} s e =
 pub lining_more :
     {cs : List ℕ} {w h : ℕ} {out to : List ℕ} {n r t k j : ℕ} {l : Line}
     → Lining cs w h out n t k
-    → next_tile cs w h k ≡ Tile j l
+    → next_tile cs w h k ≡ Some (j, l)
     → Put out to n r (line_text l)
     → r ≤ n + 63
     → Lining cs w h to r (t + 1) (j + 1)
@@ -177,7 +177,7 @@ lining_more {cs} {w} {h} {out} {to} {n} {r} {t} {k} {j} {l} s e p q =
     }
 
 pub lining_all :
-    {cs : List ℕ} {w h : ℕ} {out : List ℕ} {n t k : ℕ} → Lining cs w h out n t k → next_tile cs w h k ≡ End → Lined (lines_in cs w h) out n t
+    {cs : List ℕ} {w h : ℕ} {out : List ℕ} {n t k : ℕ} → Lining cs w h out n t k → next_tile cs w h k ≡ None → Lined (lines_in cs w h) out n t
 unfolding next_tile lines_text
 lining_all {cs} {w} {h} {out} {n} {t} {k} s e =
     let g = end_lines cs (tiles_over w) (tiles_in w h - k) k e in

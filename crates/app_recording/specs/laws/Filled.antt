@@ -41,9 +41,11 @@ all_of v l i h g f p = record {
 
 -- ---- one picture, and one answer, alone meet the promises
 
-pub pictured_once : (n seed : ℕ) (before a b : List ℕ) → Pictured n seed before a → Pictured n seed before b → a ≡ b
-pictured_once n seed before a b p q =
-    ext_get_or 0 a b (p.long ∙ sym q.long) (λ i h. let k : i < length before = omega (arith, h, p.long) in p.each i k ∙ sym (q.each i k))
+pub pictured_once : {A : Type 0} (word_at : ℕ → A) (before a b : List A) → Pictured word_at before a → Pictured word_at before b → a ≡ b
+pictured_once {A} word_at before [] [] p q = refl
+pictured_once {A} word_at before [] (y ∷ b) p q = absurd (omega (arith, p.long, q.long))
+pictured_once {A} word_at before (x ∷ a) b p q =
+    ext_get_or x (x ∷ a) b (p.long ∙ sym q.long) (λ i h. let k : i < length before = omega (arith, h, p.long) in p.each i x k ∙ sym (q.each i x k))
 
 pub all_are_once : (v : ℤ) (l : List ℤ) (r s : Bool) → AllAre v l r → AllAre v l s → r ≡ s
 all_are_once v l true true p q = refl

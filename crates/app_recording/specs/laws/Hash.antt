@@ -4,7 +4,9 @@ use Rattle.std.proofs.Math.Path.{sym, ap}
 use Rattle.std.proofs.Common.{◌∙◌, add-one, arith, drop_of_length-le}
 use Rattle.std.proofs.Math.Nat.{add-mod-mod, mod-add-mod}
 use Rattle.std.proofs.Math.Seq.{drop-cons}
-use Rattle.app_recording.specs.Hash.{basis, hash_of}
+use Rattle.std.specs.Prelude.{ℤ, pos, negsuc, FitsSigned}
+use Rattle.std.specs.Int.{w32, cast_unsigned}
+use Rattle.app_recording.specs.Hash.{basis, hash_of, bits_of}
 
 -- a sum of three that is cut to W step by step
 sum_cut : (W a b c : ℕ) → ((a + b % W) % W + c % W) % W ≡ (a + b + c) % W
@@ -37,3 +39,9 @@ module _ {A : Type 0} (more : ℕ → A → ℕ) (s : List A) where
   pub hash_all : (h i : ℕ) → Hashing more s h i → length s ≤ i → h ≡ hash_of more basis s
   unfolding hash_of
   hash_all h i g l = sym (ap (hash_of more h) (drop_of_length-le s l)) ∙ g.rest
+
+-- the 32 bits of a signed number are those of its cast
+pub bits_are : (z : ℤ) → FitsSigned w32 z → cast_unsigned w32 z ≡ bits_of z
+unfolding bits_of
+bits_are (pos n) f = refl
+bits_are (negsuc n) f = omega arith

@@ -2,11 +2,11 @@
 use Rattle.std.specs.Prelude.{ℕ, suc, ◌+◌, ◌≤◌, ◌<◌, ◌≡◌, Bool, List, [], ◌∷◌, ◌++◌, leb, length, get_or, drop}
 use Rattle.std.proofs.Math.Path.{refl, ap, sym}
 use Rattle.std.proofs.Common.{◌∙◌, add-one, eq-eqb, ne_eqb, drop_of_length-le, drop-cons}
-use Rattle.std.proofs.Math.Bool.{true, false}
+use Rattle.std.proofs.Math.Bool.{true, false, not}
 use Rattle.std.proofs.Math.Dec.{eqb}
 use Rattle.whole.specs.Row.{◌!◌⨾◌, ◌⇒◌∣◌}
 use Rattle.whole.specs.laws.Row.{fails, passes, case_yes, case_no}
-use Rattle.collect.specs.Collect.{in_frame, part_after}
+use Rattle.collect.specs.Collect.{at_end, in_frame, part_after}
 use Rattle.app_stream.specs.declared.skip.Skip.{Skip}
 use Rattle.app_stream.specs.declared.skip.Skipped.{Skipped}
 use Rattle.app_stream.specs.Skip.{stays, byte_over, goes, skip_from}
@@ -14,13 +14,14 @@ use Rattle.app_stream.specs.Skip.{stays, byte_over, goes, skip_from}
 -- ---- does a frame go on?
 
 module _ (part kind : ℕ) where
-  pub stays_end : part ≡ 3 → kind ≡ 0xCCC5 → false ≡ stays part kind
-  unfolding part_after
-  stays_end p k = ap (λ (n : ℕ). eqb n in_frame) (case_yes _ _ _ _ (eq-eqb part 3 p) (case_yes _ _ _ _ (eq-eqb kind 0xCCC5 k) refl))
+  closes : (t : Bool) → not t ≡ eqb (t ⇒ at_end ∣ in_frame) in_frame
+  unfolding ◌⇒◌∣◌
+  closes true = refl
+  closes false = refl
 
-  pub stays_in : part ≡ 3 → (kind ≡ 0xCCC5 → ⊥) → true ≡ stays part kind
+  pub stays_frame : part ≡ 3 → not (eqb kind 0xCCC5) ≡ stays part kind
   unfolding part_after
-  stays_in p k = ap (λ (n : ℕ). eqb n in_frame) (case_yes _ _ _ _ (eq-eqb part 3 p) (case_no _ _ _ _ (ne_eqb kind 0xCCC5 k) refl))
+  stays_frame p = closes (eqb kind 0xCCC5) ∙ ap (λ (n : ℕ). eqb n in_frame) (case_yes _ _ _ _ (eq-eqb part 3 p) refl)
 
   alone : (t : Bool) → eqb (t ⇒ 1 ∣ 2) in_frame ≡ false
   unfolding ◌⇒◌∣◌

@@ -84,6 +84,10 @@ pub same_band : (a k : ℕ) → a ≤ k → k < (band_at a).end → band_at k �
 unfolding band_at
 same_band a k l h = found_same bands a k l h
 
+-- and share its quantiser
+pub same_quant : (q : List ℕ) (a k : ℕ) → a ≤ k → k < (band_at a).end → quant_at q a ≡ quant_at q k
+same_quant q a k l h = ap (λ (b : Band). get_or q b.set 0) (sym (same_band a k l h))
+
 -- ---- five bytes of a message
 
 take_more : (m : List ℕ) (n a b : ℕ) → a < length m → b ≡ a + 1 → take (suc n) (drop a m) ≡ get_or m a 0 ∷ take n (drop b m)

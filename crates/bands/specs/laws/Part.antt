@@ -2,7 +2,7 @@
 -- Assumes nothing.
 use Rattle.std.specs.Prelude.{◌≡◌, refl, List, ◌++◌, ℕ, ◌+◌, ◌-◌, ◌^◌, ◌≤◌, ◌<◌, ℤ, pos, ◌*ℤ◌, length, get_or, set, take, drop}
 use Rattle.std.proofs.Common.{sym, ◌∙◌, ap, subst, append-nil, zero-le, arith, length-set, length-append, length-take, length-drop, drop_of_length-le}
-use Rattle.std.proofs.Common.{get_or-set_other, get_or-take, get_or-append-add, length-take-le}
+use Rattle.std.proofs.Common.{get_or-set_other, get_or-set_same, below_more, get_or-take, get_or-append-add, length-take-le}
 use Rattle.std.proofs.Math.Decide.{dec_lt}
 use Rattle.std.proofs.Math.ListN.{get_or-append, get_or-eq_default}
 use borrow.Rule.Slice.PartMut.{put_mid}
@@ -125,9 +125,57 @@ module _ (F : ℕ → ℤ) (G : ℤ → ℤ) (before xs : List ℤ) (a e : ℕ) 
           (put_in xs ys a (e - a) fit yl (k - a) i ∙ (ap (λ (zs : List ℤ). at zs (k - a)) w
           ∙ (at_tab (e - a) (λ (i : ℕ). G (at (take (e - a) (drop a xs)) i)) (k - a) i ∙ part_is (k - a) i)))
 
+-- the same where what is done to a value is told by a relation: of the place, the value as it was and as it is
+pub record DoneBy (R : ℕ → ℤ → ℤ → Type 0) (a : ℕ) (before after : List ℤ) : Type 0 where
+  pub done : (k : ℕ) → k < a → R k (at before k) (at after k)
+  pub rest : (k : ℕ) → a ≤ k → at after k ≡ at before k
+
+pub by_none : (R : ℕ → ℤ → ℤ → Type 0) (before : List ℤ) → DoneBy R 0 before before
+by_none R before = record { done = λ k h. absurd (omega arith); rest = λ k h. refl }
+
+-- one place more
+pub by_put : (R : ℕ → ℤ → ℤ → Type 0) (i : ℕ) (before xs : List ℤ) (v : ℤ) → i < length xs → R i (at before i) v → DoneBy R i before xs →
+    DoneBy R (i + 1) before (set xs i v)
+by_put R i before xs v h e d = record {
+  done = below_more (λ k. R k (at before k) (at (set xs i v) k)) i
+      (λ k l. subst (R k (at before k)) (sym (get_or-set_other xs i k v (pos 0) (omega arith))) (d.done k l))
+      (subst (R i (at before i)) (sym (get_or-set_same xs i v (pos 0) h)) e);
+  rest = λ k l. get_or-set_other xs i k v (pos 0) (omega arith) ∙ d.rest k (omega arith);
+}
+
+-- one band more: ys is what came back of the part from a to e
+pub by_part : (R : ℕ → ℤ → ℤ → Type 0) (before xs ys : List ℤ) (a e : ℕ) → a ≤ e → e ≤ length xs → length ys ≡ e - a → DoneBy R a before xs →
+    ((i : ℕ) → i < e - a → R (a + i) (at before (a + i)) (at ys i)) → DoneBy R e before (put_mid a (e - a) xs ys)
+by_part R before xs ys a e from to yl d here = record {
+  done = λ k h. place k h (dec_lt k a);
+  rest = λ k h.
+      let n : a + ((e - a) + (k - e)) ≡ k = omega arith in
+      subst (λ (m : ℕ). at (put_mid a (e - a) xs ys) m ≡ at before m) n (put_above xs ys a (e - a) fit yl (k - e)
+      ∙ d.rest (a + ((e - a) + (k - e))) (omega arith));
+}
+  where
+    fit : a + (e - a) ≤ length xs
+    fit = omega arith
+
+    place : (k : ℕ) → k < e → Dec (k < a) → R k (at before k) (at (put_mid a (e - a) xs ys) k)
+    place k h (yes p) = subst (R k (at before k)) (sym (put_below xs ys a (e - a) fit yl k p)) (d.done k p)
+    place k h (no p) =
+        let n : a + (k - a) ≡ k = omega arith in
+        let i : k - a < e - a = omega arith in
+        subst (λ (m : ℕ). R m (at before m) (at (put_mid a (e - a) xs ys) m)) n
+        (subst (R (a + (k - a)) (at before (a + (k - a)))) (sym (put_in xs ys a (e - a) fit yl (k - a) i)) (here (k - a) i))
+
 -- what a band still has to be done is as near as it was
 pub rest_near : {B : ℕ} (F : ℕ → ℤ) (before xs : List ℤ) (a k : ℕ) → Done F a before xs → AllNear B before → AllNear B (take k (drop a xs))
 rest_near {B} F before xs a k d n = record { all = λ i. place i (dec_lt i k) }
+  where
+    place : (i : ℕ) → Dec (i < k) → Near B (at (take k (drop a xs)) i)
+    place i (yes h) = subst (Near B) (sym (part_at xs a k i h ∙ d.rest (a + i) (omega arith))) (n.all (a + i))
+    place i (no h) = subst (Near B) (sym (get_or-eq_default (take k (drop a xs)) (pos 0) {n = i} (simp length-take (omega arith))))
+        (record { near = zero-le })
+
+pub by_near : {B : ℕ} (R : ℕ → ℤ → ℤ → Type 0) (before xs : List ℤ) (a k : ℕ) → DoneBy R a before xs → AllNear B before → AllNear B (take k (drop a xs))
+by_near {B} R before xs a k d n = record { all = λ i. place i (dec_lt i k) }
   where
     place : (i : ℕ) → Dec (i < k) → Near B (at (take k (drop a xs)) i)
     place i (yes h) = subst (Near B) (sym (part_at xs a k i h ∙ d.rest (a + i) (omega arith))) (n.all (a + i))

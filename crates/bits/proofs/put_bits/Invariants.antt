@@ -1,10 +1,7 @@
 -- `bits::put_bits` meets its contract. The loop's invariant (`Wide`): the bits that wait and the bytes put out are those that waited at first. Assumes nothing.
-use Prim.Native.Nat.{◌≤◌}
+use Prim.Native.Nat.{◌+◌, ◌*◌, ◌-◌}
 use Rattle.bits.specs.laws.Wide.{Wide}
 use Rattle.bits.proofs.put_bits.Given as goal
 
-abbrev pub invariant-loop-n : goal.invariant-loop-n
-invariant-loop-n l = (l.n ≤ 40) × Wide l.initial.out l.initial.at l.acc l.initial.n l.out l.at l.n
-
-abbrev pub decreases-loop-n : goal.decreases-loop-n
-decreases-loop-n l = l.n
+abbrev pub invariant-loop-i : goal.invariant-loop-i
+invariant-loop-i l = Wide l.initial.out l.p.at l.acc l.n l.out (l.p.at + l.i) (l.n - 8 * l.i)

@@ -1,19 +1,18 @@
 -- The bits from a place on with zeros past their end: they are what a word holds, and a number or a run of ones is read from them.
+use Rattle.std.specs.Prelude.{Option, None}
 use Rattle.std.specs.Prelude.{ℕ, zero, suc, ◌+◌, ◌*◌, ◌-◌, ◌/◌, ◌%◌, ◌^◌, ◌≤◌, ◌<◌, ◌≡◌, refl, Bool, true, false, List, [], ◌∷◌, ◌++◌, length, drop, take}
 use Rattle.std.specs.Prelude.{get_or, replicate}
 use Rattle.std.proofs.Common.{sym, ap, ap₂, subst, ◌∙◌, append-nil, arith, add-one, le_refl, mod-lt, length-drop, take-append-drop, drop_of_length-le}
 use Rattle.std.proofs.Common.{drop-drop, drop-cons, shr_lt, pow-add, pow_mono, pow_pos}
 use Rattle.std.proofs.Math.Decide.{dec_lt}
 use Rattle.std.proofs.lemmas.List.{drop-append-le}
-use Rattle.bits.specs.Bits.{num_bits, bits_of, ones_of, num_of}
+use Rattle.bits.specs.Bits.{got, num_bits, bits_of, ones_of, num_of}
 use Rattle.bits.specs.Word.{four_of, horner, padded}
 use Rattle.bits.specs.laws.Bit.{length_num_bits, length_bits_of, ones_got, got_v}
 use Rattle.bits.specs.laws.Here.{num_bits_mod, num_here}
 use Rattle.bits.specs.laws.Bytes.{Bytes}
 use Rattle.bits.specs.laws.Pen.{bits_of_append, num_bits_shift}
-use Rattle.bits.specs.laws.Word.{num_bits_split, num_bits_past, num_short, bytes_of, bytes_front, bytes_small, horner_bits, drop_bytes, four_four, in_place}
-use Rattle.bits.specs.declared.Num.{Num}
-use Rattle.bits.specs.declared.Num.TheVariants.{Got, Cut}
+use Rattle.bits.specs.laws.Word.{num_bits_split, num_bits_past, num_short, bytes_of, bytes_front, bytes_small, horner_bits, drop_bytes, four_four}
 
 -- ---- zeros past the end
 
@@ -146,7 +145,7 @@ byte_grow i w b h l k =
 -- ---- a number from it
 
 pub ahead_number : (B : List Bool) (at k w : ℕ) → w < 2 ^ 57 → num_bits 57 w ≡ padded 57 (drop at B) → k ≤ 57 → at + k ≤ length B →
-    Got (w / 2 ^ (57 - k)) (at + k) ≡ num_of k 0 at (drop at B)
+    got (w / 2 ^ (57 - k)) (at + k) ≡ num_of k 0 at (drop at B)
 ahead_number B at k w hw e hk h =
     let n = w / 2 ^ (57 - k) in
     let s : k + (57 - k) ≡ 57 = omega arith in
@@ -159,13 +158,13 @@ ahead_number B at k w hw e hk h =
     sym (num_here k n at B (drop (at + k) B) d (shr_lt k (57 - k) (subst (λ (x : ℕ). w < 2 ^ x) p hw))).0
 
 -- a number that does not lie in the bits whole
-pub number_cut : (s : List ℕ) (at k : ℕ) → length s * 8 < at + k → 0 < k → Cut ≡ num_of k 0 at (drop at (bits_of s))
+pub number_cut : (s : List ℕ) (at k : ℕ) → length s * 8 < at + k → 0 < k → None ≡ num_of k 0 at (drop at (bits_of s))
 number_cut s at k h p = sym (num_short k 0 at (drop at (bits_of s)) (omega (arith, length-drop at (bits_of s), length_bits_of s)))
 
 -- ---- ones from it
 
 -- all n are ones: they stand in L, and the rest follows
-pub ahead_full : (n a b : ℕ) (L : List Bool) → ones_of a b (padded n L) ≡ Cut → (v at : ℕ) →
+pub ahead_full : (n a b : ℕ) (L : List Bool) → ones_of a b (padded n L) ≡ None → (v at : ℕ) →
     (n ≤ length L) × (ones_of v at L ≡ ones_of (v + n) (at + n) (drop n L))
 unfolding ones_of padded
 ahead_full zero a b L e v at = (omega arith, ap₂ (λ (x y : ℕ). ones_of x y L) (omega arith) (omega arith))
@@ -176,8 +175,8 @@ ahead_full (suc n) a b (true ∷ L) e v at =
 ahead_full (suc n) a b (false ∷ L) e v at = let z : ◌≡◌ {A = ℕ} 0 1 = cc in absurd (omega arith)
 
 -- m ones and a zero: they stand in L, or L is m ones at most
-pub ahead_some : (n a b : ℕ) (L : List Bool) (w next m : ℕ) → ones_of a b (padded n L) ≡ Got w next → w ≡ a + m → (v at : ℕ) →
-    (m < length L → Got (v + m) (at + m + 1) ≡ ones_of v at L) × (length L ≤ m → Cut ≡ ones_of v at L)
+pub ahead_some : (n a b : ℕ) (L : List Bool) (w next m : ℕ) → ones_of a b (padded n L) ≡ got w next → w ≡ a + m → (v at : ℕ) →
+    (m < length L → got (v + m) (at + m + 1) ≡ ones_of v at L) × (length L ≤ m → None ≡ ones_of v at L)
 unfolding ones_of padded
 ahead_some zero a b L w next m e q v at = let z : ◌≡◌ {A = ℕ} 0 1 = cc in absurd (omega arith)
 ahead_some (suc n) a b [] w next m e q v at = ((λ h. absurd (omega arith)), λ h. refl)
@@ -186,14 +185,14 @@ ahead_some (suc n) a b (true ∷ L) w next m e q v at =
     let c : w ≡ a + 1 + (m - 1) = omega (arith, g.count) in
     let p : 0 < m = omega (arith, g.count) in
     let r = ahead_some n (a + 1) (b + 1) L w next (m - 1) e c (v + 1) (at + 1) in
-    ((λ h. ap₂ Got (omega arith) (omega arith) ∙ r.0 (omega arith)), λ h. r.1 (omega arith))
+    ((λ h. ap₂ got (omega arith) (omega arith) ∙ r.0 (omega arith)), λ h. r.1 (omega arith))
 ahead_some (suc n) a b (false ∷ L) w next m e q v at =
     let c : m ≡ 0 = omega (arith, got_v e) in
-    ((λ h. ap₂ Got (omega arith) (omega arith)), λ h. absurd (omega arith))
+    ((λ h. ap₂ got (omega arith) (omega arith)), λ h. absurd (omega arith))
 
 -- in the code's forms: the word's ones, and how many bits are left
 module _ (s : List ℕ) (at w : ℕ) (e : num_bits 57 w ≡ padded 57 (drop at (bits_of s))) where
-  pub ones_on : (n : Num) → n ≡ ones_of 0 0 (drop 0 (num_bits 57 w)) → n ≡ Cut → (v : ℕ) →
+  pub ones_on : (n : Option (ℕ × ℕ)) → n ≡ ones_of 0 0 (drop 0 (num_bits 57 w)) → n ≡ None → (v : ℕ) →
       (at + 57 ≤ length s * 8) × (ones_of v at (drop at (bits_of s)) ≡ ones_of (v + 57) (at + 57) (drop (at + 57) (bits_of s)))
   ones_on n o g v =
       let r = ahead_full 57 0 0 (drop at (bits_of s)) (rw (← e) (sym o ∙ g)) v at in (
@@ -201,16 +200,13 @@ module _ (s : List ℕ) (at w : ℕ) (e : num_bits 57 w ≡ padded 57 (drop at (
         r.1 ∙ ap (λ (l : List Bool). ones_of (v + 57) (at + 57) l) (drop-drop 57 at (bits_of s)),
       )
 
-  module _ (n : Num) (o : n ≡ ones_of 0 0 (drop 0 (num_bits 57 w))) (m next : ℕ) (g : n ≡ Got m next) (v : ℕ) where
-    found : (m < length (drop at (bits_of s)) → Got (v + m) (at + m + 1) ≡ ones_of v at (drop at (bits_of s))) ×
-        (length (drop at (bits_of s)) ≤ m → Cut ≡ ones_of v at (drop at (bits_of s)))
+  module _ (n : Option (ℕ × ℕ)) (o : n ≡ ones_of 0 0 (drop 0 (num_bits 57 w))) (m next : ℕ) (g : n ≡ got m next) (v : ℕ) where
+    found : (m < length (drop at (bits_of s)) → got (v + m) (at + m + 1) ≡ ones_of v at (drop at (bits_of s))) ×
+        (length (drop at (bits_of s)) ≤ m → None ≡ ones_of v at (drop at (bits_of s)))
     found = ahead_some 57 0 0 (drop at (bits_of s)) m next m (rw (← e) (sym o ∙ g)) (omega arith) v at
 
-    pub ones_here : m < length s * 8 - at → Got (v + m) (at + m + 1) ≡ ones_of v at (drop at (bits_of s))
+    pub ones_here : m < length s * 8 - at → got (v + m) (at + m + 1) ≡ ones_of v at (drop at (bits_of s))
     ones_here h = found.0 (omega (arith, length-drop at (bits_of s), length_bits_of s))
 
-    pub ones_past : length s * 8 - at ≤ m → Cut ≡ ones_of v at (drop at (bits_of s))
+    pub ones_past : length s * 8 - at ≤ m → None ≡ ones_of v at (drop at (bits_of s))
     ones_past h = found.1 (omega (arith, length-drop at (bits_of s), length_bits_of s))
-
-    pub ones_few : m < 57
-    ones_few = (in_place w 0 m next (sym o ∙ g)).1

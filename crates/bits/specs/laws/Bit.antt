@@ -1,4 +1,5 @@
 -- Laws of the bits.
+use Rattle.std.specs.Prelude.{Some, None}
 use Rattle.std.specs.Prelude.{ℕ, zero, suc, ◌+◌, ◌*◌, ◌-◌, ◌/◌, ◌%◌, ◌^◌, ◌≤◌, ◌<◌, ◌≡◌, refl, Bool, true, false, List, [], ◌∷◌, ◌++◌, length, drop, get_or}
 use Rattle.std.specs.Prelude.{replicate, eqb}
 use Rattle.std.proofs.Common.{sym, ap, ap₂, ◌∙◌, arith, add-one, one-add, length-append, drop_of_length-le, length-drop, get_or-append-add, drop-cons, lit<}
@@ -6,9 +7,8 @@ use Rattle.std.proofs.Common.{pow-suc, mul-le-mul, mod-eq_of_lt, one-mul, lt_of_
 use Rattle.std.proofs.Math.Decide.{dec_lt}
 use Rattle.std.proofs.Math.ListN.{get_or-append}
 use Rattle.std.proofs.lemmas.List.{length-replicate}
-use Rattle.bits.specs.declared.Num.TheVariants.{Got, Cut}
 use Rattle.std.proofs.lemmas.Nat.{mod-pow-add}
-use Rattle.bits.specs.Bits.{odd, val, num_bits, bits_of, ones_of, num_of, gr_of}
+use Rattle.bits.specs.Bits.{got, odd, val, num_bits, bits_of, ones_of, num_of, gr_of}
 
 pub length_num_bits : (k n : ℕ) → length (num_bits k n) ≡ k
 unfolding num_bits
@@ -58,11 +58,11 @@ pub ones_more : (B : List Bool) (v at : ℕ) → at < length B → get_or B at f
 unfolding ones_of
 ones_more B v at h e = rw (drop-cons B at false h, e, ← add-one at)
 
-pub ones_stop : (B : List Bool) (v at : ℕ) → at < length B → get_or B at false ≡ false → ones_of v at (drop at B) ≡ Got v (at + 1)
+pub ones_stop : (B : List Bool) (v at : ℕ) → at < length B → get_or B at false ≡ false → ones_of v at (drop at B) ≡ got v (at + 1)
 unfolding ones_of
 ones_stop B v at h e = rw (drop-cons B at false h, e)
 
-pub ones_cut : (B : List Bool) (v at : ℕ) → length B ≤ at → ones_of v at (drop at B) ≡ Cut
+pub ones_cut : (B : List Bool) (v at : ℕ) → length B ≤ at → ones_of v at (drop at B) ≡ None
 unfolding ones_of
 ones_cut B v at h = rw (drop_of_length-le B h)
 
@@ -71,7 +71,7 @@ pub num_more :
 unfolding num_of
 num_more B k acc at h = rw (drop-cons B at false h, ← add-one at)
 
-pub num_end : (B : List Bool) (acc at : ℕ) → num_of 0 acc at (drop at B) ≡ Got acc at
+pub num_end : (B : List Bool) (acc at : ℕ) → num_of 0 acc at (drop at B) ≡ got acc at
 unfolding num_of
 num_end B acc at = refl
 
@@ -82,7 +82,7 @@ pub num_step :
 num_step B zero acc at p h = absurd (omega arith)
 num_step B (suc k) acc at p h = rw (suc_sub_one k) (num_more B k acc at h)
 
-pub num_cut : (B : List Bool) (k acc at : ℕ) → 0 < k → length B ≤ at → num_of k acc at (drop at B) ≡ Cut
+pub num_cut : (B : List Bool) (k acc at : ℕ) → 0 < k → length B ≤ at → num_of k acc at (drop at B) ≡ None
 unfolding num_of
 num_cut B zero acc at p h = absurd (omega arith)
 num_cut B (suc k) acc at p h = rw (drop_of_length-le B h)
@@ -112,27 +112,30 @@ place acc b p = rw (add-mul, mul_assoc, mul_comm 2 p)
 
 -- ---- writing, then reading
 
-pub num_put : (k n acc at : ℕ) (rest : List Bool) → num_of k acc at (num_bits k n ++ rest) ≡ Got (acc * 2 ^ k + n % 2 ^ k) (at + k)
+pub num_put : (k n acc at : ℕ) (rest : List Bool) → num_of k acc at (num_bits k n ++ rest) ≡ got (acc * 2 ^ k + n % 2 ^ k) (at + k)
 unfolding num_of num_bits
-num_put zero n acc at rest = ap₂ Got (omega arith) (omega arith)
+num_put zero n acc at rest = ap₂ got (omega arith) (omega arith)
 num_put (suc k) n acc at rest =
     let b = val (odd (n / 2 ^ k)) in
     let v : b ≡ n / 2 ^ k % 2 = val_odd (n / 2 ^ k) in
     let m : n % 2 ^ suc k ≡ (n / 2 ^ k % 2) * 2 ^ k + n % 2 ^ k = rw (← one-add k) (mod-pow-add n 1 k) in
-    num_put k n (acc * 2 + b) (at + 1) rest ∙ ap₂ Got (rw (v, m, pow-suc 2 k, place acc (n / 2 ^ k % 2) (2 ^ k)) (omega arith)) (omega arith)
+    num_put k n (acc * 2 + b) (at + 1) rest ∙ ap₂ got (rw (v, m, pow-suc 2 k, place acc (n / 2 ^ k % 2) (2 ^ k)) (omega arith)) (omega arith)
 
-pub ones_put : (n v at : ℕ) (rest : List Bool) → ones_of v at (replicate n true ++ (false ∷ rest)) ≡ Got (v + n) (at + n + 1)
+pub ones_put : (n v at : ℕ) (rest : List Bool) → ones_of v at (replicate n true ++ (false ∷ rest)) ≡ got (v + n) (at + n + 1)
 unfolding ones_of
-ones_put zero v at rest = ap₂ Got (omega arith) (omega arith)
-ones_put (suc n) v at rest = ones_put n (v + 1) (at + 1) rest ∙ ap₂ Got (omega arith) (omega arith)
+ones_put zero v at rest = ap₂ got (omega arith) (omega arith)
+ones_put (suc n) v at rest = ones_put n (v + 1) (at + 1) rest ∙ ap₂ got (omega arith) (omega arith)
 
 -- ---- reading, then writing
 
-pub got_v : {v w a b : ℕ} → Got v a ≡ Got w b → v ≡ w
-got_v e = cc
+same_got : {p q : ℕ × ℕ} → Some p ≡ Some q → p ≡ q
+same_got e = cc
 
-pub got_at : {v w a b : ℕ} → Got v a ≡ Got w b → a ≡ b
-got_at e = cc
+pub got_v : {v w a b : ℕ} → got v a ≡ got w b → v ≡ w
+got_v e = ap (λ (p : ℕ × ℕ). p.0) (same_got e)
+
+pub got_at : {v w a b : ℕ} → got v a ≡ got w b → a ≡ b
+got_at e = ap (λ (p : ℕ × ℕ). p.1) (same_got e)
 
 pub record Ones (v at : ℕ) (bs : List Bool) (w next : ℕ) : Type 0 where
   pub n : ℕ
@@ -141,7 +144,7 @@ pub record Ones (v at : ℕ) (bs : List Bool) (w next : ℕ) : Type 0 where
   pub place : next ≡ at + n + 1
   pub front : bs ≡ replicate n true ++ (false ∷ rest)
 
-pub ones_got : (v at : ℕ) (bs : List Bool) (w next : ℕ) → ones_of v at bs ≡ Got w next → Ones v at bs w next
+pub ones_got : (v at : ℕ) (bs : List Bool) (w next : ℕ) → ones_of v at bs ≡ got w next → Ones v at bs w next
 unfolding ones_of
 ones_got v at [] w next e = let z : ◌≡◌ {A = ℕ} 0 1 = cc in absurd (omega arith)
 ones_got v at (true ∷ bs) w next e =
@@ -156,7 +159,7 @@ ones_got v at (true ∷ bs) w next e =
 ones_got v at (false ∷ bs) w next e =
     record { n = 0; rest = bs; count = sym (got_v e) ∙ omega arith; place = sym (got_at e) ∙ omega arith; front = refl }
 
-pub num_got_lt : (k acc at : ℕ) (bs : List Bool) (w next : ℕ) → num_of k acc at bs ≡ Got w next → w < (acc + 1) * 2 ^ k
+pub num_got_lt : (k acc at : ℕ) (bs : List Bool) (w next : ℕ) → num_of k acc at bs ≡ got w next → w < (acc + 1) * 2 ^ k
 unfolding num_of
 num_got_lt zero acc at bs w next e = omega (arith, got_v e)
 num_got_lt (suc k) acc at [] w next e = let z : ◌≡◌ {A = ℕ} 0 1 = cc in absurd (omega arith)
@@ -164,7 +167,7 @@ num_got_lt (suc k) acc at (b ∷ bs) w next e =
     lt_of_lt_of_le (num_got_lt k (acc * 2 + val b) (at + 1) bs w next e)
     (rw (pow-suc 2 k, mul_comm (2 ^ k) 2, ← mul_assoc) (mul-le-mul_right (2 ^ k) (omega (arith, val_lt b))))
 
-pub ones_got_le : (v at : ℕ) (bs : List Bool) (w next : ℕ) → ones_of v at bs ≡ Got w next → w < v + length bs
+pub ones_got_le : (v at : ℕ) (bs : List Bool) (w next : ℕ) → ones_of v at bs ≡ got w next → w < v + length bs
 ones_got_le v at bs w next e =
     let r = ones_got v at bs w next e in
     let l : length bs ≡ r.n + suc (length r.rest) =
@@ -174,15 +177,15 @@ ones_got_le v at bs w next e =
 
 -- ---- a GR number by its two parts
 
-pub gr_cut : (k at : ℕ) (B : List Bool) → ones_of 0 at (drop at B) ≡ Cut → gr_of k at B ≡ Cut
+pub gr_cut : (k at : ℕ) (B : List Bool) → ones_of 0 at (drop at B) ≡ None → gr_of k at B ≡ None
 gr_cut k at B e = rw e
 
-pub gr_cut_low : (k at : ℕ) (B : List Bool) (v mid : ℕ) → ones_of 0 at (drop at B) ≡ Got v mid → num_of k 0 mid (drop mid B) ≡ Cut → gr_of k at B ≡ Cut
+pub gr_cut_low : (k at : ℕ) (B : List Bool) (v mid : ℕ) → ones_of 0 at (drop at B) ≡ got v mid → num_of k 0 mid (drop mid B) ≡ None → gr_of k at B ≡ None
 gr_cut_low k at B v mid e f = rw (e, f)
 
 pub gr_got :
-    (k at : ℕ) (B : List Bool) (v mid b next : ℕ) → ones_of 0 at (drop at B) ≡ Got v mid → num_of k 0 mid (drop mid B) ≡ Got b next →
-    gr_of k at B ≡ Got (v * 2 ^ k + b) next
+    (k at : ℕ) (B : List Bool) (v mid b next : ℕ) → ones_of 0 at (drop at B) ≡ got v mid → num_of k 0 mid (drop mid B) ≡ got b next →
+    gr_of k at B ≡ got (v * 2 ^ k + b) next
 gr_got k at B v mid b next e f = rw (e, f)
 
 -- a GR number of at most 65,535 bytes and k at most 10 is small
@@ -193,8 +196,8 @@ gr_small k v b hk hv hb =
     (mod-eq_of_lt (omega arith), omega arith)
 
 pub gr_bounds :
-    (k at : ℕ) (s : List ℕ) (v mid b next : ℕ) → k ≤ 10 → length s ≤ 65535 → ones_of 0 at (drop at (bits_of s)) ≡ Got v mid →
-    num_of k 0 mid (drop mid (bits_of s)) ≡ Got b next → (v * 2 ^ k % 2 ^ 64 ≡ v * 2 ^ k) × (v * 2 ^ k + b < 2 ^ 31)
+    (k at : ℕ) (s : List ℕ) (v mid b next : ℕ) → k ≤ 10 → length s ≤ 65535 → ones_of 0 at (drop at (bits_of s)) ≡ got v mid →
+    num_of k 0 mid (drop mid (bits_of s)) ≡ got b next → (v * 2 ^ k % 2 ^ 64 ≡ v * 2 ^ k) × (v * 2 ^ k + b < 2 ^ 31)
 gr_bounds k at s v mid b next hk hs e f =
     gr_small k v b hk
     (omega (arith, ones_got_le 0 at (drop at (bits_of s)) v mid e, length-drop at (bits_of s), length_bits_of s))

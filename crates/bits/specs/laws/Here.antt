@@ -1,4 +1,5 @@
 -- Reading at a place of a bit list: what stands there decides what is read, and what is read says what stands there.
+use Rattle.std.specs.Prelude.{Option, None}
 use Rattle.std.specs.Prelude.{ℕ, zero, suc, ◌+◌, ◌*◌, ◌-◌, ◌/◌, ◌%◌, ◌^◌, ◌≤◌, ◌<◌, ◌≡◌, refl, Bool, true, false, List, [], ◌∷◌, ◌++◌, eqb, length, drop}
 use Rattle.std.specs.Prelude.{replicate}
 use Rattle.std.proofs.Common.{sym, ap, ap₂, ◌∙◌, append_assoc, arith, add-one, mul-le-mul_left, div-lt_iff_lt-mul, mod-eq_of_lt, div-add-mod', pow-suc}
@@ -6,19 +7,17 @@ use Rattle.std.proofs.Common.{length-drop, length-append, drop-drop, pow_mono, p
 use Rattle.std.proofs.lemmas.List.{length-replicate}
 use Rattle.std.proofs.Math.Seq.{drop-append_seam}
 use Rattle.std.proofs.Math.Pow.{high, low, field, mod-mod-pow}
-use Rattle.bits.specs.Bits.{bits_of, odd, val, num_bits, ones_of, num_of, gr_bits, gr_of, then_bits, then_low}
+use Rattle.bits.specs.Bits.{got, bits_of, odd, val, num_bits, ones_of, num_of, gr_bits, gr_of, then_bits, then_low}
 use Rattle.bits.specs.laws.Bit.{length_bits_of, length_num_bits, num_put, ones_put, ones_got, got_v, got_at, gr_got, place}
-use Rattle.bits.specs.declared.Num.{Num}
-use Rattle.bits.specs.declared.Num.TheVariants.{Got, Cut}
 
 -- what stands past p
 pub past : (at : ℕ) (B p rest : List Bool) → drop at B ≡ p ++ rest → drop (at + length p) B ≡ rest
 past at B p rest e = sym (drop-drop (length p) at B) ∙ ap (λ (l : List Bool). drop (length p) l) e ∙ drop-append_seam p rest
 
 pub num_here :
-    (k n at : ℕ) (B rest : List Bool) → drop at B ≡ num_bits k n ++ rest → n < 2 ^ k → (num_of k 0 at (drop at B) ≡ Got n (at + k)) × (drop (at + k) B ≡ rest)
+    (k n at : ℕ) (B rest : List Bool) → drop at B ≡ num_bits k n ++ rest → n < 2 ^ k → (num_of k 0 at (drop at B) ≡ got n (at + k)) × (drop (at + k) B ≡ rest)
 num_here k n at B rest e h =
-    (rw e (num_put k n 0 at rest ∙ ap (λ (m : ℕ). Got m (at + k)) (omega (arith, mod-eq_of_lt h))), rw length_num_bits at (past at B (num_bits k n) rest e))
+    (rw e (num_put k n 0 at rest ∙ ap (λ (m : ℕ). got m (at + k)) (omega (arith, mod-eq_of_lt h))), rw length_num_bits at (past at B (num_bits k n) rest e))
 
 pub length_gr_bits : (k n : ℕ) → length (gr_bits k n) ≡ n / 2 ^ k + 1 + k
 unfolding gr_bits
@@ -26,7 +25,7 @@ length_gr_bits k n = length-append (replicate (n / 2 ^ k) true) (false ∷ num_b
 
 pub gr_here :
     (k n at : ℕ) (B rest : List Bool) → drop at B ≡ gr_bits k n ++ rest →
-    (gr_of k at B ≡ Got n (at + length (gr_bits k n))) × (drop (at + length (gr_bits k n)) B ≡ rest)
+    (gr_of k at B ≡ got n (at + length (gr_bits k n))) × (drop (at + length (gr_bits k n)) B ≡ rest)
 unfolding gr_bits
 gr_here k n at B rest e =
     let q = n / 2 ^ k in
@@ -36,11 +35,11 @@ gr_here k n at B rest e =
     let l : length (replicate q true ++ (false ∷ [])) ≡ q + 1 = length-append (replicate q true) (false ∷ []) ∙ omega (arith, length-replicate q true) in
     let s : at + q + 1 ≡ at + length (replicate q true ++ (false ∷ [])) = omega (arith, l) in
     let m : drop (at + q + 1) B ≡ num_bits k n ++ rest = ap (λ (x : ℕ). drop x B) s ∙ past at B (replicate q true ++ (false ∷ [])) (num_bits k n ++ rest) e₂ in
-    let o : ones_of 0 at (drop at B) ≡ Got q (at + q + 1) = rw e₁ (ones_put q 0 at (num_bits k n ++ rest) ∙ ap (λ (x : ℕ). Got x (at + q + 1)) (omega arith)) in
-    let r : num_of k 0 (at + q + 1) (drop (at + q + 1) B) ≡ Got (n % 2 ^ k) (at + q + 1 + k) =
-    rw m (num_put k n 0 (at + q + 1) rest ∙ ap (λ (x : ℕ). Got x (at + q + 1 + k)) (omega arith)) in (
+    let o : ones_of 0 at (drop at B) ≡ got q (at + q + 1) = rw e₁ (ones_put q 0 at (num_bits k n ++ rest) ∙ ap (λ (x : ℕ). got x (at + q + 1)) (omega arith)) in
+    let r : num_of k 0 (at + q + 1) (drop (at + q + 1) B) ≡ got (n % 2 ^ k) (at + q + 1 + k) =
+    rw m (num_put k n 0 (at + q + 1) rest ∙ ap (λ (x : ℕ). got x (at + q + 1 + k)) (omega arith)) in (
       gr_got k at B q (at + q + 1) (n % 2 ^ k) (at + q + 1 + k) o r
-          ∙ ap₂ Got (div-add-mod' n (2 ^ k)) (omega (arith, length_gr_bits k n)),
+          ∙ ap₂ got (div-add-mod' n (2 ^ k)) (omega (arith, length_gr_bits k n)),
       past at B (gr_bits k n) rest e,
     )
 
@@ -77,7 +76,7 @@ pub record NumBack (k acc at : ℕ) (bs : List Bool) (w next : ℕ) : Type 0 whe
   pub place : next ≡ at + k
   pub front : bs ≡ num_bits k n ++ rest
 
-pub num_back : (k acc at : ℕ) (bs : List Bool) (w next : ℕ) → num_of k acc at bs ≡ Got w next → NumBack k acc at bs w next
+pub num_back : (k acc at : ℕ) (bs : List Bool) (w next : ℕ) → num_of k acc at bs ≡ got w next → NumBack k acc at bs w next
 unfolding num_of num_bits
 num_back zero acc at bs w next e =
     record { n = 0; rest = bs; small = omega arith; count = omega (arith, got_v e); place = omega (arith, got_at e); front = refl }
@@ -107,7 +106,7 @@ num_flat k at B n next m rest h c p f =
     (rw v h, p, rw (v, p, d) f)
 
 pub num_there :
-    (k at : ℕ) (B : List Bool) (n next : ℕ) → num_of k 0 at (drop at B) ≡ Got n next →
+    (k at : ℕ) (B : List Bool) (n next : ℕ) → num_of k 0 at (drop at B) ≡ got n next →
     (n < 2 ^ k) × (next ≡ at + k) × (drop at B ≡ num_bits k n ++ drop next B)
 num_there k at B n next e =
     let r = num_back k 0 at (drop at B) n next e in
@@ -129,31 +128,31 @@ gr_flat k at B g next v mid b m rest cv cp fr hb np nf eg =
     (omega (arith, length_gr_bits k g, q, np, cp), fr ∙ rw (q, low_bits, append_assoc) (ap (λ (y : List Bool). replicate m true ++ (false ∷ y)) d))
 
 gr_last :
-    (k at : ℕ) (B : List Bool) (g next v mid b nx : ℕ) → ones_of 0 at (drop at B) ≡ Got v mid → num_of k 0 mid (drop mid B) ≡ Got b nx → v * 2 ^ k + b ≡ g →
+    (k at : ℕ) (B : List Bool) (g next v mid b nx : ℕ) → ones_of 0 at (drop at B) ≡ got v mid → num_of k 0 mid (drop mid B) ≡ got b nx → v * 2 ^ k + b ≡ g →
     nx ≡ next → (next ≡ at + length (gr_bits k g)) × (drop at B ≡ gr_bits k g ++ drop next B)
 gr_last k at B g next v mid b nx o f eg en =
     let r = ones_got 0 at (drop at B) v mid o in
-    let t = num_there k mid B b next (f ∙ ap (λ (x : ℕ). Got b x) en) in
+    let t = num_there k mid B b next (f ∙ ap (λ (x : ℕ). got b x) en) in
     gr_flat k at B g next v mid b r.n r.rest r.count r.place r.front t.0 t.1 t.2 eg
 
 -- a GR number read at a place
-pub gr_there : (k at : ℕ) (B : List Bool) (g next : ℕ) → gr_of k at B ≡ Got g next → (next ≡ at + length (gr_bits k g)) ×
+pub gr_there : (k at : ℕ) (B : List Bool) (g next : ℕ) → gr_of k at B ≡ got g next → (next ≡ at + length (gr_bits k g)) ×
     (drop at B ≡ gr_bits k g ++ drop next B)
 gr_there k at B g next e = first (ones_of 0 at (drop at B)) refl e
   where
     last :
-        (v mid : ℕ) → ones_of 0 at (drop at B) ≡ Got v mid → (b : Num) → num_of k 0 mid (drop mid B) ≡ b → then_low k v b ≡ Got g next →
+        (v mid : ℕ) → ones_of 0 at (drop at B) ≡ got v mid → (b : Option (ℕ × ℕ)) → num_of k 0 mid (drop mid B) ≡ b → then_low k v b ≡ got g next →
         (next ≡ at + length (gr_bits k g)) × (drop at B ≡ gr_bits k g ++ drop next B)
-    last v mid o Cut f e' = let z : ◌≡◌ {A = ℕ} 0 1 = cc in absurd (omega arith)
-    last v mid o (Got b nx) f e' = gr_last k at B g next v mid b nx o f (got_v e') (got_at e')
+    last v mid o None f e' = let z : ◌≡◌ {A = ℕ} 0 1 = cc in absurd (omega arith)
+    last v mid o (got b nx) f e' = gr_last k at B g next v mid b nx o f (got_v e') (got_at e')
 
-    first : (o : Num) → ones_of 0 at (drop at B) ≡ o → then_bits k B o ≡ Got g next → (next ≡ at + length (gr_bits k g)) ×
+    first : (o : Option (ℕ × ℕ)) → ones_of 0 at (drop at B) ≡ o → then_bits k B o ≡ got g next → (next ≡ at + length (gr_bits k g)) ×
         (drop at B ≡ gr_bits k g ++ drop next B)
-    first Cut o e' = let z : ◌≡◌ {A = ℕ} 0 1 = cc in absurd (omega arith)
-    first (Got v mid) o e' = last v mid o (num_of k 0 mid (drop mid B)) refl e'
+    first None o e' = let z : ◌≡◌ {A = ℕ} 0 1 = cc in absurd (omega arith)
+    first (got v mid) o e' = last v mid o (num_of k 0 mid (drop mid B)) refl e'
 
 -- a GR number in at most 65,535 bytes is below 2 ^ 31
-pub gr_lt : (k at : ℕ) (s : List ℕ) (g next : ℕ) → k ≤ 10 → length s ≤ 65535 → gr_of k at (bits_of s) ≡ Got g next → g < 2 ^ 31
+pub gr_lt : (k at : ℕ) (s : List ℕ) (g next : ℕ) → k ≤ 10 → length s ≤ 65535 → gr_of k at (bits_of s) ≡ got g next → g < 2 ^ 31
 gr_lt k at s g next hk hs e =
     let r = gr_there k at (bits_of s) g next e in
     let l : length (drop at (bits_of s)) ≡ length (gr_bits k g) + length (drop next (bits_of s)) =

@@ -73,6 +73,23 @@ module _ (before : List ℕ) (at₀ acc n₀ : ℕ) (out : List ℕ) (at n : ℕ
             ∙ w.bits;
       }
 
+-- i bytes put out: one more, and the last of n₀ bits
+module _ (before : List ℕ) (at₀ acc n₀ : ℕ) (out : List ℕ) (i : ℕ) (w : Wide before at₀ acc n₀ out (at₀ + i) (n₀ - 8 * i)) where
+  pub wide_turn : i < n₀ / 8 → at₀ + i < length out → (x : ℕ) → x ≡ acc / 2 ^ (n₀ - 8 * (i + 1)) % 256 →
+      Wide before at₀ acc n₀ (set out (at₀ + i) x) (at₀ + (i + 1)) (n₀ - 8 * (i + 1))
+  wide_turn h l x e =
+      let d : n₀ - 8 * i - 8 ≡ n₀ - 8 * (i + 1) = omega arith in
+      let a : at₀ + i + 1 ≡ at₀ + (i + 1) = omega arith in
+      subst (λ (m : ℕ). Wide before at₀ acc n₀ (set out (at₀ + i) x) (at₀ + (i + 1)) m) d
+      (subst (λ (m : ℕ). Wide before at₀ acc n₀ (set out (at₀ + i) x) m (n₀ - 8 * i - 8)) a
+      (wide_byte before at₀ acc n₀ out (at₀ + i) (n₀ - 8 * i) w (omega arith) l x (e ∙ ap (λ (m : ℕ). acc / 2 ^ m % 256) (sym d))))
+
+  pub wide_last : i ≡ n₀ / 8 → Wide before at₀ acc n₀ out (at₀ + n₀ / 8) (n₀ % 8)
+  wide_last h =
+      let d : n₀ - 8 * i ≡ n₀ % 8 = omega arith in
+      let a : at₀ + i ≡ at₀ + n₀ / 8 = omega arith in
+      subst (λ (m : ℕ). Wide before at₀ acc n₀ out (at₀ + n₀ / 8) m) d (subst (λ (m : ℕ). Wide before at₀ acc n₀ out m (n₀ - 8 * i)) a w)
+
 -- the bits of a pen and k more, in whichever way they lie in bytes and in what waits
 wide_bits : (before : List ℕ) (p : Pen) (k v acc : ℕ) (out : List ℕ) (at n : ℕ) → Wide before p.at acc (p.n + k) out at n → v < 2 ^ k →
     acc ≡ p.acc * 2 ^ k + v → (x : ℕ) → x ≡ acc % 2 ^ n → pen_bits out (record { at = at; acc = x; n = n }) ≡ pen_bits before p ++ num_bits k v
@@ -192,22 +209,22 @@ ones_number (suc v) =
     ap₂ (λ (x : ℕ) (l : List Bool). odd x ∷ l) q (sym (num_bits_mod v v (2 ^ suc v - 1) (le_refl v)) ∙ ap (λ (x : ℕ). num_bits v x) r ∙ ones_number v)
 
 -- ones in words of 32, in the code's forms
-pub ones_more : (v left : ℕ) → left ≤ v → 32 < left → replicate (v - left) true ++ num_bits 32 4294967295 ≡ replicate (v - (left - 32)) true
-ones_more v left h l =
-    let e : v - left + 32 ≡ v - (left - 32) = omega arith in
-    ap (λ (x : List Bool). replicate (v - left) true ++ x) (ones_number 32) ∙ replicate-append-replicate (v - left) 32 true
+pub ones_more : (i : ℕ) → replicate (32 * i) true ++ num_bits 32 4294967295 ≡ replicate (32 * (i + 1)) true
+ones_more i =
+    let e : 32 * i + 32 ≡ 32 * (i + 1) = omega arith in
+    ap (λ (x : List Bool). replicate (32 * i) true ++ x) (ones_number 32) ∙ replicate-append-replicate (32 * i) 32 true
     ∙ ap (λ (m : ℕ). replicate m true) e
 
-module _ (v left : ℕ) (h : left ≤ v) (l : left ≤ 32) where
-  pub ones_fit : (1 ≤ 1 * 2 ^ left % 2 ^ 64) × (1 * 2 ^ left % 2 ^ 64 - 1 < 2 ^ left)
-  ones_fit = let o : 0 < 2 ^ left = pow_pos left in rw (one_up left l) (omega arith, omega arith)
+pub ones_fit : (left : ℕ) → left ≤ 32 → (1 ≤ 1 * 2 ^ left % 2 ^ 64) × (1 * 2 ^ left % 2 ^ 64 - 1 < 2 ^ left)
+ones_fit left l = let o : 0 < 2 ^ left = pow_pos left in rw (one_up left l) (omega arith, omega arith)
 
-  pub ones_end : replicate (v - left) true ++ num_bits left (1 * 2 ^ left % 2 ^ 64 - 1) ≡ replicate v true
-  ones_end =
-      let e : v - left + left ≡ v = omega arith in
-      ap (λ (x : ℕ). replicate (v - left) true ++ num_bits left (x - 1)) (one_up left l)
-      ∙ ap (λ (x : List Bool). replicate (v - left) true ++ x) (ones_number left) ∙ replicate-append-replicate (v - left) left true
-      ∙ ap (λ (m : ℕ). replicate m true) e
+pub ones_end : (v i : ℕ) → i ≡ v / 32 → replicate (32 * i) true ++ num_bits (v % 32) (1 * 2 ^ (v % 32) % 2 ^ 64 - 1) ≡ replicate v true
+ones_end v i h =
+    let left = v % 32 in
+    let e : 32 * i + left ≡ v = omega arith in
+    ap (λ (x : ℕ). replicate (32 * i) true ++ num_bits left (x - 1)) (one_up left (omega arith))
+    ∙ ap (λ (x : List Bool). replicate (32 * i) true ++ x) (ones_number left) ∙ replicate-append-replicate (32 * i) left true
+    ∙ ap (λ (m : ℕ). replicate m true) e
 
 -- in the code's forms: few ones
 module _ (k n v : ℕ) (e : v ≡ n / 2 ^ k) (hv : v < 22) (hk : k ≤ 10) where

@@ -1,4 +1,5 @@
 -- 57 bits as one number: what is read inside them is what is read of their bits, and it ends inside them.
+use Rattle.std.specs.Prelude.{None}
 use Rattle.std.specs.Prelude.{ℕ, zero, suc, ◌+◌, ◌*◌, ◌-◌, ◌/◌, ◌%◌, ◌^◌, ◌≤◌, ◌<◌, ◌≡◌, refl, Bool, true, false, List, [], ◌∷◌, ◌++◌, length, drop, get_or}
 use Rattle.std.specs.Prelude.{replicate}
 use Rattle.std.proofs.Common.{sym, ap, ap₂, ◌∙◌, append-nil, append_assoc, arith, pow-suc, mod-lt, le_refl, zero-add, one-mul, mul-le-mul_left}
@@ -10,14 +11,13 @@ use Rattle.std.proofs.Math.Seq.{drop-append-add}
 use Rattle.std.proofs.lemmas.Nat.{shl-shr, leading_length}
 use Rattle.std.proofs.Math.Pow.{field, high, low, mod-mod-pow}
 use Rattle.std.specs.Int.Count.{count_leading_zeros, leading_unique}
-use Rattle.bits.specs.Bits.{odd, val, num_bits, bits_of, ones_of, num_of, gr_of, gr_bits}
+use Rattle.bits.specs.Bits.{got, odd, val, num_bits, bits_of, ones_of, num_of, gr_of, gr_bits}
 use Rattle.bits.specs.Word.{four_of, front_ones, front_zeros, horner}
 use Rattle.bits.specs.laws.Bit.{length_num_bits, num_put, ones_got, gr_cut, gr_cut_low, gr_got, gr_small, num_got_lt}
 use Rattle.bits.specs.laws.Here.{num_bits_mod, num_there, gr_there, length_gr_bits}
 use Rattle.bits.specs.laws.Lead.{ones_lead, lead_low, lead_high}
 use Rattle.bits.specs.laws.Bytes.{Bytes}
 use Rattle.bits.specs.laws.Pen.{bits_of_append, num_bits_shift}
-use Rattle.bits.specs.declared.Num.TheVariants.{Got, Cut}
 
 -- the high bits of a number, then its low ones
 pub num_bits_split : (a b n : ℕ) → num_bits (a + b) n ≡ num_bits a (n / 2 ^ b) ++ num_bits b n
@@ -38,7 +38,7 @@ num_bits_past a b n =
 -- ---- a number in the word
 
 -- k bits at place `at` of the 57 bits of w
-num-in : (w at k : ℕ) → at + k ≤ 57 → num_of k 0 at (drop at (num_bits 57 w)) ≡ Got (w / 2 ^ (57 - at - k) % 2 ^ k) (at + k)
+num-in : (w at k : ℕ) → at + k ≤ 57 → num_of k 0 at (drop at (num_bits 57 w)) ≡ got (w / 2 ^ (57 - at - k) % 2 ^ k) (at + k)
 num-in w at k h =
     let r = 57 - at - k in
     let e : 57 ≡ at + (k + r) = omega arith in
@@ -46,16 +46,16 @@ num-in w at k h =
     ap (λ (n : ℕ). drop at (num_bits n w)) e ∙ num_bits_past at (k + r) w ∙ num_bits_split k r w in
     ap (λ (l : List Bool). num_of k 0 at l) d
     ∙ num_put k (w / 2 ^ r) 0 at (num_bits r w)
-    ∙ ap (λ (n : ℕ). Got n (at + k)) (omega arith)
+    ∙ ap (λ (n : ℕ). got n (at + k)) (omega arith)
 
-pub num_short : (k acc at : ℕ) (bs : List Bool) → length bs < k → num_of k acc at bs ≡ Cut
+pub num_short : (k acc at : ℕ) (bs : List Bool) → length bs < k → num_of k acc at bs ≡ None
 unfolding num_of
 num_short zero acc at bs h = absurd (omega arith)
 num_short (suc k) acc at [] h = refl
 num_short (suc k) acc at (b ∷ bs) h = num_short k (acc * 2 + val b) (at + 1) bs (omega arith)
 
 -- in the code's forms
-pub in_cut : (w at k : ℕ) → 57 - at < k → Cut ≡ num_of k 0 at (drop at (num_bits 57 w))
+pub in_cut : (w at k : ℕ) → 57 - at < k → None ≡ num_of k 0 at (drop at (num_bits 57 w))
 in_cut w at k l =
     sym (num_short k 0 at (drop at (num_bits 57 w)) (omega (arith, length-drop at (num_bits 57 w), length_num_bits 57 w)))
 
@@ -80,8 +80,8 @@ field_left w at k h =
     a ∙ b ∙ ap (λ (n : ℕ). n % 2 ^ k) (c ∙ ap (λ (n : ℕ). n / 2 ^ r) d ∙ e) ∙ mod-mod-pow (w / 2 ^ r) at k
 
 pub in_got : (w at k n : ℕ) → at + k ≤ 57 → n ≡ w * 2 ^ 7 % 2 ^ 64 * 2 ^ at % 2 ^ 64 / 2 ^ 1 / 2 ^ (63 - k) →
-    Got n (at + k) ≡ num_of k 0 at (drop at (num_bits 57 w))
-in_got w at k n h e = ap (λ (x : ℕ). Got x (at + k)) (e ∙ field_left w at k h) ∙ sym (num-in w at k h)
+    got n (at + k) ≡ num_of k 0 at (drop at (num_bits 57 w))
+in_got w at k n h e = ap (λ (x : ℕ). got x (at + k)) (e ∙ field_left w at k h) ∙ sym (num-in w at k h)
 
 -- ---- ones in the word
 
@@ -92,13 +92,13 @@ lead_wide j k c h =
     sym (leading_unique (j + k) c (j + count_leading_zeros k c) s.0 (omega (arith, s.1)) s.2 s.3)
 
 -- the ones that some bits begin with, read: a zero ends them, or the bits end first
-front_some : (v at : ℕ) (bs : List Bool) → front_ones bs < length bs → ones_of v at bs ≡ Got (v + front_ones bs) (at + front_ones bs + 1)
+front_some : (v at : ℕ) (bs : List Bool) → front_ones bs < length bs → ones_of v at bs ≡ got (v + front_ones bs) (at + front_ones bs + 1)
 unfolding front_ones ones_of
 front_some v at [] h = absurd (omega arith)
-front_some v at (true ∷ bs) h = front_some (v + 1) (at + 1) bs (omega arith) ∙ ap₂ Got (omega arith) (omega arith)
-front_some v at (false ∷ bs) h = ap₂ Got (omega arith) (omega arith)
+front_some v at (true ∷ bs) h = front_some (v + 1) (at + 1) bs (omega arith) ∙ ap₂ got (omega arith) (omega arith)
+front_some v at (false ∷ bs) h = ap₂ got (omega arith) (omega arith)
 
-front_none : (v at : ℕ) (bs : List Bool) → length bs ≤ front_ones bs → ones_of v at bs ≡ Cut
+front_none : (v at : ℕ) (bs : List Bool) → length bs ≤ front_ones bs → ones_of v at bs ≡ None
 unfolding front_ones ones_of
 front_none v at [] h = refl
 front_none v at (true ∷ bs) h = front_none (v + 1) (at + 1) bs (omega arith)
@@ -149,31 +149,31 @@ module _ (w at : ℕ) (h : at ≤ 57) where
     pub in_few : m ≤ 57 - at
     in_few = omega (arith, e, past_long, ones_le (drop at (num_bits 57 w)))
 
-    pub in_ones : m < 57 - at → Got m (at + m + 1) ≡ ones_of 0 at (drop at (num_bits 57 w))
-    in_ones l = ap₂ Got (omega (arith, e)) (omega (arith, e)) ∙ sym (front_some 0 at (drop at (num_bits 57 w)) (omega (arith, e, past_long)))
+    pub in_ones : m < 57 - at → got m (at + m + 1) ≡ ones_of 0 at (drop at (num_bits 57 w))
+    in_ones l = ap₂ got (omega (arith, e)) (omega (arith, e)) ∙ sym (front_some 0 at (drop at (num_bits 57 w)) (omega (arith, e, past_long)))
 
-    pub in_none : 57 - at ≤ m → Cut ≡ ones_of 0 at (drop at (num_bits 57 w))
+    pub in_none : 57 - at ≤ m → None ≡ ones_of 0 at (drop at (num_bits 57 w))
     in_none l = sym (front_none 0 at (drop at (num_bits 57 w)) (omega (arith, e, past_long)))
 
     -- a GR number that begins with m ones
-    pub in_gr_cut : (k : ℕ) → 57 - at < m + 1 + k → Cut ≡ gr_of k at (num_bits 57 w)
+    pub in_gr_cut : (k : ℕ) → 57 - at < m + 1 + k → None ≡ gr_of k at (num_bits 57 w)
     in_gr_cut k l = elim (dec_lt m (57 - at)) [ yes s ↦ some s | no n ↦ sym (gr_cut k at (num_bits 57 w) (sym (in_none (omega arith)))) ]
       where
-        some : m < 57 - at → Cut ≡ gr_of k at (num_bits 57 w)
+        some : m < 57 - at → None ≡ gr_of k at (num_bits 57 w)
         some s = sym (gr_cut_low k at (num_bits 57 w) m (at + m + 1) (sym (in_ones s)) (sym (in_cut w (at + m + 1) k (omega arith))))
 
-    module _ (k b : ℕ) (hk : k ≤ 10) (l : m + 1 + k ≤ 57 - at) (f : Got b (at + m + 1 + k) ≡ num_of k 0 (at + m + 1) (drop (at + m + 1) (num_bits 57 w))) where
+    module _ (k b : ℕ) (hk : k ≤ 10) (l : m + 1 + k ≤ 57 - at) (f : got b (at + m + 1 + k) ≡ num_of k 0 (at + m + 1) (drop (at + m + 1) (num_bits 57 w))) where
       pub in_gr_fits : (m * 2 ^ k % 2 ^ 64 ≡ m * 2 ^ k) × (m * 2 ^ k + b < 2 ^ 31)
       in_gr_fits =
           gr_small k m b hk (omega arith) (rw (one-mul) at (num_got_lt k 0 (at + m + 1) (drop (at + m + 1) (num_bits 57 w)) b (at + m + 1 + k) (sym f)))
 
-      pub in_gr : Got (m * 2 ^ k % 2 ^ 64 + b) (at + (m + 1 + k)) ≡ gr_of k at (num_bits 57 w)
+      pub in_gr : got (m * 2 ^ k % 2 ^ 64 + b) (at + (m + 1 + k)) ≡ gr_of k at (num_bits 57 w)
       in_gr =
           let n : at + (m + 1 + k) ≡ at + m + 1 + k = omega arith in
           rw (in_gr_fits.0, n) (sym (gr_got k at (num_bits 57 w) m (at + m + 1) b (at + m + 1 + k) (sym (in_ones (omega arith))) (sym f)))
 
 -- what ones found in a word leave room for
-pub in_place : (w at v mid : ℕ) → ones_of 0 at (drop at (num_bits 57 w)) ≡ Got v mid → (mid ≤ 57) × (v < 57)
+pub in_place : (w at v mid : ℕ) → ones_of 0 at (drop at (num_bits 57 w)) ≡ got v mid → (mid ≤ 57) × (v < 57)
 in_place w at v mid e =
     let r = ones_got 0 at (drop at (num_bits 57 w)) v mid e in
     let l = length-append (replicate r.n true) (false ∷ r.rest) in
@@ -185,14 +185,14 @@ in_place w at v mid e =
 
 -- ---- what is read inside a word ends inside it
 
-pub num_within : (w at k n next : ℕ) → at ≤ 57 → num_of k 0 at (drop at (num_bits 57 w)) ≡ Got n next → next ≤ 57
+pub num_within : (w at k n next : ℕ) → at ≤ 57 → num_of k 0 at (drop at (num_bits 57 w)) ≡ got n next → next ≤ 57
 num_within w at k n next h e =
     let t = num_there k at (num_bits 57 w) n next e in
     let l : length (drop at (num_bits 57 w)) ≡ length (num_bits k n) + length (drop next (num_bits 57 w)) =
     ap length t.2 ∙ length-append (num_bits k n) (drop next (num_bits 57 w)) in
     omega (arith, t.1, l, length_num_bits k n, length-drop at (num_bits 57 w), length-drop next (num_bits 57 w), length_num_bits 57 w)
 
-pub gr_within : (w at k g next : ℕ) → k ≤ 10 → gr_of k at (num_bits 57 w) ≡ Got g next → (next ≤ 57) × (g < 2 ^ 31)
+pub gr_within : (w at k g next : ℕ) → k ≤ 10 → gr_of k at (num_bits 57 w) ≡ got g next → (next ≤ 57) × (g < 2 ^ 31)
 gr_within w at k g next hk e =
     let t = gr_there k at (num_bits 57 w) g next e in
     let l : length (drop at (num_bits 57 w)) ≡ length (gr_bits k g) + length (drop next (num_bits 57 w)) =
@@ -265,7 +265,7 @@ shifted e r q h =
     field (e * 2 ^ r) 57 7 ∙ ap (λ (n : ℕ). n % 2 ^ 57) a
 
 look_is : (s : List ℕ) → Bytes s → (at j r q : ℕ) → at ≡ 8 * j + r → r + q ≡ 7 → j + 8 ≤ length s →
-    num_of 57 0 at (drop at (bits_of s)) ≡ Got (horner 0 (bytes_of 8 s j) * 2 ^ r % 2 ^ 64 / 2 ^ 7) (at + 57)
+    num_of 57 0 at (drop at (bits_of s)) ≡ got (horner 0 (bytes_of 8 s j) * 2 ^ r % 2 ^ 64 / 2 ^ 7) (at + 57)
 unfolding num_bits bytes_of
 look_is s b at j r q ea eq h =
     let bytes = bytes_of 8 s j in
@@ -286,7 +286,7 @@ look_is s b at j r q ea eq h =
     ∙ d in
     ap (λ (l : List Bool). num_of 57 0 at l) t
     ∙ num_put 57 (e / 2 ^ q) 0 at (num_bits q e ++ rest)
-    ∙ ap (λ (n : ℕ). Got n (at + 57)) (last e)
+    ∙ ap (λ (n : ℕ). got n (at + 57)) (last e)
   where
     last : (e : ℕ) → 0 * 2 ^ 57 + e / 2 ^ q % 2 ^ 57 ≡ e * 2 ^ r % 2 ^ 64 / 2 ^ 7
     last e = let z : 0 * 2 ^ 57 + e / 2 ^ q % 2 ^ 57 ≡ e / 2 ^ q % 2 ^ 57 = zero-add _ in z ∙ sym (shifted e r q eq)
@@ -304,9 +304,9 @@ four_four s j =
 
 pub look_four : (s : List ℕ) (at r : ℕ) → Bytes s → at / 8 + 8 ≤ length s →
     r ≡ (four_of s (at / 8) * 4294967296 + four_of s (at / 8 + 4)) * 2 ^ (at % 8) % 2 ^ 64 / 2 ^ 7 →
-    Got r (at + 57) ≡ num_of 57 0 at (drop at (bits_of s))
+    got r (at + 57) ≡ num_of 57 0 at (drop at (bits_of s))
 look_four s at r b h e =
-    ap (λ (n : ℕ). Got n (at + 57)) (e ∙ ap (λ (n : ℕ). n * 2 ^ (at % 8) % 2 ^ 64 / 2 ^ 7) (four_four s (at / 8)))
+    ap (λ (n : ℕ). got n (at + 57)) (e ∙ ap (λ (n : ℕ). n * 2 ^ (at % 8) % 2 ^ 64 / 2 ^ 7) (four_four s (at / 8)))
     ∙ sym (look_is s b at (at / 8) (at % 8) (7 - at % 8) (omega arith) (omega arith) h)
 
 -- ---- the zeros that bits begin with
@@ -356,7 +356,7 @@ front_in w h =
     (omega (arith, e), omega (arith, e, f))
 
 -- what a word begins with stands at its place
-pub word_zeros : (w at : ℕ) (B : List Bool) → Got w (at + 57) ≡ num_of 57 0 at (drop at B) →
+pub word_zeros : (w at : ℕ) (B : List Bool) → got w (at + 57) ≡ num_of 57 0 at (drop at B) →
     drop at B ≡ replicate (front_zeros (num_bits 57 w)) false ++ (drop (front_zeros (num_bits 57 w)) (num_bits 57 w) ++ drop (at + 57) B)
 word_zeros w at B l =
     let z = front_zeros (num_bits 57 w) in
@@ -364,7 +364,7 @@ word_zeros w at B l =
     ∙ ap (λ (x : List Bool). x ++ drop (at + 57) B) (front_is (num_bits 57 w))
     ∙ append_assoc (replicate z false) (drop z (num_bits 57 w)) (drop (at + 57) B)
 
-pub word_small : (w at : ℕ) (B : List Bool) → Got w (at + 57) ≡ num_of 57 0 at (drop at B) → w < 2 ^ 57
+pub word_small : (w at : ℕ) (B : List Bool) → got w (at + 57) ≡ num_of 57 0 at (drop at B) → w < 2 ^ 57
 word_small w at B l = (num_there 57 at B w (at + 57) (sym l)).0
 
 pub zeros_few : (w m : ℕ) → m ≡ front_zeros (num_bits 57 w) → m ≤ 57

@@ -3,7 +3,7 @@
 -- Assumes nothing.
 -- (01 is this project's scope document, 02 its change requests, 001 is MS-RDPRFX: README, "What 01 is".)
 use Prim.Native.Nat.{ℕ, zero, suc, ◌+◌, ◌*◌, ◌/◌, ◌%◌, ◌≤◌}
-use Rattle.std.specs.Prelude.{◌≡◌, List, [], ◌∷◌, leb, ℤ}
+use Rattle.std.specs.Prelude.{◌≡◌, List, [], ◌∷◌, leb, ℤ, Result}
 use Rattle.std.proofs.Math.Path.{refl, ap, sym}
 use Rattle.std.proofs.Common.{◌∙◌, le-leb}
 use native.Mathlib.Omega.{arith}
@@ -14,8 +14,8 @@ use Rattle.whole.specs.Among.{among, Among}
 use Rattle.whole.specs.laws.Among.{numbers, each, among_then, among_all}
 use Rattle.whole.specs.Tab.{table}
 use Rattle.whole.specs.laws.Tab.{AllNear}
-use Rattle.wire.specs.Wrote.{writing_number}
-use Rattle.wire.specs.declared.Writing.{Writing}
+use Rattle.wire.specs.Refusal.{number_of}
+use Rattle.wire.specs.declared.Refusal.{Refusal}
 use Rattle.bits.specs.laws.Bytes.{Bytes}
 use Rattle.bands.specs.Bands.{QuantGood}
 use Rattle.bands.specs.Rounding.{rounded_by}
@@ -123,7 +123,7 @@ module _ (p : List ℕ) (w h mode : ℕ) (q : Quants) (bytes : Bytes p) (luma : 
 
 -- ---- the call over luma's and chroma's sets
 
-module _ {w h mode : ℕ} {q : Quants} {index : ℕ} {p : List ℕ} {list list' scratch scratch' : List ℤ} {out out' : List ℕ} {r : Writing}
+module _ {w h mode : ℕ} {q : Quants} {index : ℕ} {p : List ℕ} {list list' scratch scratch' : List ℤ} {out out' : List ℕ} {r : Result ℕ Refusal}
     (bytes : Bytes p) (x : FrameWrittenOver w h mode q index p list list' scratch scratch' out out' r) where
   abbrev pub arguments : ℕ
   arguments = arg_fault_over w h mode q (length p) (length list) (length scratch)
@@ -132,7 +132,7 @@ module _ {w h mode : ℕ} {q : Quants} {index : ℕ} {p : List ℕ} {list list' 
   abbrev pub room : ℕ
   room = leb (length (frame_over index w h mode q p)) (length out) ! 13 ⨾ 0
 
-  pub only_room : writing_number r ≡ arguments ⨟ room
+  pub only_room : number_of r ≡ arguments ⨟ room
   unfolding ◌⨟◌ send_fault_over
   only_room = x.wrote.number ∙ by arguments refl
     where
@@ -143,14 +143,14 @@ module _ {w h mode : ℕ} {q : Quants} {index : ℕ} {p : List ℕ} {list list' 
       by (suc f) e = refl
 
   -- 5, 7, 2 or 13, and no other
-  pub refuses_over : Among (0 ∷ 5 ∷ 7 ∷ 2 ∷ 13 ∷ []) (writing_number r)
+  pub refuses_over : Among (0 ∷ 5 ∷ 7 ∷ 2 ∷ 13 ∷ []) (number_of r)
   unfolding each among
   refuses_over = rw only_room (among_then _ _ (among_all _ (arg_among w h mode q (length p) (length list) (length scratch)) refl) (search numbers))
 
   -- given good arguments and this much room, every picture is written
   pub done_over :
-      0 ≡ arguments → length (sets_of q) ≡ 10 * set_count (sets_of q) → 67 + 5 * set_count (sets_of q) + 194911 * tiles_no w h ≤ length out → writing_number r
-      ≡ 0
+      0 ≡ arguments → length (sets_of q) ≡ 10 * set_count (sets_of q) → 67 + 5 * set_count (sets_of q) + 194911 * tiles_no w h ≤ length out →
+      number_of r ≡ 0
   done_over e tens l =
       let g = (args_good w h mode q p (length list) (length scratch) e).picture in
       let f : length (frame_over index w h mode q p) ≤ length out = omega (arith, frame_most p w h mode q bytes g.luma g.chroma index tens) in
@@ -158,12 +158,12 @@ module _ {w h mode : ℕ} {q : Quants} {index : ℕ} {p : List ℕ} {list list' 
 
 -- ---- the call over one set for both
 
-module _ {w h mode : ℕ} {v : List ℕ} {index : ℕ} {p : List ℕ} {list list' scratch scratch' : List ℤ} {out out' : List ℕ} {r : Writing}
+module _ {w h mode : ℕ} {v : List ℕ} {index : ℕ} {p : List ℕ} {list list' scratch scratch' : List ℤ} {out out' : List ℕ} {r : Result ℕ Refusal}
     (bytes : Bytes p) (x : FrameWritten w h mode v index p list list' scratch scratch' out out' r) where
   over : FrameWrittenOver w h mode (one_for v) index p list list' scratch scratch' out out' r
   over = as_over w h mode v index p list list' scratch scratch' out out' r x
 
-  pub writer_refuses : Among (0 ∷ 5 ∷ 7 ∷ 2 ∷ 13 ∷ []) (writing_number r)
+  pub writer_refuses : Among (0 ∷ 5 ∷ 7 ∷ 2 ∷ 13 ∷ []) (number_of r)
   writer_refuses = refuses_over bytes over
 
   one_count : length v ≡ 10 → set_count (sets_of (one_for v)) ≡ 1
@@ -171,7 +171,7 @@ module _ {w h mode : ℕ} {v : List ℕ} {index : ℕ} {p : List ℕ} {list list
   one_count ten = let s = ap length (sets_one (one_for v) (is_same (record { v = v }))) in omega arith
 
   pub writer_done :
-      0 ≡ arg_fault w h mode v (length p) (length list) (length scratch) → length v ≡ 10 → 72 + 194911 * tiles_no w h ≤ length out → writing_number r ≡ 0
+      0 ≡ arg_fault w h mode v (length p) (length list) (length scratch) → length v ≡ 10 → 72 + 194911 * tiles_no w h ≤ length out → number_of r ≡ 0
   writer_done e ten l =
       let s = ap length (sets_one (one_for v) (is_same (record { v = v }))) in
       let n = one_count ten in

@@ -1,6 +1,6 @@
 -- 001's sample of a container (4.2.1), by its annotation, and that the premises of the laws are met by it.
 -- Assumes nothing.
-use Rattle.std.specs.Prelude.{◌≡◌, refl, [], ◌∷◌}
+use Rattle.std.specs.Prelude.{◌≡◌, refl, [], ◌∷◌, Ok}
 use Rattle.std.proofs.Common.{arith}
 use Rattle.whole.specs.Row.{◌⇒◌∣◌}
 use Rattle.wire.specs.Le.{bytes16, bytes32}
@@ -8,7 +8,6 @@ use Rattle.wire.specs.Mode.{is_mode}
 use Rattle.caps.specs.Caps.{entry_of, two_entries, caps_with, entries_of, capset_of, block_of, caps_of, read_caps, two, GoodCaps}
 use Rattle.caps.specs.laws.ReadBack.{caps_back}
 use Rattle.caps.specs.declared.Caps.{Caps}
-use Rattle.caps.specs.declared.read.CapsReading.TheVariants.{Taken}
 
 -- the flag CARDP_CAPS_CAPTURE_NON_CAC, and an entry for each mode
 abbrev pub sample : Caps
@@ -32,5 +31,5 @@ sample_good = record {
       (record { flags = omega arith; mode = refl });
 }
 
-pub sample_read : read_caps (caps_of sample) ≡ Taken sample
+pub sample_read : read_caps (caps_of sample) ≡ Ok sample
 sample_read = caps_back sample sample_good

@@ -1,27 +1,24 @@
 -- Each layout at a field that is not what it should be: the fields before it are passed (`field_back`, `row_back`), and its row stops (`row_stops`).
 -- Assumes nothing.
-use Rattle.std.specs.Prelude.{ℕ, ◌+◌, ◌*◌, ◌%◌, ◌≤◌, ◌<◌, ◌≡◌, refl, Bool, true, false, ◌≢◌, List, ◌∷◌, ◌++◌, leb, eqb}
+use Rattle.std.specs.Prelude.{ℕ, ◌+◌, ◌*◌, ◌%◌, ◌≤◌, ◌<◌, ◌≡◌, refl, Bool, true, false, ◌≢◌, List, ◌∷◌, ◌++◌, leb, eqb, Err}
 use Rattle.std.proofs.Common.{ap, sym, ◌∙◌, arith, eq-eqb, ne_eqb, le-leb}
 use Rattle.whole.specs.Row.{◌!◌⨾◌, ◌⇒◌∣◌}
-use Rattle.whole.specs.laws.Row.{fails, case_no}
+use Rattle.whole.specs.laws.Row.{case_no}
 use Rattle.wire.specs.Le.{bytes16, bytes32}
 use Rattle.wire.specs.Mode.{is_mode}
-use Rattle.caps.specs.Walk.{spelled, Layout, gives, refuse, field, ◌then◌, Stopped, walk, ended}
+use Rattle.wire.specs.Refusal.{refusal_of, number_of}
+use Rattle.wire.specs.laws.Refusal.{number_back}
+use Rattle.caps.specs.Walk.{spelled, Layout, gives, refuse, field, ◌then◌, Stopped, walk, ended, answered}
 use Rattle.caps.specs.Caps.{Entries, entry, entry_of, no_entry, one_entry, two_entries, entries, capset, block, container, read_caps, GoodEntry}
 use Rattle.caps.specs.AckCap.{ack_cap, read_ack_cap}
 use Rattle.caps.specs.Ack.{ack, read_ack}
-use Rattle.caps.specs.Request.{EntryRefuses, CapsetRefuses, BlockRefuses, ContainerRefuses, AckCapRefuses, AckRefuses}
-use Rattle.caps.specs.laws.Walk.{onward, walk_then, then_back, field_back, row_back}
+use Rattle.caps.specs.Request.{read_number, EntryRefuses, CapsetRefuses, BlockRefuses, ContainerRefuses, AckCapRefuses, AckRefuses}
+use Rattle.caps.specs.laws.Walk.{then_back, field_back, row_back}
+use Rattle.caps.specs.laws.Step.{row_stops, stops_then}
 use Rattle.caps.specs.laws.Back.{entry_both}
+use Rattle.caps.specs.laws.Refuse.{read_numbers, walk_says, block_refusing}
 use Rattle.caps.specs.declared.Entry.{Entry}
 use Rattle.caps.specs.declared.walk.Width.TheVariants.{One, Two, Four}
-use Rattle.caps.specs.declared.read.CapsReading.TheVariants.{Taken, Refused}
-use Rattle.caps.specs.declared.read.AckCapReading.TheVariants.{Taken as TakenCap, Refused as RefusedCap}
-use Rattle.caps.specs.declared.read.AckReading.TheVariants.{Taken as TakenAck, Refused as RefusedAck}
-
-pub row_stops : {A : Type 0} (t : Bool) (n : ℕ) (l : Layout A) (m : List ℕ) → t ≡ false → walk (t ! refuse n ⨾ l) m ≡ Stopped n
-unfolding walk
-row_stops {A = A} t n l m h = ap (λ (k : Layout A). walk k m) (sym (fails _ _ _ _ h refl))
 
 -- a field whose row stops
 other : (v fixed : ℕ) → v ≢ fixed → eqb v fixed ≡ false
@@ -30,11 +27,6 @@ other v fixed h = ne_eqb v fixed h
 no_mode : (v : ℕ) → v ≢ 1 → v ≢ 4 → is_mode v ≡ false
 unfolding is_mode
 no_mode v a b = sym (case_no (eqb v 1) _ _ _ (ne_eqb v 1 a) (sym (ne_eqb v 4 b)))
-
--- a layout that stops, with others behind it
-stops_then : {A B : Type 0} (l : Layout A) (next : A → Layout B) (m : List ℕ) (k : ℕ) → walk l m ≡ Stopped k → walk (l then next) m ≡ Stopped k
-unfolding onward
-stops_then l next m k e = walk_then l next m ∙ ap (onward next) e
 
 pub entry_refuses : EntryRefuses
 unfolding entry spelled bytes16 bytes32 ◌!◌⨾◌
@@ -132,42 +124,57 @@ block_refuses = record {
       field_back Two _ 0xCBC0 _ (omega arith) ∙ field_back Four _ 8 _ (omega arith) ∙ field_back Two _ 1 more (omega arith) ∙ e;
 }
 
-pub container_refuses : ContainerRefuses
+-- what the block refuses, by its refusal and by its number
+block_inside :
+    (flags capsLength k : ℕ) (more : List ℕ) → flags < 4294967296 → 12 + capsLength < 4294967296 → walk (block capsLength) more ≡ Stopped k →
+    read_caps (bytes32 (12 + capsLength) ++ (bytes32 flags ++ (bytes32 capsLength ++ more))) ≡ Err (refusal_of k)
 unfolding read_caps container spelled bytes32 ended
+block_inside flags capsLength k more f c e =
+    ap answered
+    (field_back Four _ (12 + capsLength) _ c ∙ field_back Four _ flags _ f ∙ field_back Four _ capsLength more (omega arith)
+    ∙ row_back (eqb (12 + capsLength) (12 + capsLength)) 4 _ _ (eq-eqb (12 + capsLength) (12 + capsLength) refl)
+    ∙ stops_then (block capsLength) _ more k e)
+
+block_number :
+    (flags capsLength k : ℕ) (more : List ℕ) → flags < 4294967296 → 12 + capsLength < 4294967296 → walk (block capsLength) more ≡ Stopped k →
+    number_of (read_caps (bytes32 (12 + capsLength) ++ (bytes32 flags ++ (bytes32 capsLength ++ more)))) ≡ k
+block_number flags capsLength k more f c e =
+    let few = read_numbers.few k (walk_says read_number read_numbers (block capsLength) (block_refusing capsLength) more k e) in
+    ap number_of (block_inside flags capsLength k more f c e) ∙ number_back k few.0 few.1
+
+pub container_refuses : ContainerRefuses
+unfolding read_caps container spelled bytes32 ended refusal_of ◌⇒◌∣◌
 container_refuses = record {
   length = λ size flags capsLength more s f c h.
-      ap (ended Taken Refused)
+      ap answered
       (field_back Four _ size _ s ∙ field_back Four _ flags _ f ∙ field_back Four _ capsLength more c
       ∙ row_stops (eqb size (12 + capsLength)) 4 _ more (other size (12 + capsLength) h));
-  inside = λ flags capsLength k more f c e.
-      ap (ended Taken Refused)
-      (field_back Four _ (12 + capsLength) _ c ∙ field_back Four _ flags _ f ∙ field_back Four _ capsLength more (omega arith)
-      ∙ row_back (eqb (12 + capsLength) (12 + capsLength)) 4 _ _ (eq-eqb (12 + capsLength) (12 + capsLength) refl)
-      ∙ stops_then (block capsLength) _ more k e);
+  inside = block_inside;
+  inside_number = block_number;
 }
 
 -- ---- the acknowledgements
 
 pub ack_cap_refuses : AckCapRefuses
-unfolding read_ack_cap ack_cap spelled bytes16 ended ◌!◌⨾◌
+unfolding read_ack_cap ack_cap spelled bytes16 ended refusal_of ◌!◌⨾◌ ◌⇒◌∣◌
 ack_cap_refuses = record {
-  type = λ v more b h. ap (ended TakenCap RefusedCap) (field_back Two _ v more b ∙ row_stops (eqb v 0x001E) 5 _ more (other v 0x001E h));
+  type = λ v more b h. ap answered (field_back Two _ v more b ∙ row_stops (eqb v 0x001E) 5 _ more (other v 0x001E h));
   length = λ v more b h.
-      ap (ended TakenCap RefusedCap)
+      ap answered
       (field_back Two _ 0x001E _ (omega arith) ∙ field_back Two _ v more b ∙ row_stops (eqb v 8) 4 _ more (other v 8 h));
 }
 
 pub ack_refuses : AckRefuses
-unfolding read_ack ack spelled bytes16 bytes32 ended ◌!◌⨾◌
+unfolding read_ack ack spelled bytes16 bytes32 ended refusal_of ◌!◌⨾◌ ◌⇒◌∣◌
 ack_refuses = record {
-  total_length = λ v more b h. ap (ended TakenAck RefusedAck) (field_back Two _ v more b ∙ row_stops (eqb v 22) 4 _ more (other v 22 h));
+  total_length = λ v more b h. ap answered (field_back Two _ v more b ∙ row_stops (eqb v 22) 4 _ more (other v 22 h));
   type = λ v more b h.
-      ap (ended TakenAck RefusedAck)
+      ap answered
       (field_back Two _ 22 _ (omega arith) ∙ field_back Two _ v more b ∙ row_stops (eqb (v % 16) 7) 5 _ more (other (v % 16) 7 h));
   second_type = λ a v more g b h.
       let p = g.version in
       let low : (7 + 16 * a.version) % 16 ≡ 7 = omega arith in
-      ap (ended TakenAck RefusedAck)
+      ap answered
       (field_back Two _ 22 _ (omega arith)
       ∙ field_back Two _ (7 + 16 * a.version) _ (omega arith)
       ∙ row_back (eqb ((7 + 16 * a.version) % 16) 7) 5 _ _ (eq-eqb ((7 + 16 * a.version) % 16) 7 low)

@@ -1,16 +1,16 @@
 -- Request Twelve's law over the definitions and over the calls: "Writing then reading gives the fields back, and any accepted bytes, written again from
 -- their fields, come out the same, flags that aren't judged included." And one answer and one content of lent memory for every input.
 -- Assumes nothing.
-use Rattle.std.specs.Prelude.{ℕ, zero, suc, ◌<◌, ◌≤◌, ◌≡◌, refl, true, false, List, length}
+use Rattle.std.specs.Prelude.{ℕ, zero, suc, ◌<◌, ◌≤◌, ◌≡◌, refl, true, false, List, length, Result, Ok}
 use Rattle.std.proofs.Common.{ap, sym, subst₂, ◌∙◌, arith, le-leb}
 use Rattle.whole.specs.Row.{◌⇒◌∣◌}
 use Rattle.whole.specs.laws.Row.{held, passes}
 use Rattle.wire.specs.Le.{bytes16, bytes32}
-use Rattle.wire.specs.Wrote.{writing_number, Wrote}
+use Rattle.wire.specs.Refusal.{number_of}
+use Rattle.wire.specs.Wrote.{Wrote}
 use Rattle.wire.specs.laws.Wrote.{answer_of, wrote_bytes, wrote_answer, wrote_once}
-use Rattle.wire.specs.declared.Writing.{Writing}
-use Rattle.wire.specs.declared.Writing.TheVariants.{Done}
-use Rattle.caps.specs.Walk.{Bytes}
+use Rattle.wire.specs.declared.Refusal.{Refusal}
+use Rattle.caps.specs.Walk.{Bytes, refused_by}
 use Rattle.caps.specs.Caps.{entries_over, entries_of, entries_in, capset_of, block_of, caps_with, container, read_caps, caps_of, modes_good, caps_fault}
 use Rattle.caps.specs.Caps.{GoodEntries, none, one, two, GoodCaps}
 use Rattle.caps.specs.AckCap.{ack_cap, read_ack_cap, ack_cap_of, ack_cap_fault, GoodAckCap}
@@ -23,51 +23,48 @@ use Rattle.caps.specs.laws.Write.{caps_long, writable, caps_fine, ack_writable}
 use Rattle.caps.specs.declared.Entry.{Entry}
 use Rattle.caps.specs.declared.Caps.{Caps}
 use Rattle.caps.specs.declared.Ack.{Ack}
-use Rattle.caps.specs.declared.read.CapsReading.TheVariants.{Taken, Refused}
-use Rattle.caps.specs.declared.read.AckCapReading.TheVariants.{Taken as TakenCap, Refused as RefusedCap}
-use Rattle.caps.specs.declared.read.AckReading.TheVariants.{Taken as TakenAck, Refused as RefusedAck}
 
 -- ---- over the definitions
 
-pub caps_back : (c : Caps) → GoodCaps c → read_caps (caps_of c) ≡ Taken c
+pub caps_back : (c : Caps) → GoodCaps c → read_caps (caps_of c) ≡ Ok c
 unfolding read_caps
-caps_back c g = read_back Taken Refused container container_both c g
+caps_back c g = read_back Ok refused_by container container_both c g
 
-pub caps_same : (m : List ℕ) (c : Caps) → Bytes m → read_caps m ≡ Taken c → GoodCaps c × (caps_of c ≡ m)
+pub caps_same : (m : List ℕ) (c : Caps) → Bytes m → read_caps m ≡ Ok c → GoodCaps c × (caps_of c ≡ m)
 unfolding read_caps
-caps_same m c b e = read_same Taken Refused container container_both c (λ x q. cc) (λ n q. let z : ◌≡◌ {A = ℕ} 0 1 = cc in omega arith) m b e
+caps_same m c b e = read_same Ok refused_by container container_both c (λ x q. cc) (λ n q. let z : ◌≡◌ {A = ℕ} 0 1 = cc in omega arith) m b e
 
-pub ack_cap_back : (count : ℕ) → GoodAckCap count → read_ack_cap (ack_cap_of count) ≡ TakenCap count
+pub ack_cap_back : (count : ℕ) → GoodAckCap count → read_ack_cap (ack_cap_of count) ≡ Ok count
 unfolding read_ack_cap
-ack_cap_back count g = read_back TakenCap RefusedCap ack_cap ack_cap_both count g
+ack_cap_back count g = read_back Ok refused_by ack_cap ack_cap_both count g
 
-pub ack_cap_same : (m : List ℕ) (count : ℕ) → Bytes m → read_ack_cap m ≡ TakenCap count → GoodAckCap count × (ack_cap_of count ≡ m)
+pub ack_cap_same : (m : List ℕ) (count : ℕ) → Bytes m → read_ack_cap m ≡ Ok count → GoodAckCap count × (ack_cap_of count ≡ m)
 unfolding read_ack_cap
-ack_cap_same m count b e = read_same TakenCap RefusedCap ack_cap ack_cap_both count (λ x q. cc) (λ n q. let z : ◌≡◌ {A = ℕ} 0 1 = cc in omega arith) m b e
+ack_cap_same m count b e = read_same Ok refused_by ack_cap ack_cap_both count (λ x q. cc) (λ n q. let z : ◌≡◌ {A = ℕ} 0 1 = cc in omega arith) m b e
 
-pub ack_back : (a : Ack) → GoodAck a → read_ack (ack_of a) ≡ TakenAck a
+pub ack_back : (a : Ack) → GoodAck a → read_ack (ack_of a) ≡ Ok a
 unfolding read_ack
-ack_back a g = read_back TakenAck RefusedAck ack ack_both a g
+ack_back a g = read_back Ok refused_by ack ack_both a g
 
-pub ack_same : (m : List ℕ) (a : Ack) → Bytes m → read_ack m ≡ TakenAck a → GoodAck a × (ack_of a ≡ m)
+pub ack_same : (m : List ℕ) (a : Ack) → Bytes m → read_ack m ≡ Ok a → GoodAck a × (ack_of a ≡ m)
 unfolding read_ack
-ack_same m a b e = read_same TakenAck RefusedAck ack ack_both a (λ x q. cc) (λ n q. let z : ◌≡◌ {A = ℕ} 0 1 = cc in omega arith) m b e
+ack_same m a b e = read_same Ok refused_by ack ack_both a (λ x q. cc) (λ n q. let z : ◌≡◌ {A = ℕ} 0 1 = cc in omega arith) m b e
 
 -- ---- over the calls, whatever the layout
 
 -- what a writer that is done has written is its bytes
-sent : (f : ℕ) (bytes out out' m : List ℕ) (w : Writing) → Wrote f bytes out out' w → writing_number w ≡ 0 → m ≡ sent_by w out' → (0 ≡ f) × (m ≡ bytes)
+sent : (f : ℕ) (bytes out out' m : List ℕ) (w : Result ℕ Refusal) → Wrote f bytes out out' w → number_of w ≡ 0 → m ≡ sent_by w out' → (0 ≡ f) × (m ≡ bytes)
 sent f bytes out out' m w p e is = (sym e ∙ p.number, is ∙ wrote_bytes f bytes out out' w p e)
 
 -- bytes that were read, written again where nothing is refused
-again : (f : ℕ) (bytes out out' m : List ℕ) (w : Writing) → Wrote f bytes out out' w → 0 ≡ f → 0 < length bytes → bytes ≡ m → Again m out' w
+again : (f : ℕ) (bytes out out' m : List ℕ) (w : Result ℕ Refusal) → Wrote f bytes out out' w → 0 ≡ f → 0 < length bytes → bytes ≡ m → Again m out' w
 again f bytes out out' m w p z h e = record {
-  done = wrote_answer f bytes out out' w (λ q. h) p ∙ (ap (λ (n : ℕ). answer_of n bytes) (sym z) ∙ ap (λ (l : List ℕ). Done (length l)) e);
+  done = wrote_answer f bytes out out' w (λ q. h) p ∙ (ap (λ (n : ℕ). answer_of n bytes) (sym z) ∙ ap (λ (l : List ℕ). Ok (length l)) e);
   sent = wrote_bytes f bytes out out' w p (p.number ∙ sym z) ∙ e;
 }
 
 -- one answer and one content of lent memory (a reader lends none, and its promise is the answer itself)
-once : {A : Type 0} (fault : A → ℕ → ℕ) (bytes : A → List ℕ) → ((a : A) → 0 < length (bytes a)) → (a b : A) (out o out' o' : List ℕ) (w v : Writing) →
+once : {A : Type 0} (fault : A → ℕ → ℕ) (bytes : A → List ℕ) → ((a : A) → 0 < length (bytes a)) → (a b : A) (out o out' o' : List ℕ) (w v : Result ℕ Refusal) →
     Wrote (fault a (length out)) (bytes a) out out' w → Wrote (fault b (length o)) (bytes b) o o' v → a ≡ b → out ≡ o → (w ≡ v) × (out' ≡ o')
 once {A = A} fault bytes some a b out o out' o' w v p q e d =
     wrote_once _ (bytes a) out out' o' w v (λ z. some a) p
@@ -101,7 +98,7 @@ good_there (suc (suc (suc n))) e f h g p q = absurd (omega arith)
 
 -- what the writer wrote is read back by the reader
 pub caps_written :
-    (w : WriteCaps) (r : ReadCaps) → writing_number w.answer ≡ 0 → r.message ≡ sent_by w.answer w.out' → r.answer ≡ Taken (fields_of w.caps)
+    (w : WriteCaps) (r : ReadCaps) → number_of w.answer ≡ 0 → r.message ≡ sent_by w.answer w.out' → r.answer ≡ Ok (fields_of w.caps)
 caps_written w r e is =
     let c = w.caps in
     let s = sent _ (caps_of c) w.out w.out' r.message w.answer w.promise e is in
@@ -112,7 +109,7 @@ caps_written w r e is =
     ∙ caps_back (fields_of c) (record { flags = w.fit.flags; entries = g })
 
 -- what the reader took is written again by the writer
-pub caps_again : (r : ReadCaps) (w : WriteCaps) → r.answer ≡ Taken w.caps → length r.message ≤ length w.out → Again r.message w.out' w.answer
+pub caps_again : (r : ReadCaps) (w : WriteCaps) → r.answer ≡ Ok w.caps → length r.message ≤ length w.out → Again r.message w.out' w.answer
 caps_again r w e room =
     let c = w.caps in
     let s = caps_same r.message c r.bytes (sym r.promise ∙ e) in
@@ -134,13 +131,13 @@ unfolding ack_cap_fault
 ack_cap_fine room h = passes _ _ _ _ (le-leb 8 room h) refl
 
 pub ack_cap_written :
-    (w : WriteAckCap) (r : ReadAckCap) → writing_number w.answer ≡ 0 → r.message ≡ sent_by w.answer w.out' → r.answer ≡ TakenCap w.count
+    (w : WriteAckCap) (r : ReadAckCap) → number_of w.answer ≡ 0 → r.message ≡ sent_by w.answer w.out' → r.answer ≡ Ok w.count
 ack_cap_written w r e is =
     let s = sent _ (ack_cap_of w.count) w.out w.out' r.message w.answer w.promise e is in
     r.promise ∙ (ap read_ack_cap s.1 ∙ ack_cap_back w.count w.fit)
 
 pub ack_cap_again :
-    (r : ReadAckCap) (w : WriteAckCap) → r.answer ≡ TakenCap w.count → length r.message ≤ length w.out → Again r.message w.out' w.answer
+    (r : ReadAckCap) (w : WriteAckCap) → r.answer ≡ Ok w.count → length r.message ≤ length w.out → Again r.message w.out' w.answer
 ack_cap_again r w e room =
     let s = ack_cap_same r.message w.count r.bytes (sym r.promise ∙ e) in
     let l = ack_cap_some w.count in
@@ -175,13 +172,13 @@ good_ack a v f = record {
   frame = f.frame;
 }
 
-pub ack_written : (w : WriteAck) (r : ReadAck) → writing_number w.answer ≡ 0 → r.message ≡ sent_by w.answer w.out' → r.answer ≡ TakenAck w.ack
+pub ack_written : (w : WriteAck) (r : ReadAck) → number_of w.answer ≡ 0 → r.message ≡ sent_by w.answer w.out' → r.answer ≡ Ok w.ack
 ack_written w r e is =
     let s = sent _ (ack_of w.ack) w.out w.out' r.message w.answer w.promise e is in
     let k = ack_writable w.ack.version (length w.out) s.0 in
     r.promise ∙ (ap read_ack s.1 ∙ ack_back w.ack (good_ack w.ack k.0 w.fit))
 
-pub ack_again : (r : ReadAck) (w : WriteAck) → r.answer ≡ TakenAck w.ack → length r.message ≤ length w.out → Again r.message w.out' w.answer
+pub ack_again : (r : ReadAck) (w : WriteAck) → r.answer ≡ Ok w.ack → length r.message ≤ length w.out → Again r.message w.out' w.answer
 ack_again r w e room =
     let s = ack_same r.message w.ack r.bytes (sym r.promise ∙ e) in
     let l = ack_some w.ack in

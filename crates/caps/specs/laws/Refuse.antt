@@ -1,9 +1,9 @@
 -- Laws of what a walk refuses, for any layout: a message that is accepted is cut by every end before its own, and no numbers are said but 1, 4, 5
 -- and, of the container, 6.
 -- Assumes nothing.
-use Rattle.std.specs.Prelude.{ℕ, ◌+◌, ◌-◌, ◌*◌, ◌%◌, ◌<◌, ◌≤◌, ◌≡◌, Bool, length, take, drop}
+use Rattle.std.specs.Prelude.{ℕ, ◌+◌, ◌-◌, ◌*◌, ◌%◌, ◌<◌, ◌≤◌, ◌≡◌, Bool, length, take, drop, Ok, Err}
 use Rattle.std.proofs.Math.Path.{refl, ap, sym, subst}
-use Rattle.std.proofs.Common.{ap₂, ◌∙◌, arith, leb-true, ne_eqb, length-drop, get_or-take, length-take-le, take-add, drop_at}
+use Rattle.std.proofs.Common.{ap₂, ◌∙◌, arith, leb-true, eqb-true, ne_eqb, length-drop, get_or-take, length-take-le, take-add, drop_at}
 use Rattle.std.proofs.Math.Bool.{true, false}
 use mathlib.Core.List.{List, [], ◌∷◌, ◌++◌}
 use Rattle.std.proofs.Math.Dec.{leb, eqb}
@@ -11,7 +11,11 @@ use Rattle.whole.specs.Row.{◌!◌⨾◌, ◌⇒◌∣◌}
 use Rattle.whole.specs.laws.Row.{held, passes, fails}
 use Rattle.wire.specs.Le.{le16, le32}
 use Rattle.wire.specs.Mode.{is_mode}
-use Rattle.caps.specs.Walk.{Bytes, size, number, Layout, gives, refuse, field, ◌then◌, Walked, Came, Stopped, walk, ended, Both}
+use Rattle.wire.specs.Refusal.{refusal_number, refusal_of}
+use Rattle.wire.specs.laws.Refusal.{number_back}
+use Rattle.wire.specs.declared.Refusal.{Refusal}
+use Rattle.wire.specs.declared.Refusal.TheVariants.{Cut, Length}
+use Rattle.caps.specs.Walk.{Bytes, size, number, Layout, gives, refuse, field, ◌then◌, Walked, Came, Stopped, walk, ended, refused_by, answered, Both}
 use Rattle.caps.specs.Caps.{entry, entries, no_entry, one_entry, two_entries, capset, block, caps_with, container}
 use Rattle.caps.specs.AckCap.{ack_cap}
 use Rattle.caps.specs.Ack.{ack}
@@ -75,19 +79,12 @@ pub record Says (says : ℕ → Bool) : Type 0 where
   pub missing : says 1 ≡ true
   pub length : says 4 ≡ true
   pub fixed : says 5 ≡ true
+  pub few : (n : ℕ) → says n ≡ true → (0 < n) × (n ≤ 13)
 
 pub data Refusing (says : ℕ → Bool) {A : Type 0} : Layout A → Type 0 where
   none_said : (a : A) → Refusing says (gives a)
   said : (n : ℕ) → says n ≡ true → Refusing says (refuse n)
   behind : (w : Width) (next : ℕ → Layout A) → ((v : ℕ) → Refusing says (next v)) → Refusing says (field w next)
-
-pub read_numbers : Says read_number
-unfolding read_number ◌⇒◌∣◌
-read_numbers = record { missing = refl; length = refl; fixed = refl }
-
-pub ack_numbers : Says ack_says
-unfolding ack_says ◌⇒◌∣◌
-ack_numbers = record { missing = refl; length = refl; fixed = refl }
 
 -- an acknowledgement says no number that the container does not
 wider : (a b c d : Bool) → (a ⇒ true ∣ b ⇒ true ∣ c) ≡ true → (a ⇒ true ∣ b ⇒ true ∣ c ⇒ true ∣ d) ≡ true
@@ -100,6 +97,26 @@ wider false false false d e = absurd (let z : ◌≡◌ {A = ℕ} 0 1 = cc in om
 pub ack_among : (n : ℕ) → ack_says n ≡ true → read_number n ≡ true
 unfolding ack_says read_number
 ack_among n e = wider (eqb n 1) (eqb n 4) (eqb n 5) (eqb n 6) e
+
+-- and the container says none that is no refusal's
+read_few : (n : ℕ) → read_number n ≡ true → (0 < n) × (n ≤ 13)
+unfolding read_number ◌⇒◌∣◌
+read_few n e = go (eqb n 1) (eqb n 4) (eqb n 5) (eqb n 6) refl refl refl refl e
+  where
+    go : (a b c d : Bool) → eqb n 1 ≡ a → eqb n 4 ≡ b → eqb n 5 ≡ c → eqb n 6 ≡ d → (a ⇒ true ∣ b ⇒ true ∣ c ⇒ true ∣ d) ≡ true → (0 < n) × (n ≤ 13)
+    go true b c d p q r s e = let k = eqb-true n 1 p in (omega arith, omega arith)
+    go false true c d p q r s e = let k = eqb-true n 4 q in (omega arith, omega arith)
+    go false false true d p q r s e = let k = eqb-true n 5 r in (omega arith, omega arith)
+    go false false false true p q r s e = let k = eqb-true n 6 s in (omega arith, omega arith)
+    go false false false false p q r s e = cc
+
+pub read_numbers : Says read_number
+unfolding read_number ◌⇒◌∣◌
+read_numbers = record { missing = refl; length = refl; fixed = refl; few = read_few }
+
+pub ack_numbers : Says ack_says
+unfolding ack_says ◌⇒◌∣◌
+ack_numbers = record { missing = refl; length = refl; fixed = refl; few = λ n e. read_few n (ack_among n e) }
 
 says_6 : read_number 6 ≡ true
 unfolding read_number ◌⇒◌∣◌
@@ -131,7 +148,7 @@ module _ (says : ℕ → Bool) (k : Says says) where
       go true t = rest (passes _ _ _ _ t refl ∙ e)
       go false t = subst (λ (x : ℕ). says x ≡ true) (stopped_is 1 n (fails _ _ _ _ t refl ∙ e)) k.missing
 
-  walk_says : {A : Type 0} (l : Layout A) → Refusing says l → (m : List ℕ) (n : ℕ) → walk l m ≡ Stopped n → says n ≡ true
+  pub walk_says : {A : Type 0} (l : Layout A) → Refusing says l → (m : List ℕ) (n : ℕ) → walk l m ≡ Stopped n → says n ≡ true
   unfolding walk
   walk_says _ (none_said a) m n e = absurd (no_stop a m n e)
   walk_says _ (said j h) m n e = subst (λ (x : ℕ). says x ≡ true) (stopped_is j n e) h
@@ -160,7 +177,7 @@ entries_refusing n = go (eqb n 0) (eqb n 1)
     go false true = then_on entry _ entry_refusing (λ e. none_said (one_entry e))
     go false false = then_on entry _ entry_refusing (λ e. then_on entry _ entry_refusing (λ f. none_said (two_entries e f)))
 
-block_refusing : (capsLength : ℕ) → Refusing read_number (block capsLength)
+pub block_refusing : (capsLength : ℕ) → Refusing read_number (block capsLength)
 unfolding block capset
 block_refusing capsLength =
     behind Two _ λ blockType. row (eqb blockType 0xCBC0) 5 _ read_numbers.fixed (
@@ -206,41 +223,38 @@ ack_refusing =
     behind Four _ λ frameID.
     none_said _)))
 
--- ---- the whole message: of an answer it is known which it is
+-- ---- the whole message
 
-pub record Apart {A R : Type 0} (taken : A → R) (refused : ℕ → R) : Type 0 where
-  pub same_fields : (x a : A) → taken x ≡ taken a → x ≡ a
-  pub same_number : (n k : ℕ) → refused n ≡ refused k → n ≡ k
-  pub apart : (n : ℕ) (a : A) → refused n ≡ taken a → ⊥
+module _ {A : Type 0} (l : Layout A) {Good : A → Type 0} {bytes : A → List ℕ} (both : Both l Good bytes) where
+  came : (m : List ℕ) (a : A) → answered (walk l m) ≡ Ok a → walk l m ≡ Came a []
+  came m a e = ends Ok refused_by l both a (λ x q. cc) (λ n q. cc) m e
 
-module _
-    {A R : Type 0} (taken : A → R) (refused : ℕ → R) (l : Layout A) {Good : A → Type 0} {bytes : A → List ℕ} (both : Both l Good bytes)
-    (k : Apart taken refused)
+  pub read_cut : (m : List ℕ) (a : A) (n : ℕ) → answered (walk l m) ≡ Ok a → n < length m → answered (walk l (take n m)) ≡ Err Cut
+  unfolding ended refusal_of ◌⇒◌∣◌
+  read_cut m a n e h = ap answered (walk_cut l m a n (came m a e) h)
+
+  pub read-longer :
+      (m : List ℕ) (a : A) (b : ℕ) (more : List ℕ) → Bytes m → answered (walk l m) ≡ Ok a → answered (walk l (m ++ b ∷ more)) ≡ Err Length
+  unfolding ended refusal_of ◌⇒◌∣◌
+  read-longer m a b more h e =
+      let s = read_same Ok refused_by l both a (λ x q. cc) (λ n q. cc) m h e in
+      let w : walk l (m ++ b ∷ more) ≡ Came a (b ∷ more) = ap (λ (x : List ℕ). walk l (x ++ b ∷ more)) (sym s.1) ∙ both.back a (b ∷ more) s.0 in
+      ap answered w ∙ sym (fails _ _ _ _ (ne_eqb (length (b ∷ more)) 0 (λ z. omega arith)) refl)
+
+pub read_says : {A : Type 0} (l : Layout A) (says : ℕ → Bool) → Says says → Refusing says l → (m : List ℕ) (refusal : Refusal) →
+    answered (walk l m) ≡ Err refusal → says (refusal_number refusal) ≡ true
+unfolding ended
+read_says {A = A} l says y r m refusal e = go (walk l m) refl e
   where
-    came : (m : List ℕ) (a : A) → ended taken refused (walk l m) ≡ taken a → walk l m ≡ Came a []
-    came m a e = ends taken refused l both a (λ x. k.same_fields x a) (λ n. k.apart n a) m e
+    the : (n : ℕ) → says n ≡ true → refusal_of n ≡ refusal → says (refusal_number refusal) ≡ true
+    the n h o =
+        let few = y.few n h in
+        subst (λ (x : ℕ). says x ≡ true) (sym (number_back n few.0 few.1) ∙ ap refusal_number o) h
 
-    pub read_cut : (m : List ℕ) (a : A) (n : ℕ) → ended taken refused (walk l m) ≡ taken a → n < length m → ended taken refused (walk l (take n m)) ≡ refused 1
-    unfolding ended
-    read_cut m a n e h = ap (ended taken refused) (walk_cut l m a n (came m a e) h)
-
-    pub read-longer :
-        (m : List ℕ) (a : A) (b : ℕ) (more : List ℕ) → Bytes m → ended taken refused (walk l m) ≡ taken a →
-        ended taken refused (walk l (m ++ b ∷ more)) ≡ refused 4
-    unfolding ended
-    read-longer m a b more h e =
-        let s = read_same taken refused l both a (λ x. k.same_fields x a) (λ n. k.apart n a) m h e in
-        let w : walk l (m ++ b ∷ more) ≡ Came a (b ∷ more) = ap (λ (x : List ℕ). walk l (x ++ b ∷ more)) (sym s.1) ∙ both.back a (b ∷ more) s.0 in
-        ap (ended taken refused) w ∙ sym (fails _ _ _ _ (ne_eqb (length (b ∷ more)) 0 (λ z. omega arith)) refl)
-
-    pub read_says : (says : ℕ → Bool) → Says says → Refusing says l → (m : List ℕ) (n : ℕ) → ended taken refused (walk l m) ≡ refused n → says n ≡ true
-    unfolding ended
-    read_says says y r m n e = go (walk l m) refl e
+    go : (x : Walked A) → walk l m ≡ x → answered x ≡ Err refusal → says (refusal_number refusal) ≡ true
+    go (Came a rest) f o = more (eqb (length rest) 0) refl
       where
-        go : (x : Walked A) → walk l m ≡ x → ended taken refused x ≡ refused n → says n ≡ true
-        go (Came a rest) f o = more (eqb (length rest) 0) refl
-          where
-            more : (t : Bool) → eqb (length rest) 0 ≡ t → says n ≡ true
-            more true t = absurd (k.apart n a (sym o ∙ sym (passes _ _ _ _ t refl)))
-            more false t = subst (λ (x : ℕ). says x ≡ true) (k.same_number 4 n (fails _ _ _ _ t refl ∙ o)) y.length
-        go (Stopped j) f o = subst (λ (x : ℕ). says x ≡ true) (k.same_number j n o) (walk_says says y l r m j f)
+        more : (t : Bool) → eqb (length rest) 0 ≡ t → says (refusal_number refusal) ≡ true
+        more true t = let q : Ok a ≡ Err refusal = passes _ _ _ _ t refl ∙ o in cc
+        more false t = let q : refused_by 4 ≡ Err refusal = fails _ _ _ _ t refl ∙ o in the 4 y.length cc
+    go (Stopped j) f o = the j (walk_says says y l r m j f) cc

@@ -1,14 +1,16 @@
 -- All that specs/Request states is so.
 -- Assumes nothing.
-use Rattle.std.specs.Prelude.{ℕ, ◌+◌, ◌<◌, ◌≡◌, refl, true, List, ◌∷◌, ◌++◌, leb, eqb, length, take}
+use Rattle.std.specs.Prelude.{ℕ, ◌+◌, ◌<◌, ◌≡◌, refl, true, List, ◌∷◌, ◌++◌, leb, eqb, length, take, Ok, Err}
 use Rattle.std.proofs.Common.{ap, sym, ◌∙◌, arith, eq-eqb}
 use Rattle.std.proofs.lemmas.Bool.{lt-leb}
-use Rattle.whole.specs.Row.{◌!◌⨾◌}
+use Rattle.whole.specs.Row.{◌!◌⨾◌, ◌⇒◌∣◌}
 use Rattle.whole.specs.laws.Row.{fails}
 use Rattle.wire.specs.Le.{bytes16, bytes32}
 use Rattle.wire.specs.laws.Wrote.{answer_of, wrote_answer}
-use Rattle.wire.specs.declared.Writing.TheVariants.{Refused as NotWritten}
-use Rattle.caps.specs.Walk.{spelled, Stopped, walk, ended}
+use Rattle.wire.specs.Refusal.{refusal_number, refusal_of}
+use Rattle.wire.specs.declared.Refusal.{Refusal}
+use Rattle.wire.specs.declared.Refusal.TheVariants.{Cut, Length, TooBig}
+use Rattle.caps.specs.Walk.{spelled, Stopped, walk, ended, answered}
 use Rattle.caps.specs.Caps.{capset, block, container, read_caps, caps_of, caps_fault}
 use Rattle.caps.specs.AckCap.{ack_cap, read_ack_cap}
 use Rattle.caps.specs.Ack.{ack, read_ack}
@@ -16,28 +18,15 @@ use Rattle.caps.specs.Calls.{ReadCaps, WriteCaps, ReadAckCap, ReadAck}
 use Rattle.caps.specs.Request.{read_number, ack_says, RequestTwelve}
 use Rattle.caps.specs.laws.Walk.{onward, walk_then, field_back, row_back}
 use Rattle.caps.specs.laws.Back.{entry_both, capset_both, block_both, container_both, ack_cap_both, ack_both}
-use Rattle.caps.specs.laws.Refuse.{Apart, read_numbers, ack_numbers, container_refusing, ack_cap_refusing, ack_refusing, read_cut, read-longer}
+use Rattle.caps.specs.laws.Refuse.{read_numbers, ack_numbers, container_refusing, ack_cap_refusing, ack_refusing, read_cut, read-longer}
 use Rattle.caps.specs.laws.Refuse.{read_says}
-use Rattle.caps.specs.laws.Fields.{row_stops, entry_refuses, capset_refuses, block_refuses, container_refuses, ack_cap_refuses, ack_refuses}
+use Rattle.caps.specs.laws.Step.{row_stops}
+use Rattle.caps.specs.laws.Fields.{entry_refuses, capset_refuses, block_refuses, container_refuses, ack_cap_refuses, ack_refuses}
 use Rattle.caps.specs.laws.ReadBack.{caps_some, caps_written, caps_again, caps_once, ack_cap_written, ack_cap_again, ack_cap_once, ack_written}
 use Rattle.caps.specs.laws.ReadBack.{ack_again, ack_once}
 use Rattle.caps.specs.declared.Caps.{Caps}
 use Rattle.caps.specs.declared.Ack.{Ack}
 use Rattle.caps.specs.declared.walk.Width.TheVariants.{One, Two, Four}
-use Rattle.caps.specs.declared.read.CapsReading.TheVariants.{Taken, Refused}
-use Rattle.caps.specs.declared.read.AckCapReading.TheVariants.{Taken as TakenCap, Refused as RefusedCap}
-use Rattle.caps.specs.declared.read.AckReading.TheVariants.{Taken as TakenAck, Refused as RefusedAck}
-
--- ---- of an answer it is known which it is
-
-caps_apart : Apart Taken Refused
-caps_apart = record { same_fields = λ x a e. cc; same_number = λ n k e. cc; apart = λ n a e. let z : ◌≡◌ {A = ℕ} 0 1 = cc in omega arith }
-
-ack_cap_apart : Apart TakenCap RefusedCap
-ack_cap_apart = record { same_fields = λ x a e. cc; same_number = λ n k e. cc; apart = λ n a e. let z : ◌≡◌ {A = ℕ} 0 1 = cc in omega arith }
-
-ack_apart : Apart TakenAck RefusedAck
-ack_apart = record { same_fields = λ x a e. cc; same_number = λ n k e. cc; apart = λ n a e. let z : ◌≡◌ {A = ℕ} 0 1 = cc in omega arith }
 
 -- ---- too many entries
 
@@ -63,10 +52,10 @@ caps_many :
     (flags size n : ℕ) (more : List ℕ) → flags < 4294967296 → 20 + size < 4294967296 → n < 65536 → 2 < n →
     read_caps (bytes32 (20 + size) ++ (bytes32 flags ++ (bytes32 (8 + size) ++ (bytes16 0xCBC0 ++ (bytes32 8 ++ (bytes16 1 ++
     (bytes16 0xCBC1 ++ (bytes32 size ++ (1 ∷ (bytes16 0xCFC0 ++ (bytes16 n ++ more)))))))))))
-    ≡ Refused 6
-unfolding read_caps container spelled bytes32 ended
+    ≡ Err TooBig
+unfolding read_caps container spelled bytes32 ended refusal_of ◌⇒◌∣◌
 caps_many flags size n more f s h t =
-    ap (ended Taken Refused)
+    ap answered
     (field_back Four _ (20 + size) _ s
     ∙ field_back Four _ flags _ f
     ∙ field_back Four _ (8 + size) _ (omega arith)
@@ -78,63 +67,64 @@ many_fault : (c : Caps) (room : ℕ) → 2 < c.n → 6 ≡ caps_fault c room
 unfolding caps_fault
 many_fault c room h = fails _ _ _ _ (lt-leb c.n 2 h) refl
 
-many_written : (w : WriteCaps) → 2 < w.caps.n → w.answer ≡ NotWritten 6
+many_written : (w : WriteCaps) → 2 < w.caps.n → w.answer ≡ Err TooBig
+unfolding refusal_of ◌⇒◌∣◌
 many_written w h =
     wrote_answer _ (caps_of w.caps) w.out w.out' w.answer (λ z. caps_some w.caps) w.promise
     ∙ ap (λ (f : ℕ). answer_of f (caps_of w.caps)) (sym (many_fault w.caps (length w.out) h))
 
 -- ---- cut, longer, numbers: of a call
 
-module _ (r s : ReadCaps) (a : Caps) (e : r.answer ≡ Taken a) where
-  took : read_caps r.message ≡ Taken a
+module _ (r s : ReadCaps) (a : Caps) (e : r.answer ≡ Ok a) where
+  took : read_caps r.message ≡ Ok a
   took = sym r.promise ∙ e
 
-  caps_cut : (k : ℕ) → k < length r.message → s.message ≡ take k r.message → s.answer ≡ Refused 1
+  caps_cut : (k : ℕ) → k < length r.message → s.message ≡ take k r.message → s.answer ≡ Err Cut
   unfolding read_caps
-  caps_cut k h is = s.promise ∙ (ap read_caps is ∙ read_cut Taken Refused container container_both caps_apart r.message a k took h)
+  caps_cut k h is = s.promise ∙ (ap read_caps is ∙ read_cut container container_both r.message a k took h)
 
-  caps_longer : (b : ℕ) (more : List ℕ) → s.message ≡ r.message ++ b ∷ more → s.answer ≡ Refused 4
+  caps_longer : (b : ℕ) (more : List ℕ) → s.message ≡ r.message ++ b ∷ more → s.answer ≡ Err Length
   unfolding read_caps
-  caps_longer b more is = s.promise ∙ (ap read_caps is ∙ read-longer Taken Refused container container_both caps_apart r.message a b more r.bytes took)
+  caps_longer b more is = s.promise ∙ (ap read_caps is ∙ read-longer container container_both r.message a b more r.bytes took)
 
-caps_numbers : (r : ReadCaps) (n : ℕ) → r.answer ≡ Refused n → read_number n ≡ true
+caps_numbers : (r : ReadCaps) (e : Refusal) → r.answer ≡ Err e → read_number (refusal_number e) ≡ true
 unfolding read_caps
-caps_numbers r n e =
-    read_says Taken Refused container container_both caps_apart read_number read_numbers container_refusing r.message n (sym r.promise ∙ e)
+caps_numbers r e h =
+    read_says container read_number read_numbers container_refusing r.message e (sym r.promise ∙ h)
 
-module _ (r s : ReadAckCap) (a : ℕ) (e : r.answer ≡ TakenCap a) where
-  took_cap : read_ack_cap r.message ≡ TakenCap a
+module _ (r s : ReadAckCap) (a : ℕ) (e : r.answer ≡ Ok a) where
+  took_cap : read_ack_cap r.message ≡ Ok a
   took_cap = sym r.promise ∙ e
 
-  ack_cap_cut : (k : ℕ) → k < length r.message → s.message ≡ take k r.message → s.answer ≡ RefusedCap 1
+  ack_cap_cut : (k : ℕ) → k < length r.message → s.message ≡ take k r.message → s.answer ≡ Err Cut
   unfolding read_ack_cap
-  ack_cap_cut k h is = s.promise ∙ (ap read_ack_cap is ∙ read_cut TakenCap RefusedCap ack_cap ack_cap_both ack_cap_apart r.message a k took_cap h)
+  ack_cap_cut k h is = s.promise ∙ (ap read_ack_cap is ∙ read_cut ack_cap ack_cap_both r.message a k took_cap h)
 
-  ack_cap_longer : (b : ℕ) (more : List ℕ) → s.message ≡ r.message ++ b ∷ more → s.answer ≡ RefusedCap 4
+  ack_cap_longer : (b : ℕ) (more : List ℕ) → s.message ≡ r.message ++ b ∷ more → s.answer ≡ Err Length
   unfolding read_ack_cap
   ack_cap_longer b more is =
-      s.promise ∙ (ap read_ack_cap is ∙ read-longer TakenCap RefusedCap ack_cap ack_cap_both ack_cap_apart r.message a b more r.bytes took_cap)
+      s.promise ∙ (ap read_ack_cap is ∙ read-longer ack_cap ack_cap_both r.message a b more r.bytes took_cap)
 
-ack_cap_numbers : (r : ReadAckCap) (n : ℕ) → r.answer ≡ RefusedCap n → ack_says n ≡ true
+ack_cap_numbers : (r : ReadAckCap) (e : Refusal) → r.answer ≡ Err e → ack_says (refusal_number e) ≡ true
 unfolding read_ack_cap
-ack_cap_numbers r n e =
-    read_says TakenCap RefusedCap ack_cap ack_cap_both ack_cap_apart ack_says ack_numbers ack_cap_refusing r.message n (sym r.promise ∙ e)
+ack_cap_numbers r e h =
+    read_says ack_cap ack_says ack_numbers ack_cap_refusing r.message e (sym r.promise ∙ h)
 
-module _ (r s : ReadAck) (a : Ack) (e : r.answer ≡ TakenAck a) where
-  took_ack : read_ack r.message ≡ TakenAck a
+module _ (r s : ReadAck) (a : Ack) (e : r.answer ≡ Ok a) where
+  took_ack : read_ack r.message ≡ Ok a
   took_ack = sym r.promise ∙ e
 
-  ack_cut : (k : ℕ) → k < length r.message → s.message ≡ take k r.message → s.answer ≡ RefusedAck 1
+  ack_cut : (k : ℕ) → k < length r.message → s.message ≡ take k r.message → s.answer ≡ Err Cut
   unfolding read_ack
-  ack_cut k h is = s.promise ∙ (ap read_ack is ∙ read_cut TakenAck RefusedAck ack ack_both ack_apart r.message a k took_ack h)
+  ack_cut k h is = s.promise ∙ (ap read_ack is ∙ read_cut ack ack_both r.message a k took_ack h)
 
-  ack_longer : (b : ℕ) (more : List ℕ) → s.message ≡ r.message ++ b ∷ more → s.answer ≡ RefusedAck 4
+  ack_longer : (b : ℕ) (more : List ℕ) → s.message ≡ r.message ++ b ∷ more → s.answer ≡ Err Length
   unfolding read_ack
-  ack_longer b more is = s.promise ∙ (ap read_ack is ∙ read-longer TakenAck RefusedAck ack ack_both ack_apart r.message a b more r.bytes took_ack)
+  ack_longer b more is = s.promise ∙ (ap read_ack is ∙ read-longer ack ack_both r.message a b more r.bytes took_ack)
 
-message-numbers : (r : ReadAck) (n : ℕ) → r.answer ≡ RefusedAck n → ack_says n ≡ true
+message-numbers : (r : ReadAck) (e : Refusal) → r.answer ≡ Err e → ack_says (refusal_number e) ≡ true
 unfolding read_ack
-message-numbers r n e = read_says TakenAck RefusedAck ack ack_both ack_apart ack_says ack_numbers ack_refusing r.message n (sym r.promise ∙ e)
+message-numbers r e h = read_says ack ack_says ack_numbers ack_refusing r.message e (sym r.promise ∙ h)
 
 -- ---- all of it
 

@@ -11,7 +11,7 @@ use Rattle.bits.specs.Bits.{bits_of, num_bits, num_of}
 use Rattle.bits.specs.Bytes.{Written}
 use Rattle.code.specs.Fold.{fold_z, unfold_z, unfold_by}
 use Rattle.code.specs.Code.{code_of, code_f, item_of, item_bits, item_used, item_kp, item_krp, zeros_of, run_bits, pair_bits, kr_after, kp_one, kp_two}
-use Rattle.code.specs.ReadList.{read_list, refusal_number}
+use Rattle.code.specs.ReadList.{read_list}
 use Rattle.code.specs.Read.{reading_number, clean, end_reading, code_reading, shell_fault, after_shell, reading, read_fault, read_bits}
 use Rattle.code.specs.OneCode.{code, Listed, Call, Exactly}
 use Rattle.code.specs.laws.OneCode.{exactly_answers, behind_number, behind_bits}
@@ -44,22 +44,22 @@ unfolding code_of code_f item_of item_bits item_used item_kp item_krp zeros_of f
 minus_4 = record { pad = 5; few = omega arith; bits = refl }
 
 cut_1 : read_fault 1 4096 (0x00 ∷ 0x00 ∷ []) ≡ 1
-unfolding read_fault reading_number reading after_shell shell_fault is_mode ◌!◌⨾◌ ◌⇒◌∣◌ code_reading end_reading refusal_number read_list bits_of num_of
+unfolding read_fault reading_number reading after_shell shell_fault is_mode ◌!◌⨾◌ ◌⇒◌∣◌ code_reading end_reading read_list bits_of num_of
     num_bits
 cut_1 = refl
 
 cut_4 : read_fault 4 4096 (0x00 ∷ 0x00 ∷ []) ≡ 1
-unfolding read_fault reading_number reading after_shell shell_fault is_mode ◌!◌⨾◌ ◌⇒◌∣◌ code_reading end_reading refusal_number read_list bits_of num_of
+unfolding read_fault reading_number reading after_shell shell_fault is_mode ◌!◌⨾◌ ◌⇒◌∣◌ code_reading end_reading read_list bits_of num_of
     num_bits
 cut_4 = refl
 
 empty_1 : read_fault 1 4096 [] ≡ 1
-unfolding read_fault reading_number reading after_shell shell_fault is_mode ◌!◌⨾◌ ◌⇒◌∣◌ code_reading end_reading refusal_number read_list bits_of num_of
+unfolding read_fault reading_number reading after_shell shell_fault is_mode ◌!◌⨾◌ ◌⇒◌∣◌ code_reading end_reading read_list bits_of num_of
     num_bits
 empty_1 = refl
 
 empty_4 : read_fault 4 4096 [] ≡ 1
-unfolding read_fault reading_number reading after_shell shell_fault is_mode ◌!◌⨾◌ ◌⇒◌∣◌ code_reading end_reading refusal_number read_list bits_of num_of
+unfolding read_fault reading_number reading after_shell shell_fault is_mode ◌!◌⨾◌ ◌⇒◌∣◌ code_reading end_reading read_list bits_of num_of
     num_bits
 empty_4 = refl
 

@@ -1,8 +1,9 @@
 -- A list that is being filled: what the loop keeps.
+use Rattle.std.specs.Prelude.{Result, Ok, Err}
 use Prim.Native.Nat.{ℕ, zero, suc, ◌+◌, ◌-◌, ◌≤◌, ◌<◌, min}
 use Rattle.std.specs.Prelude.{◌≡◌, Bool, true, false, List, [], ◌∷◌, ◌++◌, map, ℤ, pos, ltb, length, take, drop, set}
 use Rattle.std.proofs.Math.Path.{refl, sym, ap}
-use Rattle.std.proofs.Common.{◌∙◌, append_assoc, add-one, ltb-true, ltb-false, length-append, length-set, take-add, drop-drop, take-suc-set, drop-set-lt}
+use Rattle.std.proofs.Common.{◌∙◌, subst, append_assoc, add-one, ltb-true, ltb-false, length-append, length-set, take-add, drop-drop, take-suc-set, drop-set-lt}
 use Rattle.std.proofs.Common.{take_all}
 use native.Mathlib.Omega.{arith}
 use Rattle.std.proofs.Math.ListN.{replicate}
@@ -12,15 +13,12 @@ use Rattle.code.specs.Code.{InRange}
 use Rattle.code.specs.ReadList.{state_at, elem_of, whole, bad, step, walk, read_list}
 use Rattle.code.specs.laws.Taken.{Told, Took, elem_told}
 use Rattle.code.specs.declared.element.State.{State}
-use Rattle.code.specs.declared.element.Refusal.{Refusal}
+use Rattle.wire.specs.declared.Refusal.{Refusal}
 use Rattle.code.specs.declared.element.Element.{Element}
-use Rattle.code.specs.declared.element.Element.TheVariants.{Zeros, One, Two, Refused}
+use Rattle.code.specs.declared.element.Element.TheVariants.{Zeros, One, Two}
 use Rattle.code.specs.Fold.{fold_z, unfold_z}
 use Rattle.code.specs.laws.Fold.{fold_unfold, map_unfold}
 use Rattle.code.specs.Fill.{Fills, Fine, placed_of, stored_of, Clear, Filling}
-use Rattle.code.specs.declared.read.Filled.TheVariants.{Whole, Bad}
-use Rattle.code.specs.declared.read.Placed.{Placed}
-use Rattle.code.specs.declared.read.Placed.TheVariants.{At, No}
 
 -- ---- lists of zeros
 
@@ -128,15 +126,6 @@ placed_two n out i a b c h = go (ltb (i + 1) n) refl
         let j : i + 1 ≡ min n (i + 2) = omega arith in
         rw (k, ← j) g
 
-at_j : {j k : ℕ} {s t : State} → At j s ≡ At k t → j ≡ k
-at_j e = cc
-
-at_s : {j k : ℕ} {s t : State} → At j s ≡ At k t → s ≡ t
-at_s e = cc
-
-no_r : {j k : Refusal} → No j ≡ No k → j ≡ k
-no_r e = cc
-
 pair_first : (m a b : ℕ) → 0 < m → InRange (take m (a ∷ b ∷ [])) → a ≤ 65534
 pair_first zero a b h r = absurd (omega arith)
 pair_first (suc m) a b h r = r 0
@@ -147,11 +136,12 @@ pair_second (suc zero) a b h r = absurd (omega arith)
 pair_second (suc (suc m)) a b h r = r 1
 
 -- an element fits where it is read
-pub elem_fine : (rlgr3 : Bool) (kp krp n i at : ℕ) (B : List Bool) → i < n → Fine n i (elem_of rlgr3 kp krp (n - i) at B)
-elem_fine rlgr3 kp krp n i at B h = go (elem_of rlgr3 kp krp (n - i) at B) (elem_told rlgr3 kp krp (n - i) at B (omega arith))
+pub elem_fine :
+    (rlgr3 : Bool) (kp krp n i at : ℕ) (B : List Bool) → i < n → (e : Element) → Ok e ≡ elem_of rlgr3 kp krp (n - i) at B → Fine n i e
+elem_fine rlgr3 kp krp n i at B h e q =
+    go e (subst (λ (x : Result Element Refusal). Told rlgr3 kp krp (n - i) at B x) (sym q) (elem_told rlgr3 kp krp (n - i) at B (omega arith)))
   where
-    go : (e : Element) → Told rlgr3 kp krp (n - i) at B e → Fine n i e
-    go (Refused r) t = tt
+    go : (e : Element) → Told rlgr3 kp krp (n - i) at B (Ok e) → Fine n i e
     go (Zeros z s) t = tt
     go (One z v s) t = (
       omega (arith, t.fits, length-append (replicate z 0) (v ∷ []), length-replicate {A = ℕ} z 0),
@@ -201,53 +191,50 @@ module _ (rlgr3 : Bool) (n : ℕ) (B : List Bool) where
       omega (arith, r.next, t.some),
     )
 
+    -- one step of the walk from what is read there
+    turned :
+        (x : Result Element Refusal) → x ≡ elem_of rlgr3 c.kp c.krp (n - i) c.at B →
+        (g : ℕ) × (w.f ≡ suc g) × (step x (n - i) (map fold_z (take i out)) (λ s l d. walk g rlgr3 s.kp s.krp s.at l d B) ≡ read_list rlgr3 n B)
+    turned x q =
+        let t = walk_turn w.f c.kp c.krp c.at (n - i) (map fold_z (take i out)) (omega arith) w.fuel in (
+          t.0,
+          t.1,
+          ap (λ (y : Result Element Refusal). step y (n - i) (map fold_z (take i out)) (λ s l d. walk t.0 rlgr3 s.kp s.krp s.at l d B)) q
+              ∙ sym t.2 ∙ w.same,
+        )
+
     pub filling_next :
-        (e : Element) → e ≡ elem_of rlgr3 c.kp c.krp (n - i) c.at B → (j : ℕ) (s : State) → At j s ≡ placed_of n i e →
-        Filling rlgr3 n B (stored_of out i e) s j × (i < j)
-    filling_next e q j s p =
-        let t = walk_turn w.f c.kp c.krp c.at (n - i) (map fold_z (take i out)) (omega arith) w.fuel in
-        go e (rw q (elem_told rlgr3 c.kp c.krp (n - i) c.at B (omega arith))) p t.0 t.1
-        (ap (λ (x : Element). step x (n - i) (map fold_z (take i out)) (λ s l d. walk t.0 rlgr3 s.kp s.krp s.at l d B)) q ∙ sym t.2
-        ∙ w.same)
+        (e : Element) → Ok e ≡ elem_of rlgr3 c.kp c.krp (n - i) c.at B →
+        Filling rlgr3 n B (stored_of out i e) (placed_of n i e).1 (placed_of n i e).0 × (i < (placed_of n i e).0)
+    filling_next e q =
+        let t = turned (Ok e) q in
+        go e (subst (λ (x : Result Element Refusal). Told rlgr3 c.kp c.krp (n - i) c.at B x) (sym q)
+        (elem_told rlgr3 c.kp c.krp (n - i) c.at B (omega arith))) t.0 t.1 t.2
       where
         go :
-            (e : Element) → Told rlgr3 c.kp c.krp (n - i) c.at B e → At j s ≡ placed_of n i e → (g : ℕ) → w.f ≡ suc g →
-            step e (n - i) (map fold_z (take i out)) (λ s l d. walk g rlgr3 s.kp s.krp s.at l d B) ≡ read_list rlgr3 n B →
-            Filling rlgr3 n B (stored_of out i e) s j × (i < j)
-        go (Refused r) t p g ef k = let z : ◌≡◌ {A = ℕ} 0 1 = cc in absurd (omega arith)
-        go (Zeros z s') t p g ef k =
+            (e : Element) → Told rlgr3 c.kp c.krp (n - i) c.at B (Ok e) → (g : ℕ) → w.f ≡ suc g →
+            step (Ok e) (n - i) (map fold_z (take i out)) (λ s l d. walk g rlgr3 s.kp s.krp s.at l d B) ≡ read_list rlgr3 n B →
+            Filling rlgr3 n B (stored_of out i e) (placed_of n i e).1 (placed_of n i e).0 × (i < (placed_of n i e).0)
+        go (Zeros z s) t g ef k =
             let l : n - i - z ≡ n - min n (i + z) = omega arith in
-            rw (at_j p, at_s p) (advance out s' (min n (i + z)) g (replicate (min z (n - i)) 0) ef t (placed_zeros n out i z w.clear) (rw l at k))
-        go (One z v s') t p g ef k =
+            advance out s (min n (i + z)) g (replicate (min z (n - i)) 0) ef t (placed_zeros n out i z w.clear) (rw l at k)
+        go (One z v s) t g ef k =
             let m : i + z < n = omega (arith, t.fits, length-append (replicate z 0) (v ∷ []), length-replicate {A = ℕ} z 0) in
             let l : n - i - (z + 1) ≡ n - (i + z + 1) = omega arith in
-            rw (at_j p, at_s p)
-            (advance (set out (i + z) (unfold_z v)) s' (i + z + 1) g (replicate z 0 ++ (v ∷ [])) ef t (placed_one n out i z v w.clear m) (rw l at k))
-        go (Two a b s') t p g ef k =
+            advance (set out (i + z) (unfold_z v)) s (i + z + 1) g (replicate z 0 ++ (v ∷ [])) ef t (placed_one n out i z v w.clear m) (rw l at k)
+        go (Two a b s) t g ef k =
             let l : n - i - 2 ≡ n - min n (i + 2) = omega arith in
-            rw (at_j p, at_s p, w.clear.len)
-            (advance (ltb (i + 1) n ⇒ set (set out i (unfold_z a)) (i + 1) (unfold_z b) ∣ set out i (unfold_z a)) s' (min n (i + 2)) g
+            rw w.clear.len
+            (advance (ltb (i + 1) n ⇒ set (set out i (unfold_z a)) (i + 1) (unfold_z b) ∣ set out i (unfold_z a)) s (min n (i + 2)) g
             (take (n - i) (a ∷ b ∷ [])) ef t (placed_two n out i a b w.clear h) (rw l at k))
 
-    pub filling_bad : (e : Element) → e ≡ elem_of rlgr3 c.kp c.krp (n - i) c.at B → (r : Refusal) → No r ≡ placed_of n i e → read_list rlgr3 n B ≡ bad r
-    filling_bad e q r p =
-        let t = walk_turn w.f c.kp c.krp c.at (n - i) (map fold_z (take i out)) (omega arith) w.fuel in
-        go e p t.0
-        (ap (λ (x : Element). step x (n - i) (map fold_z (take i out)) (λ s l d. walk t.0 rlgr3 s.kp s.krp s.at l d B)) q ∙ sym t.2
-        ∙ w.same)
-      where
-        go :
-            (e : Element) → No r ≡ placed_of n i e → (g : ℕ) →
-            step e (n - i) (map fold_z (take i out)) (λ s l d. walk g rlgr3 s.kp s.krp s.at l d B) ≡ read_list rlgr3 n B → read_list rlgr3 n B ≡ bad r
-        go (Refused r') p g k = sym k ∙ ap bad (sym (no_r p))
-        go (Zeros z s') p g k = cc
-        go (One z v s') p g k = cc
-        go (Two a b s') p g k = cc
+    pub filling_bad : (r : Refusal) → Err r ≡ elem_of rlgr3 c.kp c.krp (n - i) c.at B → read_list rlgr3 n B ≡ bad r
+    filling_bad r q = sym (turned (Err r) q).2
 
-    pub filling_fine : (e : Element) → e ≡ elem_of rlgr3 c.kp c.krp (n - i) c.at B → Fine n i e
-    filling_fine e q = rw q (elem_fine rlgr3 c.kp c.krp n i c.at B h)
+    pub filling_fine : (e : Element) → Ok e ≡ elem_of rlgr3 c.kp c.krp (n - i) c.at B → Fine n i e
+    filling_fine e q = elem_fine rlgr3 c.kp c.krp n i c.at B h e q
 
-  pub filling_end : (out : List ℤ) (c : State) (i : ℕ) → n ≤ i → Filling rlgr3 n B out c i → Fills (read_list rlgr3 n B) out (Whole c.at)
+  pub filling_end : (out : List ℤ) (c : State) (i : ℕ) → n ≤ i → Filling rlgr3 n B out c i → Fills (read_list rlgr3 n B) out (Ok c.at)
   filling_end out c i h w =
       let z : n - i ≡ 0 = omega arith in
       let e : walk w.f rlgr3 c.kp c.krp c.at 0 (map fold_z (take i out)) B ≡ read_list rlgr3 n B = rw z at w.same in
@@ -256,10 +243,11 @@ module _ (rlgr3 : Bool) (n : ℕ) (B : List Bool) where
       (sym (ap (λ (l : List ℕ). map unfold_z l) (ap (λ (l : List ℤ). map fold_z l) t) ∙ map_unfold out), refl)
 
   -- in the code's forms
-  module _ (out new : List ℤ) (c : State) (i : ℕ) (e : Element) (r : Placed) (w : Filling rlgr3 n B out c i) (h : i < n)
-      (q : e ≡ elem_of rlgr3 c.kp c.krp (n - i) c.at B) (pr : r ≡ placed_of (length out) i e) where
-    pub turn_next : (j : ℕ) (s : State) → new ≡ stored_of out i e → r ≡ At j s → Filling rlgr3 n B new s j × (i < j)
-    turn_next j s pn g = rw pn (filling_next out c i w h e q j s (sym g ∙ pr ∙ ap (λ (m : ℕ). placed_of m i e) w.clear.len))
+  module _ (out new : List ℤ) (c : State) (i : ℕ) (w : Filling rlgr3 n B out c i) (h : i < n) where
+    pub turn_next :
+        (e : Element) (p : ℕ × State) → Ok e ≡ elem_of rlgr3 c.kp c.krp (n - i) c.at B → p ≡ placed_of (length out) i e → new ≡ stored_of out i e →
+        Filling rlgr3 n B new p.1 p.0 × (i < p.0)
+    turn_next e p q ep en = rw (ep ∙ ap (λ (m : ℕ). placed_of m i e) w.clear.len, en) (filling_next out c i w h e q)
 
-    pub turn_bad : (k : Refusal) → r ≡ No k → Fills (read_list rlgr3 n B) new (Bad k)
-    turn_bad k g = rw (filling_bad out c i w h e q k (sym g ∙ pr ∙ ap (λ (m : ℕ). placed_of m i e) w.clear.len)) refl
+    pub turn_bad : (k : Refusal) → Err k ≡ elem_of rlgr3 c.kp c.krp (n - i) c.at B → Fills (read_list rlgr3 n B) new (Err k)
+    turn_bad k q = rw (filling_bad out c i w h k q) refl

@@ -2,20 +2,22 @@
 -- and fills it with zeros on 1, 9, 10, 11."
 -- Assumes nothing.
 -- (01 is this project's scope document, 02 its change requests, 001 is MS-RDPRFX: README, "What 01 is".)
-use Rattle.std.specs.Prelude.{ℕ, zero, suc, ◌≡◌, Bool, true, false, List, [], ◌∷◌, eqb, leb, ℤ, pos, length, drop, replicate}
+use Rattle.std.specs.Prelude.{ℕ, zero, suc, ◌≤◌, ◌≡◌, Bool, true, false, List, [], ◌∷◌, eqb, leb, ℤ, pos, length, drop, replicate}
 use Rattle.std.proofs.Math.Path.{refl, sym, ap, subst}
-use Rattle.std.proofs.Common.{◌∙◌, eq-eqb, ne_eqb}
+use Rattle.std.proofs.Common.{◌∙◌, arith, eq-eqb, ne_eqb}
 use Rattle.whole.specs.Row.{◌!◌⨾◌, ◌⨟◌}
 use Rattle.whole.specs.laws.Row.{passes, fails, goes_on}
 use Rattle.whole.specs.Among.{among, Among}
-use Rattle.whole.specs.laws.Among.{said, among_row, among_then, numbers, each, among_all, among_none, among_not, first_there, first_none}
+use Rattle.whole.specs.laws.Among.{said, among_row, among_then, numbers, each, among_all, among_none, among_most, among_not, first_there, first_none}
 use Rattle.wire.specs.Mode.{is_mode}
 use Rattle.bits.specs.Bits.{bits_of}
-use Rattle.code.specs.ReadList.{Walked, whole, bad, read_list, refusal_number}
+use Rattle.code.specs.ReadList.{Walked, whole, bad, read_list}
 use Rattle.code.specs.Read.{reading_number, clean, end_reading, end_list, code_reading, code_list, shell_fault, after_shell, reading, read_fault, decoded}
 use Rattle.code.specs.Read.{read_into, ComponentRead}
-use Rattle.code.specs.declared.element.Refusal.{Refusal}
-use Rattle.code.specs.declared.element.Refusal.TheVariants.{Cut as Short, Range, Overrun}
+use Rattle.wire.specs.Refusal.{refusal_number}
+use Rattle.wire.specs.laws.Refusal.{number_back}
+use Rattle.wire.specs.declared.Refusal.{Refusal}
+use Rattle.code.specs.laws.Taken.{refused_among}
 use Rattle.code.specs.declared.read.Reading.{Reading}
 use Rattle.code.specs.declared.read.Reading.TheVariants.{Done, Tail}
 
@@ -39,21 +41,17 @@ full_among mode len = among_row (is_mode mode) 5 (leb len 65535 ! 6 ⨾ 0) (said
 
 -- ---- the code
 
-refusal_among : (r : Refusal) → Among (0 ∷ code_numbers) (refusal_number r)
-unfolding refusal_number among
-refusal_among Short = said refl
-refusal_among Range = said refl
-refusal_among Overrun = said refl
-
 tail_among : (b : Bool) (at : ℕ) → Among (0 ∷ code_numbers) (reading_number (b ! Tail at ⨾ Done at))
 unfolding reading_number ◌!◌⨾◌ among
 tail_among true at = said refl
 tail_among false at = said refl
 
-end_among : (B : List Bool) (w : Walked) → Among (0 ∷ code_numbers) (reading_number (end_reading B w))
-unfolding end_reading reading_number
-end_among B (bad r) = refusal_among r
-end_among B (whole xs at) = tail_among (clean (drop at B)) at
+end_among :
+    (B : List Bool) (w : Walked) → ((r : Refusal) → w ≡ bad r → Among (1 ∷ 9 ∷ 10 ∷ []) (refusal_number r)) →
+    Among (0 ∷ code_numbers) (reading_number (end_reading B w))
+unfolding end_reading reading_number each among
+end_among B (bad r) h = among_all _ (h r refl) refl
+end_among B (whole xs at) h = tail_among (clean (drop at B)) at
 
 -- a code that is refused leaves zeros
 tail_zeros : (zs : List ℤ) (at : ℕ) (b : Bool) → (reading_number (b ! Tail at ⨾ Done at) ≡ 0 → ⊥) → (b ! replicate 4096 (pos 0) ⨾ zs) ≡ replicate 4096 (pos 0)
@@ -68,20 +66,21 @@ end_zeros B (whole xs at) h = tail_zeros _ at (clean (drop at B)) h
 
 -- ---- the call: the shell's fault, then the code's
 
-after_number : (f : ℕ) (r : Reading) → reading_number (after_shell f r) ≡ (f ⨟ reading_number r)
+after_number : (f : ℕ) (r : Reading) → f ≤ 13 → reading_number (after_shell f r) ≡ (f ⨟ reading_number r)
 unfolding after_shell reading_number ◌⨟◌
-after_number zero r = refl
-after_number (suc f) r = refl
+after_number zero r u = refl
+after_number (suc f) r u = number_back (suc f) (omega arith) u
 
 abbrev code_fault : ℕ → List ℕ → ℕ
 code_fault mode s = reading_number (end_reading (bits_of s) (read_list (eqb mode 4) 4096 (bits_of s)))
 
 fault_parts : (mode n : ℕ) (s : List ℕ) → read_fault mode n s ≡ (shell_fault mode n (length s) ⨟ code_fault mode s)
-unfolding read_fault reading code_reading
-fault_parts mode n s = after_number (shell_fault mode n (length s)) _
+unfolding read_fault reading code_reading each
+fault_parts mode n s = after_number (shell_fault mode n (length s)) _ (among_most 13 (shell_among mode n (length s)) refl)
 
 code_among : (mode : ℕ) (s : List ℕ) → Among (0 ∷ code_numbers) (code_fault mode s)
-code_among mode s = end_among (bits_of s) (read_list (eqb mode 4) 4096 (bits_of s))
+unfolding read_list
+code_among mode s = end_among (bits_of s) (read_list (eqb mode 4) 4096 (bits_of s)) (λ r e. refused_among 4096 (eqb mode 4) 8 8 0 4096 [] (bits_of s) r e)
 
 -- the numbers of a call; and of one with a list of 4,096
 pub fault_among : (mode n : ℕ) (s : List ℕ) → Among (0 ∷ 5 ∷ 2 ∷ 6 ∷ 1 ∷ 9 ∷ 10 ∷ 11 ∷ []) (read_fault mode n s)

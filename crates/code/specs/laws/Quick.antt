@@ -1,4 +1,5 @@
 -- A turn by a word: an element that lies whole in the 57 bits at a place is the element at that place, and full runs are taken together.
+use Rattle.std.specs.Prelude.{Option, None, Result, Ok, Err}
 use Prim.Native.Nat.{ℕ, zero, suc, ◌+◌, ◌-◌, ◌/◌, ◌^◌, ◌≤◌, ◌<◌, min}
 use Rattle.std.specs.Prelude.{◌≡◌, Bool, List, [], ◌∷◌, ◌++◌, ℤ, length}
 use Rattle.std.proofs.Math.Path.{refl}
@@ -8,42 +9,29 @@ use borrow.Author.Tests.{lt-ltb, le-ltb, ltb-true, ltb-false}
 use Rattle.std.proofs.Math.Dec.{ltb}
 use Rattle.std.proofs.Math.ListN.{drop, replicate}
 use Rattle.whole.specs.Row.{◌⇒◌∣◌}
-use Rattle.bits.specs.Bits.{bits_of, num_bits, num_of}
+use Rattle.bits.specs.Bits.{got, bits_of, num_bits, num_of}
 use Rattle.bits.specs.Word.{front_zeros}
 use Rattle.bits.specs.laws.Bit.{length_num_bits}
 use Rattle.bits.specs.laws.Here.{past, num_there}
 use Rattle.bits.specs.laws.Word.{front_stop, word_small, word_zeros}
-use Rattle.bits.specs.declared.Num.TheVariants.{Got}
 use Rattle.code.specs.Code.{raised}
 use Rattle.code.specs.ReadList.{state_at, run_elem, run_first, elem_of, read_list}
-use Rattle.code.specs.Fill.{Fine, placed_of, stored_of, leap_of, onward_of, Inside, Fills, Filling, Open, Quickly, Turned, Worded, Rushed, value_of, Stored}
-use Rattle.code.specs.laws.Filling.{elem_fine, filling_next}
+use Rattle.code.specs.Fill.{jump, placed_of, stored_of, leap_of, onward_of, Storable, Kept, Fills, Filling, Open, Quickly, Turned, Worded, Rushed, value_of}
+use Rattle.code.specs.laws.Filling.{elem_fine, filling_next, filling_end}
 use Rattle.code.specs.laws.Moved.{later, elem_moved}
 use Rattle.code.specs.laws.Taken.{Told, Took, elem_told}
 use Rattle.code.specs.laws.There.{bit_here, elem_full}
 use Rattle.code.specs.laws.Steps.{run_some, elem_high}
 use Rattle.code.specs.declared.element.State.{State}
-use Rattle.code.specs.declared.element.Refusal.{Refusal}
-use Rattle.code.specs.declared.element.Refusal.TheVariants.{Cut as Short}
+use Rattle.wire.specs.declared.Refusal.{Refusal}
+use Rattle.wire.specs.declared.Refusal.TheVariants.{Cut}
 use Rattle.code.specs.declared.element.Element.{Element}
-use Rattle.code.specs.declared.element.Element.TheVariants.{Zeros, One, Two, Refused}
-use Rattle.code.specs.declared.read.Filled.TheVariants.{Whole}
-use Rattle.code.specs.declared.read.Placed.{Placed}
-use Rattle.code.specs.declared.read.Quick.{Quick}
-use Rattle.code.specs.declared.read.Quick.TheVariants.{At as Jump, Not}
-use Rattle.code.specs.declared.read.Reach.{Reach}
-use Rattle.code.specs.declared.read.Reach.TheVariants.{Full, Stuck}
+use Rattle.code.specs.declared.element.Element.TheVariants.{Zeros, One, Two}
 
 -- ---- an element of the word
 
-no_zeros : {z : ℕ} {s : State} {r : Refusal} → Zeros z s ≡ Refused r → ⊥
-no_zeros e = let z : ◌≡◌ {A = ℕ} 0 1 = cc in absurd (omega arith)
-
-no_one : {z v : ℕ} {s : State} {r : Refusal} → One z v s ≡ Refused r → ⊥
-no_one e = let z : ◌≡◌ {A = ℕ} 0 1 = cc in absurd (omega arith)
-
-no_two : {a b : ℕ} {s : State} {r : Refusal} → Two a b s ≡ Refused r → ⊥
-no_two e = let z : ◌≡◌ {A = ℕ} 0 1 = cc in absurd (omega arith)
+no_err : {e : Element} {r : Refusal} → Ok e ≡ Err r → ⊥
+no_err e = let z : ◌≡◌ {A = ℕ} 0 1 = cc in absurd (omega arith)
 
 -- an element read in some bits ends in them
 took_within :
@@ -54,8 +42,11 @@ took_within rlgr3 kp krp left i P front s h t =
 
 -- what is stored of the element at place m of the word w ends in the word
 pub word_inside :
-    (rlgr3 : Bool) (kp krp n i m w : ℕ) (e : Element) → m ≤ 57 → i < n → e ≡ elem_of rlgr3 kp krp (n - i) m (num_bits 57 w) → Inside (placed_of n i e)
-word_inside rlgr3 kp krp n i m w e l h q = go e (rw q (elem_told rlgr3 kp krp (n - i) m (num_bits 57 w) (omega arith)))
+    (rlgr3 : Bool) (kp krp n i m w : ℕ) (e : Element) → m ≤ 57 → i < n → Ok e ≡ elem_of rlgr3 kp krp (n - i) m (num_bits 57 w) →
+    (placed_of n i e).1.at ≤ 57
+word_inside rlgr3 kp krp n i m w e l h q =
+    go e (subst (λ (x : Result Element Refusal). Told rlgr3 kp krp (n - i) m (num_bits 57 w) x) (sym q)
+    (elem_told rlgr3 kp krp (n - i) m (num_bits 57 w) (omega arith)))
   where
     k : m ≤ length (num_bits 57 w)
     k = omega (arith, l, length_num_bits 57 w)
@@ -63,46 +54,55 @@ word_inside rlgr3 kp krp n i m w e l h q = go e (rw q (elem_told rlgr3 kp krp (n
     end : (front : List ℕ) (s : State) → Took rlgr3 kp krp (n - i) m (num_bits 57 w) front s → s.at ≤ 57
     end front s t = omega (arith, took_within rlgr3 kp krp (n - i) m (num_bits 57 w) front s k t, length_num_bits 57 w)
 
-    go : (e : Element) → Told rlgr3 kp krp (n - i) m (num_bits 57 w) e → Inside (placed_of n i e)
-    go (Refused r) t = tt
+    go : (e : Element) → Told rlgr3 kp krp (n - i) m (num_bits 57 w) (Ok e) → (placed_of n i e).1.at ≤ 57
     go (Zeros z s) t = end _ s t
     go (One z v s) t = end _ s t
     go (Two a b s) t = end _ s t
 
--- the element at place m of the word w, which stands at place `at`: storing it fills the list on, or it is refused and the list stays
-pub word_quick : (rlgr3 : Bool) (B : List Bool) (out : List ℤ) (c : State) (i at m w : ℕ) (e : Element) → Got w (at + 57) ≡ num_of 57 0 at (drop at B) →
-    m ≤ 57 → c.at ≡ at + m → Filling rlgr3 (length out) B out c i → i < length out → e ≡ elem_of rlgr3 c.kp c.krp (length out - i) m (num_bits 57 w) →
-    Quickly rlgr3 B i out (stored_of out i e) (onward_of at (placed_of (length out) i e))
-word_quick rlgr3 B out c i at m w e l hm ec f h q = go e q
+-- so it may be stored
+pub word_storable :
+    (rlgr3 : Bool) (kp krp n i m w : ℕ) (x : Result Element Refusal) → m ≤ 57 → i < n → x ≡ elem_of rlgr3 kp krp (n - i) m (num_bits 57 w) → Storable n i x
+word_storable rlgr3 kp krp n i m w (Err r) l h q = tt
+word_storable rlgr3 kp krp n i m w (Ok e) l h q =
+    (elem_fine rlgr3 kp krp n i m (num_bits 57 w) h e q, word_inside rlgr3 kp krp n i m w e l h q)
+
+-- the element at place m of the word w, which stands at place `at`: storing it fills the list on
+word_next : (rlgr3 : Bool) (B : List Bool) (out : List ℤ) (c : State) (i at m w : ℕ) (e : Element) → got w (at + 57) ≡ num_of 57 0 at (drop at B) →
+    m ≤ 57 → c.at ≡ at + m → Filling rlgr3 (length out) B out c i → i < length out → Ok e ≡ elem_of rlgr3 c.kp c.krp (length out - i) m (num_bits 57 w) →
+    Quickly rlgr3 B i out (stored_of out i e) (jump (placed_of (length out) i e).0 (onward_of at (placed_of (length out) i e).1))
+word_next rlgr3 B out c i at m w e l hm ec f h q = go e (moved (Ok e) q no_err)
   where
-    moved : (e : Element) → e ≡ elem_of rlgr3 c.kp c.krp (length out - i) m (num_bits 57 w) → (e ≡ Refused Short → ⊥) →
-        later at e ≡ elem_of rlgr3 c.kp c.krp (length out - i) c.at B
-    moved e q n =
+    moved : (x : Result Element Refusal) → x ≡ elem_of rlgr3 c.kp c.krp (length out - i) m (num_bits 57 w) → (x ≡ Err Cut → ⊥) →
+        later at x ≡ elem_of rlgr3 c.kp c.krp (length out - i) c.at B
+    moved x q n =
         let d = (num_there 57 at B w (at + 57) (sym l)).2 in
         let k : m ≤ length (num_bits 57 w) = omega (arith, hm, length_num_bits 57 w) in
-        ap (λ (x : Element). later at x) q
-        ∙ sym (elem_moved at (num_bits 57 w) (drop (at + 57) B) B d rlgr3 c.kp c.krp (length out - i) m k (λ x. n (q ∙ x)))
-        ∙ ap (λ (x : ℕ). elem_of rlgr3 c.kp c.krp (length out - i) x B) (sym ec)
+        ap (λ (y : Result Element Refusal). later at y) q
+        ∙ sym (elem_moved at (num_bits 57 w) (drop (at + 57) B) B d rlgr3 c.kp c.krp (length out - i) m k (λ y. n (q ∙ y)))
+        ∙ ap (λ (y : ℕ). elem_of rlgr3 c.kp c.krp (length out - i) y B) (sym ec)
 
-    go : (e : Element) → e ≡ elem_of rlgr3 c.kp c.krp (length out - i) m (num_bits 57 w) →
-        Quickly rlgr3 B i out (stored_of out i e) (onward_of at (placed_of (length out) i e))
-    go (Refused r) q = refl
-    go (Zeros z s) q = filling_next rlgr3 (length out) B out c i f h (later at (Zeros z s)) (moved (Zeros z s) q (λ x. no_zeros x)) _ _ refl
-    go (One z v s) q = filling_next rlgr3 (length out) B out c i f h (later at (One z v s)) (moved (One z v s) q (λ x. no_one x)) _ _ refl
-    go (Two a b s) q = filling_next rlgr3 (length out) B out c i f h (later at (Two a b s)) (moved (Two a b s) q (λ x. no_two x)) _ _ refl
+    go : (e : Element) → later at (Ok e) ≡ elem_of rlgr3 c.kp c.krp (length out - i) c.at B →
+        Quickly rlgr3 B i out (stored_of out i e) (jump (placed_of (length out) i e).0 (onward_of at (placed_of (length out) i e).1))
+    go (Zeros z s) q = filling_next rlgr3 (length out) B out c i f h (Zeros z (onward_of at s)) q
+    go (One z v s) q = filling_next rlgr3 (length out) B out c i f h (One z v (onward_of at s)) q
+    go (Two a b s) q = filling_next rlgr3 (length out) B out c i f h (Two a b (onward_of at s)) q
+
+-- or it is refused and the list stays
+pub word_quick : (rlgr3 : Bool) (B : List Bool) (out : List ℤ) (c : State) (i at m w : ℕ) (x : Result Element Refusal) →
+    got w (at + 57) ≡ num_of 57 0 at (drop at B) → m ≤ 57 → c.at ≡ at + m → Filling rlgr3 (length out) B out c i → i < length out →
+    x ≡ elem_of rlgr3 c.kp c.krp (length out - i) m (num_bits 57 w) → (new : List ℤ) (r : Option (ℕ × State)) → Kept at i out new x r →
+    Quickly rlgr3 B i out new r
+word_quick rlgr3 B out c i at m w (Err q) l hm ec f h e new r k = rw (k.0, k.1) refl
+word_quick rlgr3 B out c i at m w (Ok x) l hm ec f h e new r k = rw (k.0, k.1) (word_next rlgr3 B out c i at m w x l hm ec f h e)
 
 -- the same for an element that the word begins with, in the forms that the code has
-module _ (rlgr3 : Bool) (w : ℕ) (out : List ℤ) (c : State) (i : ℕ) (p : Worded w out c i) (e : Element)
-    (q : e ≡ elem_of rlgr3 c.kp c.krp (length out - i) 0 (num_bits 57 w)) where
-  pub first_fine : (length out ≤ 4096) × (i < length out) × Fine (length out) i e
-  first_fine = (p.places, p.room, rw q (elem_fine rlgr3 c.kp c.krp (length out) i 0 (num_bits 57 w) p.room))
+module _ (rlgr3 : Bool) (w : ℕ) (out : List ℤ) (c : State) (i : ℕ) (p : Worded w out c i) (x : Result Element Refusal)
+    (q : x ≡ elem_of rlgr3 c.kp c.krp (length out - i) 0 (num_bits 57 w)) where
+  pub first_storable : (length out ≤ 4096) × (i < length out) × (c.at ≤ 524280) × Storable (length out) i x
+  first_storable = (p.places, p.room, p.place, word_storable rlgr3 c.kp c.krp (length out) i 0 w x (omega arith) p.room q)
 
-  module _ (d : Placed) (ed : d ≡ placed_of (length out) i e) where
-    pub first_inside : (c.at ≤ 524280) × Inside d
-    first_inside = (p.place, rw ed (word_inside rlgr3 c.kp c.krp (length out) i 0 w e (omega arith) p.room q))
-
-    pub first_turns : (new : List ℤ) (r : Quick) → new ≡ stored_of out i e → r ≡ onward_of c.at d → Turned rlgr3 w c i out new r
-    first_turns new r en er B word f = rw (er, ed, en) (word_quick rlgr3 B out c i c.at 0 w e word (omega arith) (omega arith) f p.room q)
+  pub first_turns : (new : List ℤ) (r : Option (ℕ × State)) → Kept c.at i out new x r → Turned rlgr3 w c i out new r
+  first_turns new r k B word f = word_quick rlgr3 B out c i c.at 0 w x word (omega arith) (omega arith) f p.room q new r k
 
 -- a run's value behind the zeros that a word begins with
 pub value_is : (w m kp krp left : ℕ) → m ≡ front_zeros (num_bits 57 w) → m < 57 →
@@ -118,11 +118,11 @@ pos_of : (m : ℕ) → (m ≡ 0 → ⊥) → 0 < m
 pos_of zero h = absurd (h refl)
 pos_of (suc m) h = omega arith
 
-jump_j : {j k : ℕ} {s t : State} → Jump j s ≡ Jump k t → j ≡ k
-jump_j e = cc
+jump_j : {j k : ℕ} {s t : State} → ◌≡◌ {A = ℕ × State} (j, s) (k, t) → j ≡ k
+jump_j e = ap (λ (p : ℕ × State). p.0) e
 
-jump_s : {j k : ℕ} {s t : State} → Jump j s ≡ Jump k t → s ≡ t
-jump_s e = cc
+jump_s : {j k : ℕ} {s t : State} → ◌≡◌ {A = ℕ × State} (j, s) (k, t) → s ≡ t
+jump_s e = ap (λ (p : ℕ × State). p.1) e
 
 -- the state after a full run, and the place
 abbrev after : State → State
@@ -137,22 +137,21 @@ module _ (rlgr3 : Bool) (n : ℕ) (B : List Bool) where
   Leapt m out i j t = Filling rlgr3 n B out t j × (i ≤ j) × (0 < m → i < n → i < j)
 
   leap_fills : (m : ℕ) (out : List ℤ) (c : State) (i : ℕ) (rest : List Bool) → Filling rlgr3 n B out c i → 8 ≤ c.kp →
-      drop c.at B ≡ replicate m false ++ rest → (j : ℕ) (t : State) → leap_of m n i c ≡ Jump j t → Leapt m out i j t
+      drop c.at B ≡ replicate m false ++ rest → (j : ℕ) (t : State) → leap_of m n i c ≡ (j, t) → Leapt m out i j t
   unfolding leap_of
   leap_fills zero out c i rest w h8 d j t p = (rw (← jump_j p, ← jump_s p) w, omega (arith, jump_j p), λ z. absurd (omega arith))
   leap_fills (suc m) out c i rest w h8 d j t p =
       go (λ f g. leap_fills m out (after c) (behind n i c) rest f (omega arith) g j t) (ltb i n) refl p
     where
       go : (Filling rlgr3 n B out (after c) (behind n i c) → drop (c.at + 1) B ≡ replicate m false ++ rest →
-          leap_of m n (behind n i c) (after c) ≡ Jump j t → Leapt m out (behind n i c) j t) →
-          (b : Bool) → ltb i n ≡ b → (b ⇒ leap_of m n (behind n i c) (after c) ∣ Jump i c) ≡ Jump j t → Leapt (suc m) out i j t
+          leap_of m n (behind n i c) (after c) ≡ (j, t) → Leapt m out (behind n i c) j t) →
+          (b : Bool) → ltb i n ≡ b → (b ⇒ leap_of m n (behind n i c) (after c) ∣ (i, c)) ≡ (j, t) → Leapt (suc m) out i j t
       go ih true e q =
           let h : i < n = ltb-true i n e in
           let x = Zeros (2 ^ (c.kp / 8)) (after c) in
-          let f : elem_of rlgr3 c.kp c.krp (n - i) c.at B ≡ x =
+          let f : elem_of rlgr3 c.kp c.krp (n - i) c.at B ≡ Ok x =
           elem_full c.kp c.krp (n - i) c.at B (replicate m false ++ rest) rlgr3 h8 d in
-          let a : Filling rlgr3 n B out (after c) (behind n i c) × (i < behind n i c) =
-          filling_next rlgr3 n B out c i w h x (sym f) (behind n i c) (after c) refl in
+          let a : Filling rlgr3 n B out (after c) (behind n i c) × (i < behind n i c) = filling_next rlgr3 n B out c i w h x (sym f) in
           let r = ih a.0 (past c.at B (false ∷ []) (replicate m false ++ rest) d) q in
           (r.0, omega (arith, a.1, r.1), λ z l. omega (arith, a.1, r.1))
       go ih false e q =
@@ -160,15 +159,15 @@ module _ (rlgr3 : Bool) (n : ℕ) (B : List Bool) where
           (rw (← jump_j q, ← jump_s q) w, omega (arith, jump_j q), λ z l. absurd (omega arith))
 
 -- where full runs lead: still in run mode, and all m are taken unless the list is full
-pub leap_state : (m n i : ℕ) (c : State) (j : ℕ) (t : State) → leap_of m n i c ≡ Jump j t → 8 ≤ c.kp → c.kp ≤ 80 → c.krp ≤ 80 →
+pub leap_state : (m n i : ℕ) (c : State) (j : ℕ) (t : State) → leap_of m n i c ≡ (j, t) → 8 ≤ c.kp → c.kp ≤ 80 → c.krp ≤ 80 →
     (8 ≤ t.kp) × (t.kp ≤ 80) × (t.krp ≤ 80) × (j < n → t.at ≡ c.at + m)
 unfolding leap_of
 leap_state zero n i c j t p h l k =
     rw (← jump_s p) (h, l, k, λ x. omega arith)
 leap_state (suc m) n i c j t p h l k = go (ltb i n) refl p (λ q. leap_state m n (behind n i c) (after c) j t q (omega arith) (omega arith) k)
   where
-    go : (b : Bool) → ltb i n ≡ b → (b ⇒ leap_of m n (behind n i c) (after c) ∣ Jump i c) ≡ Jump j t →
-        (leap_of m n (behind n i c) (after c) ≡ Jump j t → (8 ≤ t.kp) × (t.kp ≤ 80) × (t.krp ≤ 80) × (j < n → t.at ≡ c.at + 1 + m)) →
+    go : (b : Bool) → ltb i n ≡ b → (b ⇒ leap_of m n (behind n i c) (after c) ∣ (i, c)) ≡ (j, t) →
+        (leap_of m n (behind n i c) (after c) ≡ (j, t) → (8 ≤ t.kp) × (t.kp ≤ 80) × (t.krp ≤ 80) × (j < n → t.at ≡ c.at + 1 + m)) →
         (8 ≤ t.kp) × (t.kp ≤ 80) × (t.krp ≤ 80) × (j < n → t.at ≡ c.at + suc m)
     go true e q ih = let r = ih q in (r.0, r.1, r.2, λ x. omega (arith, r.3 x))
     go false e q ih =
@@ -177,16 +176,6 @@ leap_state (suc m) n i c j t p h l k = go (ltb i n) refl p (λ q. leap_state m n
         let d = jump_j q in
         rw (← s) (h, l, k, λ x. absurd (omega (arith, d)))
 
-leap_is : (m n i : ℕ) (c : State) → (j : ℕ) × (t : State) × (leap_of m n i c ≡ Jump j t)
-unfolding leap_of
-leap_is zero n i c = (i, c, refl)
-leap_is (suc m) n i c = go (ltb i n) (leap_is m n (behind n i c) (after c))
-  where
-    go : (b : Bool) → ((j : ℕ) × (t : State) × (leap_of m n (behind n i c) (after c) ≡ Jump j t)) →
-        (j : ℕ) × (t : State) × ((b ⇒ leap_of m n (behind n i c) (after c) ∣ Jump i c) ≡ Jump j t)
-    go true r = r
-    go false r = (i, c, refl)
-
 -- the loop over full runs, in its own forms
 leap_more : (m n i at kp krp j q : ℕ) → 0 < m → i < n → j ≡ min n (i + 2 ^ (kp / 8)) → q ≡ raised 4 kp →
     leap_of m n i (state_at at kp krp) ≡ leap_of (m - 1) n j (state_at (at + 1) q krp)
@@ -194,7 +183,7 @@ unfolding leap_of
 leap_more zero n i at kp krp j q p h ej eq = absurd (omega arith)
 leap_more (suc m) n i at kp krp j q p h ej eq = let e : suc m - 1 ≡ m = omega arith in rw (lt-ltb i n h, e, ej, eq)
 
-leap_end : (m n i : ℕ) (c : State) → (0 < m → n ≤ i) → leap_of m n i c ≡ Jump i c
+leap_end : (m n i : ℕ) (c : State) → (0 < m → n ≤ i) → leap_of m n i c ≡ (i, c)
 unfolding leap_of
 leap_end zero n i c h = refl
 leap_end (suc m) n i c h = rw (le-ltb i n (h (omega arith)))
@@ -219,27 +208,27 @@ module _ (n i m at krp first kp j k : ℕ) (w : Leaping n i m at krp first kp j 
         same = rw (← a, ← b) (sym s ∙ w.same);
       }
 
-  pub leap_done : (k < m → n ≤ j) → Jump j (state_at (at + k) kp krp) ≡ leap_of m n i (state_at at first krp)
+  pub leap_done : (k < m → n ≤ j) → ◌≡◌ {A = ℕ × State} (j, state_at (at + k) kp krp) (leap_of m n i (state_at at first krp))
   leap_done h = sym (leap_end (m - k) n j (state_at (at + k) kp krp) (λ p. h (omega arith))) ∙ w.same
 
 -- ---- a turn in run mode
 
 -- w is the word at c, m the zeros that it begins with, and the runs lead to j and t
 pub record Led (B : List Bool) (c : State) (out : List ℤ) (i w m j : ℕ) (t : State) : Type 0 where
-  pub word : Got w (c.at + 57) ≡ num_of 57 0 c.at (drop c.at B)
+  pub word : got w (c.at + 57) ≡ num_of 57 0 c.at (drop c.at B)
   pub zeros : m ≡ front_zeros (num_bits 57 w)
-  pub runs : leap_of m (length out) i c ≡ Jump j t
+  pub runs : leap_of m (length out) i c ≡ (j, t)
   pub worded : Worded w out c i
   pub high : 8 ≤ c.kp
 
 -- in the forms that the code has
-pub led_by : (B : List Bool) (c : State) (out : List ℤ) (i w m j : ℕ) (t : State) (q : Quick) → Worded w out c i × (8 ≤ c.kp) →
-    m ≡ front_zeros (num_bits 57 w) → q ≡ leap_of m (length out) i c → q ≡ Jump j t → Got w (c.at + 57) ≡ num_of 57 0 c.at (drop c.at B) →
-    Led B c out i w m j t
-led_by B c out i w m j t q p z e g word = record { word = word; zeros = z; runs = sym e ∙ g; worded = p.0; high = p.1 }
+pub led_by : (B : List Bool) (c : State) (out : List ℤ) (i w m : ℕ) (p : ℕ × State) → Worded w out c i × (8 ≤ c.kp) →
+    m ≡ front_zeros (num_bits 57 w) → p ≡ leap_of m (length out) i c → got w (c.at + 57) ≡ num_of 57 0 c.at (drop c.at B) →
+    Led B c out i w m p.0 p.1
+led_by B c out i w m p q z e word = record { word = word; zeros = z; runs = sym e; worded = q.0; high = q.1 }
 
 -- filled on in whichever mode it is being filled
-abbrev Either : List Bool → State → ℕ → List ℤ → List ℤ → Quick → Type 0
+abbrev Either : List Bool → State → ℕ → List ℤ → List ℤ → Option (ℕ × State) → Type 0
 Either B c i out new r = (rlgr3 : Bool) → Filling rlgr3 (length out) B out c i → Quickly rlgr3 B i out new r
 
 module _ (B : List Bool) (c : State) (out : List ℤ) (i w m j : ℕ) (t : State) (l : Led B c out i w m j t) where
@@ -258,41 +247,37 @@ module _ (B : List Bool) (c : State) (out : List ℤ) (i w m j : ℕ) (t : State
   led_none z = jump_j (sym (ap (λ (x : ℕ). leap_of x (length out) i c) z) ∙ l.runs)
 
   -- the runs alone, where there are any
-  pub led_some : 0 < m → (new : List ℤ) → new ≡ out → Either B c i out new (Jump j t)
+  pub led_some : 0 < m → (new : List ℤ) → new ≡ out → Either B c i out new (jump j t)
   led_some p new e rlgr3 f = let r = led_fills rlgr3 f in rw e (r.0, r.2 p l.worded.room)
 
   -- the list is full
-  pub led_full : length out ≤ j → Either B c i out out (Jump j t)
+  pub led_full : length out ≤ j → Either B c i out out (jump j t)
   led_full h = led_some (pos_of m (λ z. absurd (omega (arith, led_none z, l.worded.room)))) out refl
 
   -- the value behind them
-  pub led_value : j < length out → m < 57 → (new : List ℤ) (r : Quick) → Stored w m c.at t j out new r → (k : ℕ) (u : State) → r ≡ Jump k u →
-      Either B c i out new (Jump k u)
-  led_value h hm new r v k u g rlgr3 f =
-      let a = led_fills rlgr3 f in
-      let s = led_state in
-      let e = value_of w m t (length out - j) in
-      let q : e ≡ elem_of rlgr3 t.kp t.krp (length out - j) m (num_bits 57 w) =
-      sym (elem_high rlgr3 t.kp t.krp (length out - j) m (num_bits 57 w) s.0) in
-      let y = word_quick rlgr3 B out t j c.at m w e l.word (omega arith) (s.3 h) a.0 h q in
-      let y' : Quickly rlgr3 B j out new (onward_of c.at (placed_of (length out) j e)) = rw v.1 y in
-      let z : Quickly rlgr3 B j out new (Jump k u) = subst (λ (x : Quick). Quickly rlgr3 B j out new x) (sym v.0 ∙ g) y' in
-      (z.0, omega (arith, z.1, a.1))
+  module _ (hm : m < 57) (new : List ℤ) (r : Option (ℕ × State)) (v : Kept c.at j out new (value_of w m t (length out - j)) r) where
+    pub led_value : j < length out → (k : ℕ) (u : State) → r ≡ jump k u → Either B c i out new (jump k u)
+    led_value h k u g rlgr3 f =
+        let a = led_fills rlgr3 f in
+        let s = led_state in
+        let q : value_of w m t (length out - j) ≡ elem_of rlgr3 t.kp t.krp (length out - j) m (num_bits 57 w) =
+        sym (elem_high rlgr3 t.kp t.krp (length out - j) m (num_bits 57 w) s.0) in
+        let y = word_quick rlgr3 B out t j c.at m w _ l.word (omega arith) (s.3 h) a.0 h q new r v in
+        let z : Quickly rlgr3 B j out new (jump k u) = subst (λ (x : Option (ℕ × State)). Quickly rlgr3 B j out new x) g y in
+        (z.0, omega (arith, z.1, a.1))
 
-  pub led_not : m < 57 → (new : List ℤ) (r : Quick) → Stored w m c.at t j out new r → r ≡ Not → new ≡ out
-  led_not hm new r v g = v.1 ∙ stays (value_of w m t (length out - j)) (sym v.0 ∙ g)
-    where
-      stays : (e : Element) → onward_of c.at (placed_of (length out) j e) ≡ Not → stored_of out j e ≡ out
-      stays (Refused x) p = refl
-      stays (Zeros z s) p = let z : ◌≡◌ {A = ℕ} 0 1 = cc in absurd (omega arith)
-      stays (One z v s) p = let z : ◌≡◌ {A = ℕ} 0 1 = cc in absurd (omega arith)
-      stays (Two a b s) p = let z : ◌≡◌ {A = ℕ} 0 1 = cc in absurd (omega arith)
+    pub led_not : r ≡ None → new ≡ out
+    led_not g = stays (value_of w m t (length out - j)) v
+      where
+        stays : (x : Result Element Refusal) → Kept c.at j out new x r → new ≡ out
+        stays (Err q) k = k.1
+        stays (Ok e) k = let z : ◌≡◌ {A = ℕ} 0 1 = cc k.0 in absurd (omega arith)
 
 -- ---- a turn by a word, for the loop
 
 -- the word that was looked at
 pub worded_of : (rlgr3 : Bool) (s : List ℕ) (out : List ℤ) (c : State) (i w : ℕ) → Open rlgr3 s out c i → c.at / 8 + 8 ≤ length s →
-    Got w (c.at + 57) ≡ num_of 57 0 c.at (drop c.at (bits_of s)) → Worded w out c i
+    got w (c.at + 57) ≡ num_of 57 0 c.at (drop c.at (bits_of s)) → Worded w out c i
 worded_of rlgr3 s out c i w o h l = record {
   small = word_small w c.at (bits_of s) l;
   places = o.1;
@@ -302,25 +287,25 @@ worded_of rlgr3 s out c i w o h l = record {
   place = omega (arith, o.0);
 }
 
-module _ (rlgr3 : Bool) (B : List Bool) (out : List ℤ) (c : State) (i : ℕ) (n : ℕ) (new : List ℤ) (r : Quick) (w : Filling rlgr3 n B out c i)
+module _ (rlgr3 : Bool) (B : List Bool) (out : List ℤ) (c : State) (i : ℕ) (n : ℕ) (new : List ℤ) (r : Option (ℕ × State)) (w : Filling rlgr3 n B out c i)
     (q : Quickly rlgr3 B i out new r) where
-  pub quick_next : (j : ℕ) (s : State) → r ≡ Jump j s → Filling rlgr3 n B new s j × (i < j)
+  pub quick_next : (j : ℕ) (s : State) → r ≡ jump j s → Filling rlgr3 n B new s j × (i < j)
   quick_next j s g =
-      let k : Quickly rlgr3 B i out new (Jump j s) = rw g at q in
+      let k : Quickly rlgr3 B i out new (jump j s) = rw g at q in
       let e : n ≡ length out = sym w.clear.len in
       rw e k
 
-  pub quick_same : r ≡ Not → Filling rlgr3 n B new c i
-  quick_same g = let k : Quickly rlgr3 B i out new Not = rw g at q in rw k w
+  pub quick_same : r ≡ None → Filling rlgr3 n B new c i
+  quick_same g = let k : Quickly rlgr3 B i out new None = rw g at q in rw k w
 
 -- the list's length stands for n
 pub filling_long : (rlgr3 : Bool) (n : ℕ) (B : List Bool) (out : List ℤ) (c : State) (i : ℕ) → Filling rlgr3 n B out c i → Filling rlgr3 (length out) B out c i
 filling_long rlgr3 n B out c i w = rw w.clear.len w
 
 -- what turns by words led to
-module _ (rlgr3 : Bool) (B : List Bool) (n i : ℕ) (out new : List ℤ) (r : Reach) (e : length out ≡ n) (q : Rushed rlgr3 B (length out) i new r) where
-  pub rush_full : (at : ℕ) → r ≡ Full at → Fills (read_list rlgr3 n B) new (Whole at)
-  rush_full at g = let k : Rushed rlgr3 B (length out) i new (Full at) = rw g at q in rw (← e) k
+module _ (rlgr3 : Bool) (B : List Bool) (n i : ℕ) (out new : List ℤ) (p : ℕ × State) (e : length out ≡ n) (q : Rushed rlgr3 B (length out) i new p) where
+  pub rush_on : Filling rlgr3 n B new p.1 p.0 × (i ≤ p.0)
+  rush_on = rw (← e) q
 
-  pub rush_stuck : (j : ℕ) (t : State) → r ≡ Stuck j t → Filling rlgr3 n B new t j × (i ≤ j) × (j < n)
-  rush_stuck j t g = let k : Rushed rlgr3 B (length out) i new (Stuck j t) = rw g at q in rw (← e) k
+  pub rush_full : n ≤ p.0 → Fills (read_list rlgr3 n B) new (Ok p.1.at)
+  rush_full h = filling_end rlgr3 n B new p.1 p.0 h rush_on.0

@@ -1,5 +1,7 @@
 -- Laws of the component reader: its tail, its ways out, and what an answer 0 gives.
 -- (01 is this project's scope document, 02 its change requests, 001 is MS-RDPRFX: README, "What 01 is".)
+use Rattle.std.specs.Prelude.{Result, Ok, Err}
+use Rattle.std.specs.Prelude.{Option, None}
 use Rattle.std.specs.Prelude.{ℕ, zero, suc, ◌+◌, ◌*◌, ◌-◌, ◌≤◌, ◌≡◌, Bool, true, false, ◌&&◌, List, [], ◌∷◌, map, leb, eqb, ℤ, pos, length, drop, get_or}
 use Rattle.std.specs.Prelude.{replicate}
 use Rattle.std.proofs.Math.Path.{refl, sym, ap}
@@ -10,23 +12,20 @@ use Rattle.whole.specs.laws.Near.{Near}
 use Rattle.whole.specs.laws.Tab.{AllNear}
 use Rattle.whole.specs.Row.{◌!◌⨾◌}
 use Rattle.whole.specs.laws.Row.{held, passes, fails}
-use Rattle.bits.specs.Bits.{bits_of, num_of, val}
+use Rattle.bits.specs.Bits.{got, bits_of, num_of, val}
 use Rattle.bits.specs.laws.Bit.{length_bits_of, got_v}
-use Rattle.bits.specs.declared.Num.{Num}
-use Rattle.bits.specs.declared.Num.TheVariants.{Got, Cut}
 use Rattle.wire.specs.Mode.{is_mode}
 use Rattle.code.specs.Fold.{unfold_z, unfold_by}
 use Rattle.code.specs.laws.Fold.{fold_unfold, fold_near}
 use Rattle.code.specs.Code.{code_of, InRange}
-use Rattle.code.specs.ReadList.{Walked, whole, bad, read_list, refusal_number}
+use Rattle.code.specs.ReadList.{Walked, whole, bad, read_list}
 use Rattle.code.specs.laws.List.{taken, Taken}
-use Rattle.code.specs.declared.element.Refusal.{Refusal}
-use Rattle.code.specs.declared.element.Refusal.TheVariants.{Cut as Short, Range, Overrun}
+use Rattle.wire.specs.declared.Refusal.{Refusal}
+use Rattle.wire.specs.Refusal.{refusal_number, refusal_of}
+use Rattle.wire.specs.laws.Refusal.{refusal_back, number_pos}
 use Rattle.code.specs.Fill.{Fills}
 use Rattle.code.specs.Read.{reading_number, reading_bits, no_ones, clean, end_reading, end_list, code_reading, code_list, shell_fault, after_shell, reading}
 use Rattle.code.specs.Read.{read_fault, read_bits, decoded, read_into, CodeRead, ComponentRead}
-use Rattle.code.specs.declared.read.Filled.{Filled}
-use Rattle.code.specs.declared.read.Filled.TheVariants.{Whole, Bad}
 use Rattle.code.specs.declared.read.Reading.{Reading}
 use Rattle.code.specs.declared.read.Reading.TheVariants.{Done, Tail, Refused}
 
@@ -37,7 +36,7 @@ and_false true = refl
 and_false false = refl
 
 -- the number that the last bits make is 0 exactly if none of them is 1
-ones_num : (k acc at : ℕ) (bs : List Bool) (v next : ℕ) → length bs ≡ k → num_of k acc at bs ≡ Got v next → (eqb acc 0 && no_ones bs) ≡ eqb v 0
+ones_num : (k acc at : ℕ) (bs : List Bool) (v next : ℕ) → length bs ≡ k → num_of k acc at bs ≡ got v next → (eqb acc 0 && no_ones bs) ≡ eqb v 0
 unfolding num_of no_ones
 ones_num zero acc at [] v next l e = go acc ∙ ap (λ (n : ℕ). eqb n 0) (got_v e)
   where
@@ -52,7 +51,7 @@ ones_num (suc k) zero at (false ∷ bs) v next l e = ones_num k 0 (at + 1) bs v 
 ones_num (suc k) (suc acc) at (false ∷ bs) v next l e = ap (λ (b : Bool). b && no_ones bs) (ne_eqb (suc acc) 0 (λ q. omega arith))
     ∙ sym (ap (λ (b : Bool). b && no_ones bs) (ne_eqb (suc acc * 2 + 0) 0 (λ q. omega arith))) ∙ ones_num k (suc acc * 2 + 0) (at + 1) bs v next (omega arith) e
 
-num_all : (k acc at : ℕ) (bs : List Bool) → length bs ≡ k → num_of k acc at bs ≡ Cut → ⊥
+num_all : (k acc at : ℕ) (bs : List Bool) → length bs ≡ k → num_of k acc at bs ≡ None → ⊥
 unfolding num_of
 num_all zero acc at bs l e = let z : ◌≡◌ {A = ℕ} 0 1 = cc in omega arith
 num_all (suc k) acc at [] l e = omega arith
@@ -66,10 +65,10 @@ module _ (s : List ℕ) (at : ℕ) (h : at ≤ length s * 8) where
   unfolding clean ◌!◌⨾◌
   tail_long l = rw (le-ltb (length (drop at (bits_of s))) 8 (omega (arith, left_is)))
 
-  pub tail_cut : (r : Num) → r ≡ num_of (length s * 8 - at) 0 at (drop at (bits_of s)) → r ≡ Cut → false ≡ clean (drop at (bits_of s))
+  pub tail_cut : (r : Option (ℕ × ℕ)) → r ≡ num_of (length s * 8 - at) 0 at (drop at (bits_of s)) → r ≡ None → false ≡ clean (drop at (bits_of s))
   tail_cut r e c = absurd (num_all (length s * 8 - at) 0 at (drop at (bits_of s)) left_is (sym e ∙ c))
 
-  pub tail_got : (r : Num) (v next : ℕ) → (8 ≤ length s * 8 - at → ⊥) → r ≡ num_of (length s * 8 - at) 0 at (drop at (bits_of s)) → r ≡ Got v next →
+  pub tail_got : (r : Option (ℕ × ℕ)) (v next : ℕ) → (8 ≤ length s * 8 - at → ⊥) → r ≡ num_of (length s * 8 - at) 0 at (drop at (bits_of s)) → r ≡ got v next →
       eqb v 0 ≡ clean (drop at (bits_of s))
   unfolding clean ◌!◌⨾◌
   tail_got r v next l e g =
@@ -78,41 +77,36 @@ module _ (s : List ℕ) (at : ℕ) (h : at ≤ length s * 8) where
 
 -- ---- a code and its tail, by what filling said
 
-filled_bad : (w : Walked) (out : List ℤ) (f : Filled) (q : Refusal) → Fills w out f → f ≡ Bad q → w ≡ bad q
+filled_bad : (w : Walked) (out : List ℤ) (f : Result ℕ Refusal) (q : Refusal) → Fills w out f → f ≡ Err q → w ≡ bad q
 filled_bad (whole xs at) out f q h g = let z : ◌≡◌ {A = ℕ} 0 1 = cc h.1 in absurd (omega arith)
 filled_bad (bad m) out f q h g = cc
 
-filled_whole : (w : Walked) (out : List ℤ) (f : Filled) (at : ℕ) → Fills w out f → f ≡ Whole at → (xs : List ℕ) × (w ≡ whole xs at) × (out ≡ map unfold_z xs)
+filled_whole : (w : Walked) (out : List ℤ) (f : Result ℕ Refusal) (at : ℕ) → Fills w out f → f ≡ Ok at →
+    (xs : List ℕ) × (w ≡ whole xs at) × (out ≡ map unfold_z xs)
 filled_whole (whole xs a) out f at h g = (xs, cc h.1, h.0)
 filled_whole (bad m) out f at h g = let z : ◌≡◌ {A = ℕ} 0 1 = cc in absurd (omega arith)
 
 refusal_some : (q : Refusal) → 0 ≡ refusal_number q → ⊥
-unfolding refusal_number
-refusal_some Short e = omega arith
-refusal_some Range e = omega arith
-refusal_some Overrun e = omega arith
+refusal_some q e = number_pos q (sym e)
 
-module _ (rlgr3 : Bool) (s : List ℕ) (out : List ℤ) (f : Filled) (h : Fills (read_list rlgr3 4096 (bits_of s)) out f) where
-  bad_is : (q : Refusal) → f ≡ Bad q → read_list rlgr3 4096 (bits_of s) ≡ bad q
+module _ (rlgr3 : Bool) (s : List ℕ) (out : List ℤ) (f : Result ℕ Refusal) (h : Fills (read_list rlgr3 4096 (bits_of s)) out f) where
+  bad_is : (q : Refusal) → f ≡ Err q → read_list rlgr3 4096 (bits_of s) ≡ bad q
   bad_is q g = filled_bad (read_list rlgr3 4096 (bits_of s)) out f q h g
 
-  whole_is : (at : ℕ) → f ≡ Whole at → (xs : List ℕ) × (read_list rlgr3 4096 (bits_of s) ≡ whole xs at) × (out ≡ map unfold_z xs)
+  whole_is : (at : ℕ) → f ≡ Ok at → (xs : List ℕ) × (read_list rlgr3 4096 (bits_of s) ≡ whole xs at) × (out ≡ map unfold_z xs)
   whole_is at g = filled_whole (read_list rlgr3 4096 (bits_of s)) out f at h g
 
-  pub whole_fits : (at : ℕ) → f ≡ Whole at → at ≤ length s * 8
+  pub whole_fits : (at : ℕ) → f ≡ Ok at → at ≤ length s * 8
   whole_fits at g =
       let w = whole_is at g in
       let t = taken rlgr3 4096 (bits_of s) w.0 at w.1 in
       omega (arith, ap length t.bits, t.place, length-append (code_of rlgr3 w.0) (drop at (bits_of s)), length_bits_of s)
 
-  pub code_bad : (q : Refusal) (m : ℕ) → f ≡ Bad q → m ≡ refusal_number q → CodeRead rlgr3 s out (Refused m)
+  pub code_bad : (q : Refusal) → f ≡ Err q → CodeRead rlgr3 s out (Refused q)
   unfolding code_reading end_reading reading_number
-  code_bad q m g p = record {
-    answer = ap Refused p ∙ sym (ap (end_reading (bits_of s)) (bad_is q g));
-    list = λ z. absurd (refusal_some q (sym z ∙ p));
-  }
+  code_bad q g = record { answer = sym (ap (end_reading (bits_of s)) (bad_is q g)); list = λ z. absurd (refusal_some q (sym z)) }
 
-  pub code_done : (at : ℕ) → f ≡ Whole at → clean (drop at (bits_of s)) ≡ true → CodeRead rlgr3 s out (Done at)
+  pub code_done : (at : ℕ) → f ≡ Ok at → clean (drop at (bits_of s)) ≡ true → CodeRead rlgr3 s out (Done at)
   unfolding code_reading code_list end_reading end_list
   code_done at g p =
       let w = whole_is at g in
@@ -121,7 +115,7 @@ module _ (rlgr3 : Bool) (s : List ℕ) (out : List ℤ) (f : Filled) (h : Fills 
         list = λ z. passes _ _ _ _ p w.2 ∙ sym (ap (end_list (bits_of s)) w.1);
       }
 
-  pub code_tail : (at : ℕ) → f ≡ Whole at → clean (drop at (bits_of s)) ≡ false → CodeRead rlgr3 s out (Tail at)
+  pub code_tail : (at : ℕ) → f ≡ Ok at → clean (drop at (bits_of s)) ≡ false → CodeRead rlgr3 s out (Tail at)
   unfolding code_reading end_reading reading_number
   code_tail at g p =
       let w = whole_is at g in
@@ -159,40 +153,38 @@ refused_zeros : (rlgr3 : Bool) (s : List ℕ) → (reading_number (code_reading 
 unfolding code_reading code_list
 refused_zeros rlgr3 s h = end_zeros (bits_of s) (read_list rlgr3 4096 (bits_of s)) h
 
-shell_stops : (f : ℕ) (r : Reading) → (f ≡ 0 → ⊥) → Refused f ≡ after_shell f r
+shell_stops : (f : ℕ) (q : Refusal) (r : Reading) → refusal_number q ≡ f → Refused q ≡ after_shell f r
 unfolding after_shell
-shell_stops zero r h = absurd (h refl)
-shell_stops (suc f) r h = refl
+shell_stops zero q r e = absurd (number_pos q e)
+shell_stops (suc f) q r e = ap Refused (sym (refusal_back q) ∙ ap refusal_of e)
 
 pub shell_goes : (f : ℕ) (r : Reading) → f ≡ 0 → r ≡ after_shell f r
 unfolding after_shell
 shell_goes zero r h = refl
 shell_goes (suc f) r h = absurd (omega arith)
 
-module _ (mode : ℕ) (s : List ℕ) (before : List ℤ) (f : ℕ) (e : f ≡ shell_fault mode (length before) (length s)) where
-  pub shell_refused : (f ≡ 0 → ⊥) → ComponentRead mode s before before (Refused f)
+module _ (mode : ℕ) (s : List ℕ) (before : List ℤ) where
+  pub shell_refused : (q : Refusal) → refusal_number q ≡ shell_fault mode (length before) (length s) → ComponentRead mode s before before (Refused q)
   unfolding reading read_into
-  shell_refused h = record {
-    answer = shell_stops f (code_reading (eqb mode 4) s) h ∙ ap (λ (n : ℕ). after_shell n (code_reading (eqb mode 4) s)) e;
-    list = fails _ _ _ _ (ne_eqb _ 0 (λ z. h (e ∙ z))) refl;
-  }
+  shell_refused q e =
+      record { answer = shell_stops _ q (code_reading (eqb mode 4) s) e; list = fails _ _ _ _ (ne_eqb _ 0 (λ z. number_pos q (e ∙ z))) refl }
 
-  module _ (z : f ≡ 0) (mid after : List ℤ) (r : Reading) (c : CodeRead (eqb mode 4) s mid r) where
+  module _ (e : 0 ≡ shell_fault mode (length before) (length s)) (mid after : List ℤ) (r : Reading) (c : CodeRead (eqb mode 4) s mid r) where
     answer_is : r ≡ reading mode (length before) s
     unfolding reading
-    answer_is = c.answer ∙ shell_goes (shell_fault mode (length before) (length s)) (code_reading (eqb mode 4) s) (sym e ∙ z)
+    answer_is = c.answer ∙ shell_goes (shell_fault mode (length before) (length s)) (code_reading (eqb mode 4) s) (sym e)
 
     -- the code was taken
     pub code_taken : reading_number r ≡ 0 → ComponentRead mode s before mid r
     unfolding read_into decoded
-    code_taken h = record { answer = answer_is; list = passes _ _ _ _ (eq-eqb _ 0 (sym e ∙ z)) (c.list h) }
+    code_taken h = record { answer = answer_is; list = passes _ _ _ _ (eq-eqb _ 0 (sym e)) (c.list h) }
 
     -- it was refused, and the list cleared again
     pub code_refused : (reading_number r ≡ 0 → ⊥) → after ≡ replicate 4096 (pos 0) → ComponentRead mode s before after r
     unfolding read_into decoded
     code_refused h a = record {
       answer = answer_is;
-      list = passes _ _ _ _ (eq-eqb _ 0 (sym e ∙ z)) (a ∙ sym (refused_zeros (eqb mode 4) s (λ q. h (ap reading_number c.answer ∙ q))));
+      list = passes _ _ _ _ (eq-eqb _ 0 (sym e)) (a ∙ sym (refused_zeros (eqb mode 4) s (λ q. h (ap reading_number c.answer ∙ q))));
     }
 
 -- the number and the bits of what the reader answers
@@ -219,7 +211,7 @@ pub record Accepted (mode n : ℕ) (s : List ℕ) : Type 0 where
 number_split : (f : ℕ) (r : Reading) → 0 ≡ reading_number (after_shell f r) → (0 ≡ f) × (0 ≡ reading_number r)
 unfolding after_shell reading_number
 number_split zero r e = (refl, e)
-number_split (suc f) r e = absurd (omega arith)
+number_split (suc f) r e = absurd (refusal_some (refusal_of (suc f)) e)
 
 walk_split : (B : List Bool) (w : Walked) → 0 ≡ reading_number (end_reading B w) → (xs : List ℕ) × (at : ℕ) × (w ≡ whole xs at) × (clean (drop at B) ≡ true)
 unfolding end_reading reading_number ◌!◌⨾◌
@@ -276,8 +268,8 @@ into_decoded mode s before e = sym (passes _ _ _ _ (eq-eqb _ 0 (sym (accepted mo
 
 -- 02, request Eight: "Show that after a passed check it can't be taken"
 pub checked_whole :
-    (mode : ℕ) (s : List ℕ) (out : List ℤ) (f : Filled) → 0 ≡ read_fault mode 4096 s → Fills (read_list (eqb mode 4) 4096 (bits_of s)) out f →
-    (at : ℕ) × (f ≡ Whole at) × (out ≡ decoded mode s)
+    (mode : ℕ) (s : List ℕ) (out : List ℤ) (f : Result ℕ Refusal) → 0 ≡ read_fault mode 4096 s → Fills (read_list (eqb mode 4) 4096 (bits_of s)) out f →
+    (at : ℕ) × (f ≡ Ok at) × (out ≡ decoded mode s)
 checked_whole mode s out f e h =
     let a = accepted mode 4096 s e in
     let p = subst (λ (x : Walked). Fills x out f) a.walked h in

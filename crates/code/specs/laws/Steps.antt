@@ -1,17 +1,17 @@
 -- The running parameters in the forms the code has.
+use Rattle.std.specs.Prelude.{Ok, Err}
+use Rattle.std.specs.Prelude.{Option, None}
 use Rattle.std.specs.Prelude.{ℕ, zero, suc, ◌+◌, ◌*◌, ◌-◌, ◌/◌, ◌^◌, ◌≤◌, ◌<◌, min, ◌≡◌, refl, Bool, true, false, List, drop}
 use Rattle.std.proofs.Common.{arith, pow-suc, lt-ltb, le-ltb, le-leb}
 use Rattle.std.specs.Int.Count.{count_leading_zeros}
 use Rattle.std.proofs.lemmas.Bool.{lt-leb}
-use Rattle.bits.specs.Bits.{num_of, gr_of}
-use Rattle.bits.specs.declared.Num.{Num}
-use Rattle.bits.specs.declared.Num.TheVariants.{Got, Cut}
+use Rattle.bits.specs.Bits.{got, num_of, gr_of}
 use Rattle.whole.specs.Row.{◌⇒◌∣◌}
 use Rattle.code.specs.Code.{kr_next, kr_after, kp_one, kp_two, raised, size, size_f}
 use Rattle.code.specs.ReadList.{state_at, one_elem, two_elem, judge_two, run_elem, run_first, judge_run, elem_of}
 use Rattle.code.specs.laws.There.{lone_not}
-use Rattle.code.specs.declared.element.Refusal.TheVariants.{Cut as Short, Range, Overrun}
-use Rattle.code.specs.declared.element.Element.TheVariants.{Zeros, One, Two, Refused}
+use Rattle.wire.specs.declared.Refusal.TheVariants.{Cut, Range, Overrun}
+use Rattle.code.specs.declared.element.Element.TheVariants.{One, Two}
 
 pub kr_none : (krp v : ℕ) → v ≡ 0 → kr_next krp v ≡ krp - 2
 unfolding kr_next
@@ -79,51 +79,35 @@ kp_11 kp (suc a) (suc b) e f = refl
 
 -- ---- an element by what its parts read, in plain variables: one lemma for each return of the code
 
-pub one_cut : (kp krp : ℕ) (n : Num) → n ≡ Cut → one_elem kp krp n ≡ Refused Short
-one_cut kp krp n e = rw e
-
-pub one_wide : (kp krp : ℕ) (n : Num) (g next : ℕ) → n ≡ Got g next → 65534 < g → one_elem kp krp n ≡ Refused Range
+pub one_wide : (kp krp : ℕ) (n : Option (ℕ × ℕ)) (g next : ℕ) → n ≡ got g next → 65534 < g → one_elem kp krp n ≡ Err Range
 unfolding ◌⇒◌∣◌
 one_wide kp krp n g next e h = rw (e, lt-ltb 65534 g h)
 
 pub one_ok :
-    (kp krp : ℕ) (n : Num) (g next q r : ℕ) → n ≡ Got g next → g ≤ 65534 → q ≡ kp_one kp g → r ≡ kr_after krp g →
-    one_elem kp krp n ≡ One 0 g (state_at next q r)
+    (kp krp : ℕ) (n : Option (ℕ × ℕ)) (g next q r : ℕ) → n ≡ got g next → g ≤ 65534 → q ≡ kp_one kp g → r ≡ kr_after krp g →
+    one_elem kp krp n ≡ Ok (One 0 g (state_at next q r))
 unfolding ◌⇒◌∣◌
 one_ok kp krp n g next q r e h p s = rw (e, le-ltb 65534 g h, p, s)
 
-pub two_cut : (kp krp left : ℕ) (B : List Bool) (n : Num) → n ≡ Cut → two_elem kp krp left B n ≡ Refused Short
-two_cut kp krp left B n e = rw e
-
-pub two_cut_low :
-    (kp krp left : ℕ) (B : List Bool) (n : Num) (g mid k : ℕ) → n ≡ Got g mid → k ≡ size g → num_of k 0 mid (drop mid B) ≡ Cut →
-    two_elem kp krp left B n ≡ Refused Short
-two_cut_low kp krp left B n g mid k e ek f = rw (e, ← ek, f)
-
-pub two_got :
-    (kp krp left : ℕ) (B : List Bool) (n : Num) (g mid k a next : ℕ) → n ≡ Got g mid → k ≡ size g → num_of k 0 mid (drop mid B) ≡ Got a next →
-    two_elem kp krp left B n ≡ judge_two kp krp left g a next
-two_got kp krp left B n g mid k a next e ek f = rw (e, ← ek, f)
-
-pub judge_above : (kp krp left g a next : ℕ) → g < a → judge_two kp krp left g a next ≡ Refused Range
+pub judge_above : (kp krp left g a next : ℕ) → g < a → judge_two kp krp left g a next ≡ Err Range
 unfolding ◌⇒◌∣◌
 judge_above kp krp left g a next h = rw (lt-ltb g a h)
 
-pub judge_first : (kp krp left g a next : ℕ) → a ≤ g → 65534 < a → judge_two kp krp left g a next ≡ Refused Range
+pub judge_first : (kp krp left g a next : ℕ) → a ≤ g → 65534 < a → judge_two kp krp left g a next ≡ Err Range
 unfolding ◌⇒◌∣◌
 judge_first kp krp left g a next h w = rw (le-ltb g a h, lt-ltb 65534 a w)
 
-pub judge_second : (kp krp left g a next : ℕ) → a ≤ g → a ≤ 65534 → 65534 < g - a → judge_two kp krp left g a next ≡ Refused Range
+pub judge_second : (kp krp left g a next : ℕ) → a ≤ g → a ≤ 65534 → 65534 < g - a → judge_two kp krp left g a next ≡ Err Range
 unfolding ◌⇒◌∣◌
 judge_second kp krp left g a next h v w = rw (le-ltb g a h, le-ltb 65534 a v, lt-ltb 65534 (g - a) w)
 
-pub judge_lone : (kp krp left g a next : ℕ) → a ≤ g → a ≤ 65534 → g - a ≤ 65534 → left < 2 → 0 < g - a → judge_two kp krp left g a next ≡ Refused Overrun
+pub judge_lone : (kp krp left g a next : ℕ) → a ≤ g → a ≤ 65534 → g - a ≤ 65534 → left < 2 → 0 < g - a → judge_two kp krp left g a next ≡ Err Overrun
 unfolding ◌⇒◌∣◌
 judge_lone kp krp left g a next h v w l p = rw (le-ltb g a h, le-ltb 65534 a v, le-ltb 65534 (g - a) w, lt-ltb left 2 l, lt-ltb 0 (g - a) p)
 
 pub judge-pair :
     (kp krp left g a next q r : ℕ) → a ≤ g → a ≤ 65534 → g - a ≤ 65534 → (left < 2 → g - a ≡ 0) → q ≡ kp_two kp a (g - a) → r ≡ kr_after krp g →
-    judge_two kp krp left g a next ≡ Two a (g - a) (state_at next q r)
+    judge_two kp krp left g a next ≡ Ok (Two a (g - a) (state_at next q r))
 unfolding ◌⇒◌∣◌
 judge-pair kp krp left g a next q r h v w l p s = rw (le-ltb g a h, le-ltb 65534 a v, le-ltb 65534 (g - a) w, lone_not left (g - a) l, p, s)
 
@@ -156,45 +140,38 @@ size_end (suc f) = refl
 -- ---- a run, part by part
 
 module _ (kp krp left : ℕ) (B : List Bool) where
-  pub run_cut : (n : Num) → n ≡ Cut → run_elem kp krp left B n ≡ Refused Short
-  run_cut n e = rw e
-
-  pub run_full :
-      (n : Num) (b next w q : ℕ) → n ≡ Got b next → b ≡ 0 → w ≡ 2 ^ (kp / 8) → q ≡ raised 4 kp → run_elem kp krp left B n ≡ Zeros w (state_at next q krp)
-  run_full n b next w q e z f g = rw (e, z, f, g)
-
-  pub run_some : (n : Num) (b next : ℕ) → n ≡ Got b next → (b ≡ 0 → ⊥) → run_elem kp krp left B n ≡ run_first kp krp left B
+  pub run_some : (n : Option (ℕ × ℕ)) (b next : ℕ) → n ≡ got b next → (b ≡ 0 → ⊥) → run_elem kp krp left B n ≡ run_first kp krp left B
       (num_of (kp / 8) 0 next (drop next B))
   run_some n zero next e z = absurd (z refl)
   run_some n (suc b) next e z = rw e
 
-  pub run1_cut : (n : Num) → n ≡ Cut → run_first kp krp left B n ≡ Refused Short
+  pub run1_cut : (n : Option (ℕ × ℕ)) → n ≡ None → run_first kp krp left B n ≡ Err Cut
   run1_cut n e = rw e
 
-  pub run2_cut : (n : Num) (z mid : ℕ) → n ≡ Got z mid → num_of 1 0 mid (drop mid B) ≡ Cut → run_first kp krp left B n ≡ Refused Short
+  pub run2_cut : (n : Option (ℕ × ℕ)) (z mid : ℕ) → n ≡ got z mid → num_of 1 0 mid (drop mid B) ≡ None → run_first kp krp left B n ≡ Err Cut
   run2_cut n z mid e f = rw (e, f)
 
   pub run3_cut :
-      (n : Num) (z mid s late : ℕ) → n ≡ Got z mid → num_of 1 0 mid (drop mid B) ≡ Got s late → gr_of (krp / 8) late B ≡ Cut →
-      run_first kp krp left B n ≡ Refused Short
+      (n : Option (ℕ × ℕ)) (z mid s late : ℕ) → n ≡ got z mid → num_of 1 0 mid (drop mid B) ≡ got s late → gr_of (krp / 8) late B ≡ None →
+      run_first kp krp left B n ≡ Err Cut
   run3_cut n z mid s late e f g = rw (e, f, g)
 
   pub run3_got :
-      (n : Num) (z mid s late g next : ℕ) → n ≡ Got z mid → num_of 1 0 mid (drop mid B) ≡ Got s late → gr_of (krp / 8) late B ≡ Got g next →
+      (n : Option (ℕ × ℕ)) (z mid s late g next : ℕ) → n ≡ got z mid → num_of 1 0 mid (drop mid B) ≡ got s late → gr_of (krp / 8) late B ≡ got g next →
       run_first kp krp left B n ≡ judge_run kp krp left z s g next
   run3_got n z mid s late g next e f h = rw (e, f, h)
 
-pub run_wide : (kp krp left z s g next : ℕ) → 32766 < g → judge_run kp krp left z s g next ≡ Refused Range
+pub run_wide : (kp krp left z s g next : ℕ) → 32766 < g → judge_run kp krp left z s g next ≡ Err Range
 unfolding ◌⇒◌∣◌
 run_wide kp krp left z s g next h = rw (lt-ltb 32766 g h)
 
-pub run_over : (kp krp left z s g next : ℕ) → g ≤ 32766 → left ≤ z → judge_run kp krp left z s g next ≡ Refused Overrun
+pub run_over : (kp krp left z s g next : ℕ) → g ≤ 32766 → left ≤ z → judge_run kp krp left z s g next ≡ Err Overrun
 unfolding ◌⇒◌∣◌
 run_over kp krp left z s g next h l = rw (le-ltb 32766 g h, le-leb left z l)
 
 pub run_one :
     (kp krp left z s g next q r : ℕ) → g ≤ 32766 → z < left → q ≡ kp - 6 → r ≡ kr_after krp g →
-    judge_run kp krp left z s g next ≡ One z (2 * (g + 1) - s) (state_at next q r)
+    judge_run kp krp left z s g next ≡ Ok (One z (2 * (g + 1) - s) (state_at next q r))
 unfolding ◌⇒◌∣◌
 run_one kp krp left z s g next q r h l p t = rw (le-ltb 32766 g h, lt-leb left z l, p, t)
 

@@ -1,4 +1,6 @@
 -- Whatever is taken is the code of the list handed back.
+use Rattle.std.specs.Prelude.{Result, Ok, Err}
+use Rattle.std.specs.Prelude.{Option, None}
 use Prim.Native.Nat.{ℕ, zero, suc, ◌+◌, ◌*◌, ◌-◌, ◌/◌, ◌%◌, ◌^◌, ◌≤◌, ◌<◌, min}
 use Rattle.std.specs.Prelude.{◌≡◌, Bool, length, drop, take, get_or, replicate, leb, eqb}
 use Rattle.std.proofs.Math.Path.{refl, ap}
@@ -10,23 +12,25 @@ use Rattle.std.proofs.Math.ListN.{length-append, length-replicate, length-take}
 use Rattle.std.proofs.lemmas.List.{get_or_at}
 use Rattle.std.proofs.Math.Seq.{take-nil}
 use Rattle.std.proofs.Math.Dec.{ltb}
-use Rattle.bits.specs.Bits.{odd, num_bits, num_of, gr_of, gr_bits}
+use Rattle.bits.specs.Bits.{got, odd, num_bits, num_of, gr_of, gr_bits}
 use Rattle.bits.specs.laws.Bit.{length_num_bits}
 use Rattle.bits.specs.laws.Here.{num_there, gr_there}
-use Rattle.bits.specs.declared.Num.{Num}
-use Rattle.bits.specs.declared.Num.TheVariants.{Got, Cut}
 use Rattle.code.specs.laws.Code.{code_f_full, code_f_rest, code_f_single, code_f_twin}
 use Rattle.whole.specs.Row.{◌⇒◌∣◌}
 use Rattle.code.specs.Code.{raised, kr_after, size, kp_one, kp_two, zeros_of, run_bits, pair_bits, code_f, InRange}
 use Rattle.code.specs.ReadList.{state_at, judge_run, run_third, run_second, run_first, run_elem, one_elem, judge_two, two_second, two_elem, elem_of, whole}
-use Rattle.code.specs.ReadList.{step}
+use Rattle.code.specs.ReadList.{bad, step}
 use Rattle.code.specs.ReadList.{walk}
 use Rattle.code.specs.laws.There.{drop_min}
 use Rattle.code.specs.laws.Steps.{kr_le, kp_one_le, kp_two_le}
 use Rattle.code.specs.declared.element.State.{State}
-use Rattle.code.specs.declared.element.Refusal.TheVariants.{Range, Overrun}
+use Rattle.wire.specs.Refusal.{refusal_number}
+use Rattle.wire.specs.declared.Refusal.{Refusal}
+use Rattle.wire.specs.declared.Refusal.TheVariants.{Cut, Range, Overrun}
+use Rattle.whole.specs.Among.{among, Among}
+use Rattle.whole.specs.laws.Among.{said}
 use Rattle.code.specs.declared.element.Element.{Element}
-use Rattle.code.specs.declared.element.Element.TheVariants.{Zeros, One, Two, Refused}
+use Rattle.code.specs.declared.element.Element.TheVariants.{Zeros, One, Two}
 
 -- ---- the code of a list by its front
 
@@ -92,13 +96,26 @@ pub record Took (rlgr3 : Bool) (kp krp left at : ℕ) (B : List Bool) (front : L
   pub krs : krp ≤ 80 → s.krp ≤ 80
   pub code : (f : ℕ) (ys : List ℕ) → length front + length ys ≡ left → code_f (suc f) rlgr3 kp krp (front ++ ys) ≡ H ++ code_f f rlgr3 s.kp s.krp ys
 
-abbrev pub Told : Bool → ℕ → ℕ → ℕ → ℕ → List Bool → Element → Type 0
-Told rlgr3 kp krp left at B (Refused r) = Unit {0}
-Told rlgr3 kp krp left at B (Zeros n s) = Took rlgr3 kp krp left at B (replicate (min n left) 0) s
-Told rlgr3 kp krp left at B (One z v s) = Took rlgr3 kp krp left at B (replicate z 0 ++ (v ∷ [])) s
-Told rlgr3 kp krp left at B (Two a b s) = Took rlgr3 kp krp left at B (take left (a ∷ b ∷ [])) s
+abbrev pub Told : Bool → ℕ → ℕ → ℕ → ℕ → List Bool → Result Element Refusal → Type 0
+Told rlgr3 kp krp left at B (Err r) = Among (1 ∷ 9 ∷ 10 ∷ []) (refusal_number r)
+Told rlgr3 kp krp left at B (Ok (Zeros n s)) = Took rlgr3 kp krp left at B (replicate (min n left) 0) s
+Told rlgr3 kp krp left at B (Ok (One z v s)) = Took rlgr3 kp krp left at B (replicate z 0 ++ (v ∷ [])) s
+Told rlgr3 kp krp left at B (Ok (Two a b s)) = Took rlgr3 kp krp left at B (take left (a ∷ b ∷ [])) s
 
-bit_there : (at : ℕ) (B : List Bool) (n next : ℕ) → num_of 1 0 at (drop at B) ≡ Got n next → (n < 2) × (next ≡ at + 1) × (drop at B ≡ odd n ∷ drop next B)
+-- the three refusals of a code
+cut_told : Among (1 ∷ 9 ∷ 10 ∷ []) (refusal_number Cut)
+unfolding among
+cut_told = said refl
+
+range_told : Among (1 ∷ 9 ∷ 10 ∷ []) (refusal_number Range)
+unfolding among
+range_told = said refl
+
+overrun_told : Among (1 ∷ 9 ∷ 10 ∷ []) (refusal_number Overrun)
+unfolding among
+overrun_told = said refl
+
+bit_there : (at : ℕ) (B : List Bool) (n next : ℕ) → num_of 1 0 at (drop at B) ≡ got n next → (n < 2) × (next ≡ at + 1) × (drop at B ≡ odd n ∷ drop next B)
 unfolding num_bits
 bit_there at B n next e =
     let r = num_there 1 at B n next e in
@@ -169,9 +186,9 @@ module _ (rlgr3 : Bool) (kp krp left at : ℕ) (B : List Bool) (pl : 0 < left) w
 
       go :
           (b : Bool) → ltb 32766 g ≡ b → (c : Bool) → leb left z ≡ c →
-          Told rlgr3 kp krp left at B (b ⇒ Refused Range ∣ c ⇒ Refused Overrun ∣ One z v (state_at next (kp - 6) (kr_after krp g)))
-      go true e₁ c e₂ = tt
-      go false e₁ true e₂ = tt
+          Told rlgr3 kp krp left at B (b ⇒ Err Range ∣ c ⇒ Err Overrun ∣ Ok (One z v (state_at next (kp - 6) (kr_after krp g))))
+      go true e₁ c e₂ = range_told
+      go false e₁ true e₂ = overrun_told
       go false e₁ false e₂ =
           let g0 : g ≤ 32766 = ltb-false 32766 g e₁ in
           let o : odd s ≡ odd v = ap (λ (x : ℕ). eqb x 1) (parity g s hs) in
@@ -179,43 +196,43 @@ module _ (rlgr3 : Bool) (kp krp left at : ℕ) (B : List Bool) (pl : 0 < left) w
 
   told_third :
       8 ≤ kp → (z s : ℕ) (mid : ℕ) → z < 2 ^ (kp / 8) → s < 2 → mid ≡ at + 1 + kp / 8 + 1 →
-      drop at B ≡ true ∷ (num_bits (kp / 8) z ++ (odd s ∷ drop mid B)) → (r : Num) → gr_of (krp / 8) mid B ≡ r →
+      drop at B ≡ true ∷ (num_bits (kp / 8) z ++ (odd s ∷ drop mid B)) → (r : Option (ℕ × ℕ)) → gr_of (krp / 8) mid B ≡ r →
       Told rlgr3 kp krp left at B (run_third kp krp left z s r)
-  told_third h z s mid hz hs em e Cut er = tt
-  told_third h z s mid hz hs em e (Got g next) er =
+  told_third h z s mid hz hs em e None er = cut_told
+  told_third h z s mid hz hs em e (got g next) er =
       let r = gr_there (krp / 8) mid B g next er in
       told_judge h z s g next hz hs (rw (← em) r.0) (rw (← r.1) e)
 
   told_second :
-      8 ≤ kp → (z mid : ℕ) → z < 2 ^ (kp / 8) → mid ≡ at + 1 + kp / 8 → drop at B ≡ true ∷ (num_bits (kp / 8) z ++ drop mid B) → (r : Num) →
+      8 ≤ kp → (z mid : ℕ) → z < 2 ^ (kp / 8) → mid ≡ at + 1 + kp / 8 → drop at B ≡ true ∷ (num_bits (kp / 8) z ++ drop mid B) → (r : Option (ℕ × ℕ)) →
       num_of 1 0 mid (drop mid B) ≡ r → Told rlgr3 kp krp left at B (run_second kp krp left B z r)
-  told_second h z mid hz em e Cut er = tt
-  told_second h z mid hz em e (Got s next) er =
+  told_second h z mid hz em e None er = cut_told
+  told_second h z mid hz em e (got s next) er =
       let r = bit_there mid B s next er in
       told_third h z s next hz r.0 (omega (arith, r.1)) (rw (← r.2) e) (gr_of (krp / 8) next B) refl
 
   told_first :
-      8 ≤ kp → (mid : ℕ) → mid ≡ at + 1 → drop at B ≡ true ∷ drop mid B → (r : Num) → num_of (kp / 8) 0 mid (drop mid B) ≡ r →
+      8 ≤ kp → (mid : ℕ) → mid ≡ at + 1 → drop at B ≡ true ∷ drop mid B → (r : Option (ℕ × ℕ)) → num_of (kp / 8) 0 mid (drop mid B) ≡ r →
       Told rlgr3 kp krp left at B (run_first kp krp left B r)
-  told_first h mid em e Cut er = tt
-  told_first h mid em e (Got z next) er =
+  told_first h mid em e None er = cut_told
+  told_first h mid em e (got z next) er =
       let r = num_there (kp / 8) mid B z next er in
       told_second h z next r.0 (omega (arith, r.1)) (rw (← r.2) e) (num_of 1 0 next (drop next B)) refl
 
-  told_high : 8 ≤ kp → (r : Num) → num_of 1 0 at (drop at B) ≡ r → Told rlgr3 kp krp left at B (run_elem kp krp left B r)
-  told_high h Cut er = tt
-  told_high h (Got zero next) er = let r = bit_there at B 0 next er in told_full h next r.1 r.2
-  told_high h (Got (suc zero) next) er = let r = bit_there at B 1 next er in told_first h next r.1 r.2 (num_of (kp / 8) 0 next (drop next B)) refl
-  told_high h (Got (suc (suc n)) next) er = absurd (omega (arith, (bit_there at B (suc (suc n)) next er).0))
+  told_high : 8 ≤ kp → (r : Option (ℕ × ℕ)) → num_of 1 0 at (drop at B) ≡ r → Told rlgr3 kp krp left at B (run_elem kp krp left B r)
+  told_high h None er = cut_told
+  told_high h (got zero next) er = let r = bit_there at B 0 next er in told_full h next r.1 r.2
+  told_high h (got (suc zero) next) er = let r = bit_there at B 1 next er in told_first h next r.1 r.2 (num_of (kp / 8) 0 next (drop next B)) refl
+  told_high h (got (suc (suc n)) next) er = absurd (omega (arith, (bit_there at B (suc (suc n)) next er).0))
 
 module _ (kp krp left at : ℕ) (B : List Bool) (pl : 0 < left) (h : kp < 8) where
-  told_one : (r : Num) → gr_of (krp / 8) at B ≡ r → Told false kp krp left at B (one_elem kp krp r)
+  told_one : (r : Option (ℕ × ℕ)) → gr_of (krp / 8) at B ≡ r → Told false kp krp left at B (one_elem kp krp r)
   unfolding ◌⇒◌∣◌
-  told_one Cut er = tt
-  told_one (Got g next) er = go (ltb 65534 g) refl
+  told_one None er = cut_told
+  told_one (got g next) er = go (ltb 65534 g) refl
     where
-      go : (b : Bool) → ltb 65534 g ≡ b → Told false kp krp left at B (b ⇒ Refused Range ∣ One 0 g (state_at next (kp_one kp g) (kr_after krp g)))
-      go true e = tt
+      go : (b : Bool) → ltb 65534 g ≡ b → Told false kp krp left at B (b ⇒ Err Range ∣ Ok (One 0 g (state_at next (kp_one kp g) (kr_after krp g))))
+      go true e = range_told
       go false e =
           let r = gr_there (krp / 8) at B g next er in
           record {
@@ -257,12 +274,12 @@ module _ (kp krp left at : ℕ) (B : List Bool) (pl : 0 < left) (h : kp < 8) whe
           (b₁ : Bool) → ltb g a ≡ b₁ → (b₂ : Bool) → ltb 65534 a ≡ b₂ → (b₃ : Bool) → ltb 65534 (g - a) ≡ b₃ → (b₄ : Bool) → ltb left 2 ≡ b₄ → (b₅ : Bool) →
           ltb 0 (g - a) ≡ b₅ →
           Told true kp krp left at B
-          ((b₁ ⇒ true ∣ b₂ ⇒ true ∣ b₃) ⇒ Refused Range ∣ (b₄ ⇒ b₅ ∣ false) ⇒ Refused Overrun ∣ Two a (g - a)
-          (state_at next (kp_two kp a (g - a)) (kr_after krp g)))
-      go true e₁ b₂ e₂ b₃ e₃ b₄ e₄ b₅ e₅ = tt
-      go false e₁ true e₂ b₃ e₃ b₄ e₄ b₅ e₅ = tt
-      go false e₁ false e₂ true e₃ b₄ e₄ b₅ e₅ = tt
-      go false e₁ false e₂ false e₃ true e₄ true e₅ = tt
+          ((b₁ ⇒ true ∣ b₂ ⇒ true ∣ b₃) ⇒ Err Range ∣ (b₄ ⇒ b₅ ∣ false) ⇒ Err Overrun ∣ Ok (Two a (g - a)
+          (state_at next (kp_two kp a (g - a)) (kr_after krp g))))
+      go true e₁ b₂ e₂ b₃ e₃ b₄ e₄ b₅ e₅ = range_told
+      go false e₁ true e₂ b₃ e₃ b₄ e₄ b₅ e₅ = range_told
+      go false e₁ false e₂ true e₃ b₄ e₄ b₅ e₅ = range_told
+      go false e₁ false e₂ false e₃ true e₄ true e₅ = overrun_told
       go false e₁ false e₂ false e₃ true e₄ false e₅ =
           told_pair g a (g - a) mid next (omega (arith, ltb-false g a e₁)) (ltb-false 65534 a e₂) (ltb-false 65534 (g - a) e₃)
           (λ l. omega (arith, ltb-false 0 (g - a) e₅)) em e en e'
@@ -271,16 +288,16 @@ module _ (kp krp left at : ℕ) (B : List Bool) (pl : 0 < left) (h : kp < 8) whe
           (λ l. absurd (omega (arith, ltb-false left 2 e₄))) em e en e'
 
   told_half :
-      (g mid : ℕ) → mid ≡ at + length (gr_bits (krp / 8) g) → drop at B ≡ gr_bits (krp / 8) g ++ drop mid B → (r : Num) →
+      (g mid : ℕ) → mid ≡ at + length (gr_bits (krp / 8) g) → drop at B ≡ gr_bits (krp / 8) g ++ drop mid B → (r : Option (ℕ × ℕ)) →
       num_of (size g) 0 mid (drop mid B) ≡ r → Told true kp krp left at B (two_second kp krp left g r)
-  told_half g mid em e Cut er = tt
-  told_half g mid em e (Got a next) er =
+  told_half g mid em e None er = cut_told
+  told_half g mid em e (got a next) er =
       let r = num_there (size g) mid B a next er in
       told_twice g a mid next em e r.1 r.2
 
-  told_two : (r : Num) → gr_of (krp / 8) at B ≡ r → Told true kp krp left at B (two_elem kp krp left B r)
-  told_two Cut er = tt
-  told_two (Got g mid) er =
+  told_two : (r : Option (ℕ × ℕ)) → gr_of (krp / 8) at B ≡ r → Told true kp krp left at B (two_elem kp krp left B r)
+  told_two None er = cut_told
+  told_two (got g mid) er =
       let r = gr_there (krp / 8) at B g mid er in
       told_half g mid r.0 r.1 (num_of (size g) 0 mid (drop mid B)) refl
 
@@ -332,18 +349,18 @@ module _ (f : ℕ) (rlgr3 : Bool) (kp krp at left : ℕ) (done : List ℕ) (B : 
 
   read_step :
       ((s : State) (l : ℕ) (d : List ℕ) → l ≤ f → walk f rlgr3 s.kp s.krp s.at l d B ≡ whole ys next →
-      Read f rlgr3 s.kp s.krp s.at l d B ys next) → left ≤ suc f → (e : Element) → Told rlgr3 kp krp left at B e →
+      Read f rlgr3 s.kp s.krp s.at l d B ys next) → left ≤ suc f → (e : Result Element Refusal) → Told rlgr3 kp krp left at B e →
       step e left done (λ s l d. walk f rlgr3 s.kp s.krp s.at l d B) ≡ whole ys next → Read (suc f) rlgr3 kp krp at left done B ys next
-  read_step ih hl (Refused r) t e = let z : ◌≡◌ {A = ℕ} 0 1 = cc in absurd (omega arith)
-  read_step ih hl (Zeros n s) t e =
+  read_step ih hl (Err r) t e = let z : ◌≡◌ {A = ℕ} 0 1 = cc in absurd (omega arith)
+  read_step ih hl (Ok (Zeros n s)) t e =
       let m : length (replicate {A = ℕ} (min n left) 0) ≡ min n left = length-replicate (min n left) 0 in
       let p : 0 < min n left = rw m at t.some in
       read_more (replicate (min n left) 0) s (left - n) t (omega (arith, m)) (ih s (left - n) (done ++ replicate (min n left) 0) (omega arith) e)
-  read_step ih hl (One z v s) t e =
+  read_step ih hl (Ok (One z v s)) t e =
       let m : length (replicate z 0 ++ (v ∷ [])) ≡ z + 1 = length-append (replicate z 0) (v ∷ []) ∙ omega (arith, length-replicate {A = ℕ} z 0) in
       read_more (replicate z 0 ++ (v ∷ [])) s (left - (z + 1)) t (omega (arith, m, t.fits))
       (ih s (left - (z + 1)) (done ++ (replicate z 0 ++ (v ∷ []))) (omega arith) e)
-  read_step ih hl (Two a b s) t e =
+  read_step ih hl (Ok (Two a b s)) t e =
       let m : length (take left (a ∷ b ∷ [])) ≡ min left 2 = length-take left (a ∷ b ∷ []) in
       read_more (take left (a ∷ b ∷ [])) s (left - 2) t (omega (arith, m)) (ih s (left - 2) (done ++ take left (a ∷ b ∷ [])) (omega arith) e)
 
@@ -377,4 +394,29 @@ read-code zero rlgr3 kp krp at (suc left) done B ys next h e = absurd (omega ari
 read-code (suc f) rlgr3 kp krp at zero done B ys next h e = read_none (suc f) rlgr3 kp krp at done B ys next refl e
 read-code (suc f) rlgr3 kp krp at (suc left) done B ys next h e =
     read_step f rlgr3 kp krp at (suc left) done B ys next (λ s l d le w. read-code f rlgr3 s.kp s.krp s.at l d B ys next le w) h
+    (elem_of rlgr3 kp krp (suc left) at B) (elem_told rlgr3 kp krp (suc left) at B (omega arith)) e
+
+-- ---- a refused list: why
+
+bad_is : {r q : Refusal} → bad r ≡ bad q → r ≡ q
+bad_is e = cc
+
+module _ (f : ℕ) (rlgr3 : Bool) (B : List Bool) (q : Refusal) where
+  refused_step :
+      ((s : State) (l : ℕ) (d : List ℕ) → walk f rlgr3 s.kp s.krp s.at l d B ≡ bad q → Among (1 ∷ 9 ∷ 10 ∷ []) (refusal_number q)) →
+      (kp krp left at : ℕ) (done : List ℕ) (e : Result Element Refusal) → Told rlgr3 kp krp left at B e →
+      step e left done (λ s l d. walk f rlgr3 s.kp s.krp s.at l d B) ≡ bad q → Among (1 ∷ 9 ∷ 10 ∷ []) (refusal_number q)
+  refused_step ih kp krp left at done (Err r) t e = rw (← bad_is e) t
+  refused_step ih kp krp left at done (Ok (Zeros n s)) t e = ih s _ _ e
+  refused_step ih kp krp left at done (Ok (One z v s)) t e = ih s _ _ e
+  refused_step ih kp krp left at done (Ok (Two a b s)) t e = ih s _ _ e
+
+pub refused_among :
+    (f : ℕ) (rlgr3 : Bool) (kp krp at left : ℕ) (done : List ℕ) (B : List Bool) (q : Refusal) → walk f rlgr3 kp krp at left done B ≡ bad q →
+    Among (1 ∷ 9 ∷ 10 ∷ []) (refusal_number q)
+unfolding walk
+refused_among zero rlgr3 kp krp at left done B q e = let z : ◌≡◌ {A = ℕ} 0 1 = cc in absurd (omega arith)
+refused_among (suc f) rlgr3 kp krp at zero done B q e = let z : ◌≡◌ {A = ℕ} 0 1 = cc in absurd (omega arith)
+refused_among (suc f) rlgr3 kp krp at (suc left) done B q e =
+    refused_step f rlgr3 B q (λ s l d w. refused_among f rlgr3 s.kp s.krp s.at l d B q w) kp krp (suc left) at done
     (elem_of rlgr3 kp krp (suc left) at B) (elem_told rlgr3 kp krp (suc left) at B (omega arith)) e

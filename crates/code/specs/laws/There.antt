@@ -1,4 +1,5 @@
 -- Whatever list is put into code is read back: element by element, then whole.
+use Rattle.std.specs.Prelude.{Ok}
 use Prim.Native.Nat.{ℕ, zero, suc, ◌+◌, ◌*◌, ◌-◌, ◌/◌, ◌^◌, ◌≤◌, ◌<◌, min}
 use Rattle.std.specs.Prelude.{◌≡◌, refl, Bool}
 use Rattle.std.proofs.Common.{sym, ap₂, ◌∙◌, drop_of_length-le, drop-cons, get_or-drop, pow_pos}
@@ -11,10 +12,9 @@ use borrow.Author.Tests.{lt-ltb, le-ltb, lt-leb, ltb-true, ltb-false, leb-true, 
 use Rattle.std.proofs.Math.ListN.{length, drop, take, get_or, replicate, length-append, length-drop}
 use Rattle.std.proofs.Math.Seq.{take-nil}
 use Rattle.std.proofs.Math.Dec.{ltb, leb}
-use Rattle.bits.specs.Bits.{odd, val, num_bits, num_of, gr_bits}
+use Rattle.bits.specs.Bits.{got, odd, val, num_bits, num_of, gr_bits}
 use Rattle.bits.specs.laws.Bit.{val_odd, length_num_bits}
 use Rattle.bits.specs.laws.Here.{past, num_here, gr_here}
-use Rattle.bits.specs.declared.Num.TheVariants.{Got}
 use Rattle.code.specs.laws.Code.{code_f_full, code_f_rest, code_f_single, code_f_twin}
 use Rattle.whole.specs.Row.{◌⇒◌∣◌}
 use Rattle.code.specs.Code.{raised, kr_after, size, size_f, kp_one, kp_two, zeros_of, run_bits, pair_bits, code_f, InRange}
@@ -23,7 +23,7 @@ use Rattle.code.specs.declared.element.Element.TheVariants.{Zeros, One, Two}
 
 pub bit_here :
     (at : ℕ) (B : List Bool) (b : Bool) (rest : List Bool) → drop at B ≡ b ∷ rest →
-    (num_of 1 0 at (drop at B) ≡ Got (val b) (at + 1)) × (drop (at + 1) B ≡ rest)
+    (num_of 1 0 at (drop at B) ≡ got (val b) (at + 1)) × (drop (at + 1) B ≡ rest)
 unfolding num_of
 bit_here at B true rest e = (rw e, past at B (true ∷ []) rest e)
 bit_here at B false rest e = (rw e, past at B (false ∷ []) rest e)
@@ -53,20 +53,20 @@ lone_not left b h = go (ltb left 2) refl
 -- ---- one element
 
 module _ (kp krp left at : ℕ) (B rest : List Bool) where
-  pub elem_full : (rlgr3 : Bool) → 8 ≤ kp → drop at B ≡ false ∷ rest → elem_of rlgr3 kp krp left at B ≡ Zeros (2 ^ (kp / 8))
-      (state_at (at + 1) (raised 4 kp) krp)
+  pub elem_full : (rlgr3 : Bool) → 8 ≤ kp → drop at B ≡ false ∷ rest → elem_of rlgr3 kp krp left at B ≡ Ok (Zeros (2 ^ (kp / 8))
+      (state_at (at + 1) (raised 4 kp) krp))
   unfolding elem_of
   elem_full rlgr3 h e = rw (le-ltb kp 8 h, (bit_here at B false rest e).0)
 
   pub elem_one :
       kp < 8 → (v : ℕ) → v ≤ 65534 → drop at B ≡ gr_bits (krp / 8) v ++ rest →
-      elem_of false kp krp left at B ≡ One 0 v (state_at (at + length (gr_bits (krp / 8) v)) (kp_one kp v) (kr_after krp v))
+      elem_of false kp krp left at B ≡ Ok (One 0 v (state_at (at + length (gr_bits (krp / 8) v)) (kp_one kp v) (kr_after krp v)))
   unfolding elem_of
   elem_one h v hv e = rw (lt-ltb kp 8 h, (gr_here (krp / 8) v at B rest e).0, le-ltb 65534 v hv)
 
   pub elem_two :
       kp < 8 → (a b : ℕ) → a ≤ 65534 → b ≤ 65534 → (left < 2 → b ≡ 0) → drop at B ≡ pair_bits krp a b ++ rest →
-      elem_of true kp krp left at B ≡ Two a b (state_at (at + length (pair_bits krp a b)) (kp_two kp a b) (kr_after krp (a + b)))
+      elem_of true kp krp left at B ≡ Ok (Two a b (state_at (at + length (pair_bits krp a b)) (kp_two kp a b) (kr_after krp (a + b))))
   unfolding elem_of pair_bits
   elem_two h a b ha hb hl e =
       let n = size (a + b) in
@@ -77,11 +77,11 @@ module _ (kp krp left at : ℕ) (B rest : List Bool) where
       let d : a + b - a ≡ b = add-sub_cancel_left a b in
       let len : at + length G + n ≡ at + length (G ++ num_bits n a) = omega (arith, length-append G (num_bits n a), length_num_bits n a) in
       rw (lt-ltb kp 8 h, r.0, m.0, le-ltb (a + b) a (omega arith), le-ltb 65534 a ha, d, le-ltb 65534 b hb, lone_not left b hl)
-      (ap (λ (x : ℕ). Two a b (state_at x (kp_two kp a b) (kr_after krp (a + b)))) len)
+      (ap (λ (x : ℕ). Ok (Two a b (state_at x (kp_two kp a b) (kr_after krp (a + b))))) len)
 
   pub elem_run :
       (rlgr3 : Bool) → 8 ≤ kp → (z v : ℕ) → z < 2 ^ (kp / 8) → z < left → 0 < v → v ≤ 65534 → drop at B ≡ run_bits kp krp z v ++ rest →
-      elem_of rlgr3 kp krp left at B ≡ One z v (state_at (at + length (run_bits kp krp z v)) (kp - 6) (kr_after krp ((v - 1) / 2)))
+      elem_of rlgr3 kp krp left at B ≡ Ok (One z v (state_at (at + length (run_bits kp krp z v)) (kp - 6) (kr_after krp ((v - 1) / 2))))
   unfolding elem_of run_bits
   elem_run rlgr3 h z v hz hl v0 hv e =
       let k = kp / 8 in
@@ -96,7 +96,7 @@ module _ (kp krp left at : ℕ) (B rest : List Bool) where
       let v1 : 2 * (g + 1) - val (odd v) ≡ v = rw (val_odd v) (omega arith) in
       let len : at + 1 + k + 1 + length G ≡ at + suc (length (num_bits k z ++ (odd v ∷ G))) =
       omega (arith, length-append (num_bits k z) (odd v ∷ G), length_num_bits k z) in
-      rw (le-ltb kp 8 h, b.0, n.0, s.0, r.0, g0, l0, v1) (ap (λ (x : ℕ). One z v (state_at x (kp - 6) (kr_after krp g))) len)
+      rw (le-ltb kp 8 h, b.0, n.0, s.0, r.0, g0, l0, v1) (ap (λ (x : ℕ). Ok (One z v (state_at x (kp - 6) (kr_after krp g)))) len)
 
 -- ---- the zeros at the front
 

@@ -1,13 +1,13 @@
 -- The component writer writes just the code: what its bytes are to the reader, and that its promise leaves one answer and one output.
 -- Assumes nothing.
-use Rattle.std.specs.Prelude.{ℕ, zero, suc, ◌≤◌, ◌<◌, ◌≡◌, refl, Bool, true, List, map, leb, eqb, ℤ, length, take, drop}
+use Rattle.std.specs.Prelude.{ℕ, zero, suc, ◌≤◌, ◌<◌, ◌≡◌, refl, Bool, true, List, map, leb, eqb, ℤ, length, take, drop, Result}
 use Rattle.std.proofs.Common.{sym, ap, ◌∙◌, arith, le-leb, leb-true, length-append}
 use Rattle.std.proofs.lemmas.List.{length-map}
 use Rattle.whole.specs.laws.Row.{held, passes, goes_on, both}
 use Rattle.wire.specs.Mode.{is_mode}
-use Rattle.wire.specs.Wrote.{writing_number, writing_length}
+use Rattle.wire.specs.Refusal.{number_of, count_of}
 use Rattle.wire.specs.laws.Wrote.{wrote_bytes, wrote_once}
-use Rattle.wire.specs.declared.Writing.{Writing}
+use Rattle.wire.specs.declared.Refusal.{Refusal}
 use Rattle.bits.specs.laws.Bytes.{Bytes}
 use Rattle.code.specs.Code.{code_of, code_f, item_of, item_bits, item_used, item_kp, item_krp}
 use Rattle.code.specs.laws.Code.{code_item}
@@ -71,8 +71,8 @@ read_written mode s before h e = bytes_only mode (read_into mode s before) s h (
 
 -- any writer that keeps its promise and says 0 has written those bytes (`wrote_bytes`), and any reader that keeps its own hands the list back
 pub writer_reader :
-    (mode : ℕ) (zs before after : List ℤ) (out out' : List ℕ) (r : Writing) (q : Reading) →
-    ComponentWritten mode zs out out' r → writing_number r ≡ 0 → length before ≡ 4096 → ComponentRead mode (take (writing_length r) out') before after q →
+    (mode : ℕ) (zs before after : List ℤ) (out out' : List ℕ) (r : Result ℕ Refusal) (q : Reading) →
+    ComponentWritten mode zs out out' r → number_of r ≡ 0 → length before ≡ 4096 → ComponentRead mode (take (count_of r) out') before after q →
     (q ≡ Read (length (code mode zs))) × (after ≡ zs)
 writer_reader mode zs before after out out' r q w e l p =
     let b = wrote_bytes _ (bytes_of mode zs) out out' r w e in
@@ -109,5 +109,6 @@ some_written : (mode : ℕ) (zs : List ℤ) (room : ℕ) → write_fault mode zs
 some_written mode zs room e = some_bytes mode zs (done_writes mode zs room e).list.len
 
 pub write_once :
-    (mode : ℕ) (zs : List ℤ) (out a b : List ℕ) (r q : Writing) → ComponentWritten mode zs out a r → ComponentWritten mode zs out b q → (r ≡ q) × (a ≡ b)
+    (mode : ℕ) (zs : List ℤ) (out a b : List ℕ) (r q : Result ℕ Refusal) →
+    ComponentWritten mode zs out a r → ComponentWritten mode zs out b q → (r ≡ q) × (a ≡ b)
 write_once mode zs out a b r q x y = wrote_once _ _ out a b r q (some_written mode zs (length out)) x y

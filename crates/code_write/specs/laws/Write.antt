@@ -1,7 +1,7 @@
 -- Laws of the component writer: the range of a list, the bytes at a place, and one law for each answer.
 -- Assumes nothing.
 use Prim.Native.Nat.{ℕ, zero, suc, ◌+◌, ◌-◌, ◌/◌, ◌≤◌, ◌<◌, min}
-use Rattle.std.specs.Prelude.{◌≡◌, refl, Bool, true, false, leb, eqb, ℤ, pos, nat_abs, take, get_or, replicate}
+use Rattle.std.specs.Prelude.{◌≡◌, refl, Bool, true, false, leb, eqb, ℤ, pos, nat_abs, take, get_or, replicate, Result, Ok, Err}
 use Rattle.std.proofs.Math.Path.{sym, ap, ap₂}
 use Rattle.std.proofs.Common.{subst, ◌∙◌, arith, le-leb, leb-true, eq-eqb, eqb-true, take-append-drop, drop-drop}
 use mathlib.Core.List.{List, [], ◌∷◌, ◌++◌, map, append_assoc, append-nil}
@@ -9,14 +9,18 @@ use Rattle.std.proofs.lemmas.Bool.{lt-leb}
 use Rattle.std.proofs.Math.ListN.{length, drop, length-append, length-take}
 use Rattle.std.proofs.Math.Seq.{length-take-le}
 use Rattle.whole.specs.Among.{among, Among}
-use Rattle.whole.specs.laws.Among.{numbers}
+use Rattle.whole.specs.Row.{◌⇒◌∣◌}
+use Rattle.whole.specs.laws.Among.{numbers, each, among_most}
 use Rattle.whole.specs.laws.Row.{held, passes, fails, stops, goes_on, both}
 use Rattle.wire.specs.Le.{patch}
 use Rattle.wire.specs.laws.Le.{patch_front}
 use Rattle.wire.specs.Mode.{is_mode}
 use Rattle.wire.specs.Wrote.{Wrote}
 use Rattle.wire.specs.laws.Wrote.{done}
-use Rattle.wire.specs.declared.Writing.TheVariants.{Done}
+use Rattle.wire.specs.Refusal.{refusal_number, refusal_of}
+use Rattle.wire.specs.laws.Refusal.{number_back, number_pos}
+use Rattle.wire.specs.declared.Refusal.{Refusal}
+use Rattle.wire.specs.declared.Refusal.TheVariants.{Range, TooBig}
 use Rattle.bits.specs.Bits.{bits_of, num_bits}
 use Rattle.bits.specs.Bytes.{Written}
 use Rattle.bits.specs.laws.Bytes.{Bytes, written_once}
@@ -30,7 +34,6 @@ use Rattle.code.specs.laws.Fold.{range_fold}
 use Rattle.code.specs.OneCode.{code}
 use Rattle.code_write.specs.laws.Pack.{packed_length, packed_bytes, packed_written, packed_once}
 use Rattle.code_write.specs.Write.{bytes_of, all_in_range, code_fault, ask_fault, write_fault, Measures, sized_of}
-use Rattle.code_write.specs.declared.call.Sized.{Sized}
 
 -- ---- the bytes of a component: the only ones that hold its code, filled up
 
@@ -137,24 +140,37 @@ module _ (mode : ℕ) (zs : List ℤ) where
   by_fault : (n : ℕ) → n ≡ code_fault mode zs → sized_of n (length (bytes_of mode zs)) ≡ sized_of (code_fault mode zs) (length (bytes_of mode zs))
   by_fault n e = ap (λ (f : ℕ). sized_of f (length (bytes_of mode zs))) e
 
-  pub measure_9 : all_in_range zs ≡ false → record { number = 9; size = 0 } ≡ sized_of (code_fault mode zs) (length (bytes_of mode zs))
-  unfolding code_fault sized_of
+  pub measure_9 : all_in_range zs ≡ false → Err Range ≡ sized_of (code_fault mode zs) (length (bytes_of mode zs))
+  unfolding code_fault sized_of refusal_of ◌⇒◌∣◌
   measure_9 e = by_fault 9 (fails _ _ _ _ e refl)
 
   module _ (size : ℕ) (e : all_in_range zs ≡ true) (s : size ≡ length (bytes_of mode zs)) where
-    pub measure_6 : 65535 < size → record { number = 6; size = 0 } ≡ sized_of (code_fault mode zs) (length (bytes_of mode zs))
-    unfolding code_fault sized_of
+    pub measure_6 : 65535 < size → Err TooBig ≡ sized_of (code_fault mode zs) (length (bytes_of mode zs))
+    unfolding code_fault sized_of refusal_of ◌⇒◌∣◌
     measure_6 h = by_fault 6 (passes _ _ _ _ e (fails _ _ _ _ (lt-leb (length (bytes_of mode zs)) 65535 (omega arith)) refl))
 
-    pub measure_0 : size ≤ 65535 → record { number = 0; size = size } ≡ sized_of (code_fault mode zs) (length (bytes_of mode zs))
+    pub measure_0 : size ≤ 65535 → Ok size ≡ sized_of (code_fault mode zs) (length (bytes_of mode zs))
     unfolding code_fault sized_of
     measure_0 h = rw s (by_fault 0 (passes _ _ _ _ e (passes _ _ _ _ (le-leb (length (bytes_of mode zs)) 65535 (omega (arith, s))) refl)))
 
 -- what is said in one equation, in two
-pub sized_measures : (f b : ℕ) (r : Sized) → r ≡ sized_of f b → Measures f b r
+pub sized_measures : (f b : ℕ) (r : Result ℕ Refusal) → f ≤ 13 → r ≡ sized_of f b → Measures f b r
 unfolding sized_of
-sized_measures zero b r e = rw e (record { number = refl; size = λ z. refl })
-sized_measures (suc n) b r e = rw e (record { number = refl; size = λ z. absurd (omega arith) })
+sized_measures zero b r u e = rw e (record { number = refl; size = λ z. refl })
+sized_measures (suc n) b r u e =
+    let k = number_back (suc n) (omega arith) u in
+    rw e (record { number = k; size = λ z. absurd (omega (arith, k, z)) })
+
+-- a component's numbers are of 01's
+pub code_among : (mode : ℕ) (zs : List ℤ) → Among (0 ∷ 9 ∷ 6 ∷ []) (code_fault mode zs)
+unfolding code_fault among
+code_among mode zs = search numbers depth 9
+
+pub code_measures :
+    (mode : ℕ) (zs : List ℤ) (r : Result ℕ Refusal) → r ≡ sized_of (code_fault mode zs) (length (bytes_of mode zs)) →
+    Measures (code_fault mode zs) (length (bytes_of mode zs)) r
+unfolding each
+code_measures mode zs r e = sized_measures (code_fault mode zs) (length (bytes_of mode zs)) r (among_most 13 (code_among mode zs) refl) e
 
 -- what a component without a fault has
 pub record Fine (mode : ℕ) (zs : List ℤ) : Type 0 where
@@ -197,35 +213,37 @@ write_among mode zs room = search numbers depth 9
 -- ---- one law for each way out of the judging
 
 module _ (mode : ℕ) (zs : List ℤ) (room : ℕ) where
-  pub judge_call : (x : ℕ) → x ≡ ask_fault mode (length zs) → (x ≡ 0 → ⊥) → x ≡ write_fault mode zs room
+  pub judge_call : (r : Refusal) → refusal_number r ≡ ask_fault mode (length zs) → refusal_number r ≡ write_fault mode zs room
   unfolding write_fault
-  judge_call x e h = stops _ _ _ (λ z. h (e ∙ z)) e
+  judge_call r e = stops _ _ _ (λ z. number_pos r (e ∙ z)) e
 
-  module _ (x : ℕ) (c : x ≡ ask_fault mode (length zs)) (z : x ≡ 0) where
+  module _ (c : 0 ≡ ask_fault mode (length zs)) where
     -- a component without a fault that has room
     pub judge_fine : Fine mode zs → length (bytes_of mode zs) ≤ room → 0 ≡ write_fault mode zs room
     unfolding write_fault
     judge_fine f l =
-        goes_on _ _ _ (sym c ∙ z)
+        goes_on _ _ _ (sym c)
         (goes_on _ _ _ (sym (is_fine mode zs f)) (passes _ _ _ _ (le-leb (length (bytes_of mode zs)) room l) refl))
 
-    module _ (s : Sized) (q : s ≡ sized_of (code_fault mode zs) (length (bytes_of mode zs))) where
-      m : Measures (code_fault mode zs) (length (bytes_of mode zs)) s
-      m = sized_measures (code_fault mode zs) (length (bytes_of mode zs)) s q
+    pub judge_component : (r : Refusal) → Err r ≡ sized_of (code_fault mode zs) (length (bytes_of mode zs)) → refusal_number r ≡ write_fault mode zs room
+    unfolding write_fault
+    judge_component r q =
+        let m = code_measures mode zs (Err r) q in
+        goes_on _ _ _ (sym c) (stops _ _ _ (λ y. number_pos r (m.number ∙ y)) m.number)
 
-      pub judge_component : (s.number ≡ 0 → ⊥) → s.number ≡ write_fault mode zs room
+    module _ (size : ℕ) (q : Ok size ≡ sized_of (code_fault mode zs) (length (bytes_of mode zs))) where
+      m : Measures (code_fault mode zs) (length (bytes_of mode zs)) (Ok size)
+      m = code_measures mode zs (Ok size) q
+
+      pub judge_room : room < size → 13 ≡ write_fault mode zs room
       unfolding write_fault
-      judge_component h = goes_on _ _ _ (sym c ∙ z) (stops _ _ _ (λ y. h (m.number ∙ y)) m.number)
+      judge_room l =
+          let k = m.size refl in
+          goes_on _ _ _ (sym c)
+          (goes_on _ _ _ (sym m.number) (fails _ _ _ _ (lt-leb (length (bytes_of mode zs)) room (omega arith)) refl))
 
-      pub judge_room : s.number ≡ 0 → room < s.size → 13 ≡ write_fault mode zs room
-      unfolding write_fault
-      judge_room h l =
-          let k = m.size h in
-          goes_on _ _ _ (sym c ∙ z)
-          (goes_on _ _ _ (sym m.number ∙ h) (fails _ _ _ _ (lt-leb (length (bytes_of mode zs)) room (omega arith)) refl))
-
-      pub judge_done : s.number ≡ 0 → s.size ≤ room → 0 ≡ write_fault mode zs room
-      judge_done h l = let k = m.size h in judge_fine (fine mode zs (sym h ∙ m.number)) (omega arith)
+      pub judge_done : size ≤ room → 0 ≡ write_fault mode zs room
+      judge_done l = let k = m.size refl in judge_fine (fine mode zs m.number) (omega arith)
 
 -- ---- what no fault means, and the written bytes
 
@@ -244,5 +262,5 @@ clear mode zs room e =
 
 pub write_done :
     (mode : ℕ) (zs : List ℤ) (out out' : List ℕ) (k : ℕ) → 0 ≡ write_fault mode zs (length out) → out' ≡ patch out 0 (bytes_of mode zs) →
-    k ≡ 0 + length (bytes_of mode zs) → Wrote (write_fault mode zs (length out)) (bytes_of mode zs) out out' (Done k)
+    k ≡ 0 + length (bytes_of mode zs) → Wrote (write_fault mode zs (length out)) (bytes_of mode zs) out out' (Ok k)
 write_done mode zs out out' k f p e = done _ k _ out out' f (e ∙ omega arith) (p ∙ patch_front out (bytes_of mode zs))

@@ -16,17 +16,15 @@ block_here s = gathers s.args.c (open_here s).good s.requires.1.1
 pub overflow_sub-c : goal.overflow_sub-c
 overflow_sub-c c = omega (arith, (block_here (goal.at.overflow_sub-c c).Start).less)
 
-pub fewer-n-requires : goal.fewer-n-requires
-fewer-n-requires c = (omega (arith, (block_here (goal.at.fewer-n-requires c).Start).less), omega arith)
-
 pub copy-requires : goal.copy-requires
 copy-requires c =
-    let n = c.fewer-n.ensures in
-    (omega (arith, (block_here (goal.at.copy-requires c).Start).less, (open_here (goal.at.copy-requires c).Start).ends, n.0), omega (arith, n.1.0))
+    let g = block_here (goal.at.copy-requires c).Start in
+    (omega (arith, c.min-n.ensures, g.less, (open_here (goal.at.copy-requires c).Start).ends), omega (arith, c.min-n.ensures))
 
 pub returns : goal.returns
 returns c =
-    let n = c.fewer-n in
-    let e = c.fewer-n.ensures in
+    let n = c.min-n in
+    let e = c.min-n.ensures in
+    let g = block_here (goal.at.returns c).Start in
     block_turned (state c.args.c c.args.store.now) c.args.bytes.now _ c.args.at n.result _ c.requires.0 c.requires.1.1
-    e.1.1 e.0 (omega (arith, e.1.0)) c.copy.ensures (c.settle.ensures _)
+    (omega (arith, e, g.less)) (omega (arith, e)) (omega (arith, e)) c.copy.ensures (c.settle.ensures _)

@@ -16,13 +16,13 @@ loop-at-smaller c = let t = c.turn_at-t.ensures in omega (arith, t.more, t.withi
 pub loop-at-preserved : goal.loop-at-preserved
 loop-at-preserved c =
     let t = c.turn_at-t.ensures in
-    let e = sym c.goes_on.ensures ∙ c.if-goes_on.true in
+    let e = sym c.goes_on.ensures ∙ c.if-not-goes_on.false in
     ((t.within, omega arith), (t.goes e, c.loop-at.invariant.1.1 ∙ t.same ∙ goes_on_from _ _ e))
 
-pub returns-else-goes_on : goal.returns-else-goes_on
-returns-else-goes_on c =
+pub returns-then-not-goes_on : goal.returns-then-not-goes_on
+returns-then-not-goes_on c =
     let t = c.turn_at-t.ensures in
-    let e = sym c.goes_on.ensures ∙ c.if-goes_on.false in
+    let e = sym c.goes_on.ensures ∙ c.if-not-goes_on.true in
     sym (c.loop-at.invariant.1.1 ∙ t.same ∙ stops_at _ _ e)
 
 pub shape_of-store : goal.shape_of-store

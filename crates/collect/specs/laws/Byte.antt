@@ -10,10 +10,12 @@ use Rattle.wire.specs.laws.Le.{patch_length}
 use Rattle.whole.specs.laws.Row.{passes, stops}
 use Rattle.collect.specs.declared.Collector.{Collector}
 use Rattle.collect.specs.declared.Collected.{Collected}
+use Rattle.wire.specs.Refusal.{refusal_number}
+use Rattle.wire.specs.laws.Refusal.{number_back}
 use Rattle.collect.specs.declared.Collected.TheVariants.{More, Header, Frame, Refused}
 use Rattle.collect.specs.Collect.{State, Step, fresh, waiting, gathering, refusing, joined, head_bytes, type_of, len_of, head_fault, part_after, step}
 use Rattle.collect.specs.Collect.{settled, head_done, head_byte, byte, collector_made, collector_fault}
-use Rattle.collect.specs.laws.Made.{by_case, head_good, same_refusal, Ends, ends_on, Between, some, head_ends, Open, opened, takes, waits, gathers}
+use Rattle.collect.specs.laws.Made.{by_case, head_good, same_refusal, head_few, Ends, ends_on, Between, some, head_ends, Open, opened, takes, waits, gathers}
 use Rattle.collect.specs.laws.Made.{made-waiting, made_refusing, made-gathering, open_fresh}
 
 -- ---- the head's bytes
@@ -63,7 +65,7 @@ abbrev pub Says : Collected → ℕ → Type 0
 Says More fault = 0 ≡ fault
 Says (Header n) fault = 0 ≡ fault
 Says (Frame n) fault = 0 ≡ fault
-Says (Refused n) fault = (n ≡ fault) × (0 ≡ n → ⊥)
+Says (Refused refusal) fault = (refusal_number refusal ≡ fault) × (0 ≡ refusal_number refusal → ⊥)
 
 pub record Right (room : ℕ) (t : Step) : Type 0 where
   pub good : true ≡ collector_made t.state.collector
@@ -131,7 +133,8 @@ done_right p h d store l b m =
     let n = eqb-false (head_fault h d (length store)) 0 e in
     let z : 0 ≡ head_fault h d (length store) → ⊥ = λ q. n (sym q) in
     let r = made_refusing (head_fault h d (length store)) p h d (same_refusal h d (length store) z) l b in
-    record { good = r; says = (refusing_says (head_fault h d (length store)) p h d (length store) r z, z); kept = refl })
+    let k = number_back (head_fault h d (length store)) (omega (arith, z)) (head_few h d (length store)) in
+    record { good = r; says = (k ∙ refusing_says (head_fault h d (length store)) p h d (length store) r z, λ q. z (q ∙ k)); kept = refl })
 
 -- after a byte
 pub byte_right :

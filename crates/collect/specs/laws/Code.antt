@@ -14,8 +14,11 @@ use Rattle.whole.specs.Row.{◌⇒◌∣◌}
 use Rattle.wire.specs.laws.Le.{patch_next, patch_length}
 use Rattle.whole.specs.laws.Row.{case_yes, case_no}
 use Rattle.collect.specs.declared.Collector.{Collector}
+use Rattle.wire.specs.Refusal.{refusal_number, refusal_of as by_number}
+use Rattle.wire.specs.laws.Refusal.{number_pos, refusal_back}
+use Rattle.wire.specs.declared.Refusal.{Refusal}
 use Rattle.collect.specs.declared.Collected.TheVariants.{More, Refused}
-use Rattle.collect.specs.Collect.{State, HandOver, waiting, refusing, joined, type_of, len_of, head_fault, part_after, state, step, took, settled}
+use Rattle.collect.specs.Collect.{State, HandOver, refused_by, waiting, refusing, joined, type_of, len_of, head_fault, part_after, state, step, took, settled}
 use Rattle.collect.specs.Collect.{head_done, head_byte, byte, goes_on, walk, collect_of, collector_fault}
 use Rattle.collect.specs.laws.Made.{ends_on, opened, waits, gathers, same_waiting}
 use Rattle.collect.specs.laws.Byte.{six_bytes, settled_right, done_right, byte_right}
@@ -84,10 +87,19 @@ pub done_bad :
     (f fault part held head n : ℕ) (store : List ℕ)
     → f ≡ fault
     → (f ≡ 0 → ⊥)
-    → took n (step (refusing f part held head) store (Refused f)) ≡ took n (head_done fault part held head store)
+    → took n (step (refusing f part held head) store (refused_by f)) ≡ took n (head_done fault part held head store)
 unfolding head_done
 done_bad f fault p h d n store e z =
-    ap (took n) (subst (λ (x : ℕ). step (refusing f p h d) store (Refused f) ≡ head_done x p h d store) e (case_no _ _ _ _ (ne_eqb f 0 z) refl))
+    ap (took n) (subst (λ (x : ℕ). step (refusing f p h d) store (refused_by f) ≡ head_done x p h d store) e (case_no _ _ _ _ (ne_eqb f 0 z) refl))
+
+-- the same of the code's answer
+pub done_refused :
+    (refusal : Refusal) (fault part held head n : ℕ) (store : List ℕ)
+    → refusal_number refusal ≡ fault
+    → took n (step (refusing (refusal_number refusal) part held head) store (Refused refusal)) ≡ took n (head_done fault part held head store)
+done_refused r fault p h d n store e =
+    ap (λ (q : Refusal). took n (step (refusing (refusal_number r) p h d) store (Refused q))) (sym (refusal_back r))
+    ∙ done_bad (refusal_number r) fault p h d n store e (number_pos r)
 
 pub done_good :
     (f fault part held head n q : ℕ) (store first second : List ℕ) (r : HandOver)
@@ -254,18 +266,17 @@ block_turned s bytes out at k r f z p l w u q =
       within = w;
     })
 
--- ---- the call: f is what was found of the record
+-- ---- the call, by what was found of the record
 
-pub call_shut :
-    (s : State) (bs : List ℕ) (f : ℕ)
-    → f ≡ collector_fault s.collector (length s.store)
-    → (f ≡ 0 → ⊥)
-    → took 0 (step s.collector s.store (Refused f)) ≡ collect_of s bs
+pub call_refused :
+    (s : State) (bs : List ℕ) (refusal : Refusal)
+    → refusal_number refusal ≡ collector_fault s.collector (length s.store)
+    → took 0 (step s.collector s.store (Refused refusal)) ≡ collect_of s bs
 unfolding collect_of
-call_shut s bs f e z =
-    case_no _ _ _ _ (ne_eqb (collector_fault s.collector (length s.store)) 0 (λ q. z (e ∙ q)))
-    (ap (λ (n : ℕ). took 0 (step s.collector s.store (Refused n))) e)
+call_refused s bs r e =
+    case_no _ _ _ _ (ne_eqb (collector_fault s.collector (length s.store)) 0 (λ q. number_pos r (e ∙ q)))
+    (ap (λ (q : Refusal). took 0 (step s.collector s.store (Refused q))) (sym (refusal_back r) ∙ ap by_number e))
 
-pub call_goes : (s : State) (bs : List ℕ) (f : ℕ) → f ≡ collector_fault s.collector (length s.store) → f ≡ 0 → walk s 0 bs ≡ collect_of s bs
+pub call_goes : (s : State) (bs : List ℕ) → 0 ≡ collector_fault s.collector (length s.store) → walk s 0 bs ≡ collect_of s bs
 unfolding collect_of
-call_goes s bs f e z = case_yes _ _ _ _ (eq-eqb (collector_fault s.collector (length s.store)) 0 (sym e ∙ z)) refl
+call_goes s bs e = case_yes _ _ _ _ (eq-eqb (collector_fault s.collector (length s.store)) 0 (sym e)) refl

@@ -6,10 +6,12 @@ use Rattle.std.proofs.Math.Decide.{dec_lt}
 use Rattle.std.proofs.Math.ListN.{get_or-append, get_or-eq_default}
 use Rattle.whole.specs.laws.Row.{case_yes, case_no}
 use Rattle.collect.specs.declared.Collected.{Collected}
+use Rattle.wire.specs.laws.Refusal.{number_back}
+use Rattle.wire.specs.declared.Refusal.{Refusal}
 use Rattle.collect.specs.declared.Collected.TheVariants.{More, Header, Frame, Refused}
-use Rattle.collect.specs.Collect.{State, Step, HandOver, Part, step, took, byte, collector_made, collector_fault, goes_on, walk, collect_of}
+use Rattle.collect.specs.Collect.{State, Step, HandOver, Part, refused_by, step, took, byte, collector_made, collector_fault, goes_on, walk, collect_of}
 use Rattle.collect.specs.Collect.{handed_on, parts_of, feed, handed}
-use Rattle.collect.specs.laws.Made.{by_case}
+use Rattle.collect.specs.laws.Made.{by_case, fault_few}
 use Rattle.collect.specs.laws.Byte.{Says, Right, byte_right}
 use Rattle.collect.specs.laws.Walk.{walk_first, followed_none, right_goes}
 use Rattle.collect.specs.laws.Kept.{all, byte_all, byte_held}
@@ -24,7 +26,7 @@ open_call s bs f = sym (case_yes _ _ _ _ (eq-eqb (collector_fault s.collector (l
 pub shut_call :
     (s : State) (bs : List ℕ)
     → (0 ≡ collector_fault s.collector (length s.store) → ⊥)
-    → collect_of s bs ≡ took 0 (step s.collector s.store (Refused (collector_fault s.collector (length s.store))))
+    → collect_of s bs ≡ took 0 (step s.collector s.store (refused_by (collector_fault s.collector (length s.store))))
 unfolding collect_of
 shut_call s bs z = sym (case_no _ _ _ _ (ne_eqb (collector_fault s.collector (length s.store)) 0 (λ q. z (sym q))) refl)
 
@@ -180,7 +182,7 @@ call_front s bs h = by (dec_lt 0 (collector_fault s.collector (length s.store)))
           parts = nothing_handed s;
           kept = nothing_held s;
           good = λ m. m;
-          says = (refl, λ z. omega arith);
+          says = let k = number_back (collector_fault s.collector (length s.store)) p (fault_few s.collector (length s.store)) in (k, λ z. omega (arith, k, z));
           whole = λ e. absurd (true≢false (sym e));
           some = λ e. absurd (true≢false (sym e));
         })
@@ -229,7 +231,7 @@ module _ (s : State) (p w : List ℕ) (h : Bytes (p ++ w)) where
   over_bytes = bytes_back taken_of.front (rest s p ++ w) (subst Bytes cut_is h)
 
   -- a refused piece: nothing changes from then on
-  refused_shut : (n : ℕ) → (collect_of s p).step.answer ≡ Refused n → 0 ≡ collector_fault (after s p).collector (length (after s p).store) → ⊥
+  refused_shut : (n : Refusal) → (collect_of s p).step.answer ≡ Refused n → 0 ≡ collector_fault (after s p).collector (length (after s p).store) → ⊥
   refused_shut n e =
       let t = subst (λ (a : Collected). Says a (collector_fault (after s p).collector (length (after s p).store))) e taken_of.says in
       λ z. t.1 (z ∙ sym t.0)
@@ -285,7 +287,7 @@ give_on {s} {p} g = record { parts = parts_of (collect_of s p).step ++ g.parts; 
 give_next : {s : State} {p : List ℕ} {ps : List (List ℕ)} → p ≡ [] → Gives s ps → Gives s (p ∷ ps)
 give_next {s} {p} {ps} e g = subst (λ (x : List ℕ). Gives s (x ∷ ps)) (sym e) (record { parts = g.parts; end = g.end; given = next g.given })
 
-give_stop : {s : State} {p : List ℕ} {ps : List (List ℕ)} (n : ℕ) → (collect_of s p).step.answer ≡ Refused n → Gives (after s p) ps → Gives s (p ∷ ps)
+give_stop : {s : State} {p : List ℕ} {ps : List (List ℕ)} (n : Refusal) → (collect_of s p).step.answer ≡ Refused n → Gives (after s p) ps → Gives s (p ∷ ps)
 give_stop n e g = record { parts = g.parts; end = g.end; given = stop n e g.given }
 
 shorter : (s : State) (p w : List ℕ) → Bytes (p ++ w) → hands_on (collect_of s p).step.answer ≡ true → length (rest s p) < length p

@@ -6,8 +6,8 @@ use Rattle.std.proofs.lemmas.Bool.{lt-leb}
 use Rattle.whole.specs.Row.{◌!◌⨾◌}
 use Rattle.whole.specs.laws.Row.{passes, fails}
 use Rattle.collect.specs.declared.Collector.{Collector}
-use Rattle.collect.specs.declared.Collected.TheVariants.{More, Refused}
-use Rattle.collect.specs.Collect.{State, HandOver, waiting, refusing, joined, type_of, len_of, head_fault, state, step, took, walk}
+use Rattle.collect.specs.declared.Collected.TheVariants.{More}
+use Rattle.collect.specs.Collect.{State, HandOver, refused_by, waiting, refusing, joined, type_of, len_of, head_fault, state, step, took, walk}
 use Rattle.collect.specs.laws.Made.{opened, waits, same_waiting}
 use Rattle.collect.specs.laws.Walk.{followed, walk_first, walk_on, walk_append, stops_at}
 use Rattle.collect.specs.laws.Code.{head_waits, done_bad}
@@ -76,7 +76,7 @@ module _ (s : State) (kind size : ℕ) (more : List ℕ) (b : BetweenBlocks s) (
       ∙ ap (λ (r : HandOver). followed r more)
       (ap (walk (state (waiting p q 0 0) s.store) 0) (head-bytes kind size k)
       ∙ head_whole p q d 0 s.store (omega arith) ∙ sym (done_bad n _ p q d 6 s.store f y))
-      ∙ stops_at (took 6 (step (refusing n p q d) s.store (Refused n))) more refl
+      ∙ stops_at (took 6 (step (refusing n p q d) s.store (refused_by n))) more refl
 
   pub type_refused : Head kind size → (kind < 0xCCC0) ⊎ (0xCCC7 < kind) → HeadRefused 3 s kind size more
   unfolding head_fault

@@ -1,11 +1,11 @@
 -- Records that calls could have made: what a good head, a head that waits and a block under way give; and a byte leads from a record that takes bytes to one
 -- that takes bytes, unless it is refused.
-use Rattle.std.specs.Prelude.{ℕ, ◌+◌, ◌-◌, ◌^◌, ◌≤◌, ◌<◌, ◌≡◌, refl, Bool, true, false, ◌⊎◌}
+use Rattle.std.specs.Prelude.{ℕ, zero, suc, ◌+◌, ◌-◌, ◌^◌, ◌≤◌, ◌<◌, ◌≡◌, refl, Bool, true, false, ◌⊎◌}
 use Rattle.std.proofs.Common.{ap, ap₂, sym, ◌∙◌, true≢false, inl, inr, ⊎_elim, arith, ltb-true, ltb-false, leb-true, eqb-true, lt-ltb, le-ltb, le-leb, eq-eqb}
 use Rattle.std.proofs.Common.{ne_eqb}
 use Rattle.std.proofs.Math.Decide.{dec_lt}
 use Rattle.std.proofs.lemmas.Bool.{eqb-false, lt-leb}
-use Rattle.whole.specs.Row.{◌!◌⨾◌, ◌⇒◌∣◌}
+use Rattle.whole.specs.Row.{◌!◌⨾◌, ◌⇒◌∣◌, ◌⨟◌}
 use Rattle.whole.specs.laws.Row.{passes, fails, held, case_yes, case_no, case_is, case_not, goes_on, both}
 use Rattle.collect.specs.declared.Collector.{Collector}
 use Rattle.collect.specs.Collect.{in_frame, at_end, outside, waiting, fresh, gathering, refusing, type_of, len_of, head_fault, part_after, between}
@@ -68,6 +68,24 @@ unfolding head_fault
 same_refusal h head room n =
     same_from _ _ _ _ (λ a. same_from _ _ _ _ (λ b. same_from _ _ _ _
     (λ c. let l = leb-true 6 (len_of head) c in room_fault _ _ _ (lt-leb (0 + len_of head) 0 (omega arith))))) n
+
+-- ---- no number is past 01's last
+
+row_few : (t : Bool) (f x k : ℕ) → f ≤ k → (t ≡ true → x ≤ k) → (t ! f ⨾ x) ≤ k
+unfolding ◌!◌⨾◌
+row_few true f x k p q = q refl
+row_few false f x k p q = p
+
+first_few : (a b k : ℕ) → a ≤ k → b ≤ k → (a ⨟ b) ≤ k
+unfolding ◌⨟◌
+first_few zero b k p q = q
+first_few (suc a) b k p q = p
+
+pub head_few : (held head room : ℕ) → head_fault held head room ≤ 13
+unfolding head_fault
+head_few h head room =
+    row_few _ 3 _ 13 (omega arith) (λ a. row_few _ 3 _ 13 (omega arith) (λ b. row_few _ 4 _ 13 (omega arith) (λ c. row_few _ 13 0 13 (omega arith)
+    (λ d. omega arith))))
 
 -- ---- where a block may end
 
@@ -198,6 +216,10 @@ pub some_refusal : (seen head : ℕ) → 6 ≤ seen → head_fault 0 head 0 ≡ 
 unfolding refusal_of
 some_refusal n d l = case_no _ _ _ _ (le-ltb n 6 l) refl
 
+pub refusal_few : (seen head : ℕ) → refusal_of seen head ≤ 13
+unfolding refusal_of
+refusal_few n d = by_case (λ (x : ℕ). x ≤ 13) _ _ _ (λ e. omega arith) (λ e. head_few 0 d 0)
+
 -- with a head that waits
 pub record Waits (c : Collector) : Type 0 where
   pub few : c.seen < 6
@@ -238,6 +260,20 @@ gathers c m e =
       less = ltb-true _ _ g.0;
       kind = ends _ _ _ g.1;
     }
+
+-- the refusal that a record keeps is that of its head
+pub kept_refusal : (c : Collector) → true ≡ collector_made c → c.refused ≡ refusal_of c.seen c.head
+kept_refusal c m = by (dec_lt 0 c.end)
+  where
+    by : Dec (0 < c.end) → c.refused ≡ refusal_of c.seen c.head
+    by (yes p) = let g = gathers c m (λ z. omega arith) in g.free ∙ no_refusal c.seen c.head (omega (arith, g.none))
+    by (no p) = (heads c m (omega arith)).number
+
+pub fault_few : (c : Collector) (room : ℕ) → collector_fault c room ≤ 13
+unfolding collector_fault
+fault_few c room =
+    row_few _ 12 _ 13 (omega arith) (λ m. first_few c.refused _ 13 (omega (arith, kept_refusal c (sym m), refusal_few c.seen c.head))
+    (row_few _ 2 _ 13 (omega arith) (λ a. row_few _ 2 0 13 (omega arith) (λ b. omega arith))))
 
 -- a record, by the fields that its kind does not use
 pub same_waiting : (c : Collector) → c.end ≡ 0 → c.refused ≡ 0 → waiting c.part c.held c.seen c.head ≡ c

@@ -4,12 +4,16 @@ use Rattle.std.proofs.Common.{ap, sym, ◌∙◌, subst, zero-add, take_at}
 use Rattle.whole.specs.Row.{◌!◌⨾◌, ◌⨟◌}
 use Rattle.collect.specs.declared.Collector.{Collector}
 use Rattle.collect.specs.declared.Collected.{Collected}
+use Rattle.wire.specs.Refusal.{refusal_number}
+use Rattle.wire.specs.laws.Refusal.{number_one}
+use Rattle.wire.specs.declared.Refusal.{Refusal}
+use Rattle.wire.specs.declared.Refusal.TheVariants.{Buffer}
 use Rattle.collect.specs.declared.Collected.TheVariants.{More, Refused}
 use Rattle.collect.specs.declared.Took.{Took}
 use Rattle.collect.specs.Collect.{State, HandOver, fresh, state, step, took, said, collector_made, collector_fault, walk, collect_of, parts_of}
 use Rattle.collect.specs.laws.Made.{takes, open_fresh}
 use Rattle.collect.specs.laws.Byte.{Says}
-use Rattle.collect.specs.laws.Code.{call_shut}
+use Rattle.collect.specs.laws.Code.{call_refused}
 use Rattle.collect.specs.laws.Cut.{call_front, open_call, cut_anyhow, give_all}
 use Rattle.collect.specs.laws.Block.{alone_handed, frame_handed}
 use Rattle.collect.specs.laws.Head.{few_wait, type_refused, length_refused, room_refused}
@@ -54,15 +58,16 @@ fault_stays c room other n e z t =
     fault_row (collector_made c) c.refused n (leb c.held room) (leb c.end room) (leb c.held other) (leb c.end other) e z t
 
 refused_on :
-    (s : State) (bs store cs : List ℕ) (n : ℕ)
+    (s : State) (bs store cs : List ℕ) (refusal : Refusal)
     → Bytes bs
-    → (collect_of s bs).step.answer ≡ Refused n
-    → (n ≡ 2 → ⊥)
-    → collect_of (state (after s bs).collector store) cs ≡ took 0 (step (after s bs).collector store (Refused n))
-refused_on s bs store cs n h e t =
+    → (collect_of s bs).step.answer ≡ Refused refusal
+    → (refusal ≡ Buffer → ⊥)
+    → collect_of (state (after s bs).collector store) cs ≡ took 0 (step (after s bs).collector store (Refused refusal))
+refused_on s bs store cs refusal h e t =
     let c = (after s bs).collector in
     let q = subst (λ (a : Collected). Says a (collector_fault c (length (after s bs).store))) e (call_front s bs h).says in
-    sym (call_shut (state c store) cs n (fault_stays c (length (after s bs).store) (length store) n q.0 q.1 t) (λ z. q.1 (sym z)))
+    let other = fault_stays c (length (after s bs).store) (length store) (refusal_number refusal) q.0 q.1 (λ z. t (number_one refusal Buffer z)) in
+    sym (call_refused (state c store) cs refusal other)
 
 pub request_one : RequestOne
 request_one =

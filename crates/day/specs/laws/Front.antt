@@ -1,5 +1,6 @@
 -- With the collector in front: the parts, and so the day, do not depend on how the bytes are cut between resets.
 use Rattle.std.specs.Prelude.{ℕ, ◌≡◌, refl, Bool, true, false, List, [], ◌∷◌, ◌++◌, map, get_or}
+use Rattle.wire.specs.declared.Refusal.{Refusal}
 use Rattle.std.proofs.Common.{sym, ap, ap₂, subst, ◌∙◌}
 use Rattle.whole.specs.Row.{◌⇒◌∣◌}
 use Rattle.collect.specs.declared.Collected.{Collected}
@@ -11,7 +12,7 @@ use Rattle.day.specs.Day.{State, Call, Asked, ask_header, ask_frame, asked, answ
 use Rattle.day.specs.Front.{Gathered, no_stretch, stretch, SameBytes, AllBytes, Gathers, part_of, lists_of, CollectedDay, Collects}
 use Rattle.day.specs.laws.Once.{once, can_be_made}
 
-pub refusal_no_call : (k : Collect.State) (bs : List ℕ) (n : ℕ) → (collect_of k bs).step.answer ≡ Refused n → parts_of (collect_of k bs).step ≡ []
+pub refusal_no_call : (k : Collect.State) (bs : List ℕ) (r : Refusal) → (collect_of k bs).step.answer ≡ Refused r → parts_of (collect_of k bs).step ≡ []
 refusal_no_call k bs n e = ap (λ (a : Collected). handed_on a (collect_of k bs).step.state.store) e
 
 -- ---- the collector's day

@@ -1,6 +1,7 @@
 -- The same said of a place of the picture, by 01's pixel rule.
 -- (01 is this project's scope document, 02 its change requests, 001 is MS-RDPRFX: README, "What 01 is".)
 use Rattle.std.specs.Prelude.{ℕ, zero, suc, ◌+◌, ◌*◌, ◌/◌, ◌%◌, ◌<◌, ◌≡◌, Bool, ltb, eqb, length}
+use Rattle.wire.specs.Refusal.{number_of}
 use Rattle.std.proofs.Math.Path.{refl, ap}
 use Rattle.std.proofs.Common.{subst, ◌∙◌, div-add-mod', div-lt_iff_lt-mul, mod-lt, arith, eqb-true, ltb-true, ltb-false}
 use Rattle.std.proofs.Math.Bool.{true, false}
@@ -11,7 +12,6 @@ use Rattle.whole.specs.Row.{◌⇒◌∣◌}
 use Rattle.frame_layout.specs.Reader.{frame_tiles, set_place, set_at}
 use Rattle.frame_draw.specs.Shown.{Found, found, none, last_tile, word_in}
 use Rattle.frame_draw.specs.Show.{tile_word}
-use Rattle.frame.specs.Frame.{frame_reading_number}
 use Rattle.frame.specs.laws.Glass.{shown_pixel, shown_past, shown_length}
 use Rattle.calls.specs.Calls.{ReadFrame}
 use Rattle.day.specs.Day.{State, Call, header, frame, FrameStep, Day, no_call, call, accepted}
@@ -44,7 +44,7 @@ some_width : (i h w : ℕ) → i < h * w → 0 < w
 some_width i h zero l = absurd (omega arith)
 some_width i h (suc w) l = omega arith
 
-module _ (c : ReadFrame) (taken : frame_reading_number c.answer ≡ 0) where
+module _ (c : ReadFrame) (taken : number_of c.answer ≡ 0) where
   abbrev w : ℕ
   w = c.session.width
 
@@ -73,8 +73,8 @@ module _ (c : ReadFrame) (taken : frame_reading_number c.answer ≡ 0) where
 module _ (s t : State) (c : ReadFrame) (cs : List ReadFrame) (k : FrameStep s c t) where
   pixel_one :
       (i : ℕ) (b : Bool)
-      → eqb (frame_reading_number c.answer) 0 ≡ b
-      → or_first (last_put cs i) (get_or t.picture i 0) ≡ or_first (last_put (eqb (frame_reading_number c.answer) 0 ⇒ c ∷ cs ∣ cs) i) (get_or s.picture i 0)
+      → eqb (number_of c.answer) 0 ≡ b
+      → or_first (last_put cs i) (get_or t.picture i 0) ≡ or_first (last_put (eqb (number_of c.answer) 0 ⇒ c ∷ cs ∣ cs) i) (get_or s.picture i 0)
   unfolding last_put ◌⇒◌∣◌
   pixel_one i true e =
       let p : get_or t.picture i 0 ≡ or_first (put c i) (get_or s.picture i 0) =
@@ -82,7 +82,7 @@ module _ (s t : State) (c : ReadFrame) (cs : List ReadFrame) (k : FrameStep s c 
       rw e (ap (or_first (last_put cs i)) p ∙ or-first (last_put cs i) (put c i) (get_or s.picture i 0))
   pixel_one i false e = rw e (ap (λ (x : List ℕ). or_first (last_put cs i) (get_or x i 0)) (frame_refused k (eqb-false _ 0 e)))
 
-  long_one : (b : Bool) → eqb (frame_reading_number c.answer) 0 ≡ b → length t.picture ≡ length s.picture
+  long_one : (b : Bool) → eqb (number_of c.answer) 0 ≡ b → length t.picture ≡ length s.picture
   long_one true e = ap length k.left ∙ shown_length _ _ _ _ _ _ _ _ _ _ _ _ _ _ c.promise (eqb-true _ 0 e) ∙ ap length k.lent
   long_one false e = ap length (frame_refused k (eqb-false _ 0 e))
 

@@ -1,13 +1,13 @@
 -- One call: a refused one leaves everything; and striking refused calls out of a day.
 -- (01 is this project's scope document, 02 its change requests, 001 is MS-RDPRFX: README, "What 01 is".)
 use Rattle.std.specs.Prelude.{ℕ, ◌≡◌, refl, Bool, true, false, List, [], ◌∷◌, ◌++◌, ◌≢◌, eqb}
+use Rattle.wire.specs.Refusal.{number_of}
 use Rattle.std.proofs.Common.{ap, ap₂, subst, ◌∙◌, eqb-true}
 use Rattle.std.proofs.lemmas.Bool.{eqb-false}
 use Rattle.whole.specs.Row.{◌⇒◌∣◌}
 use Rattle.wire.specs.Le.{le16}
 use Rattle.session.specs.declared.Session.{Session}
 use Rattle.session.specs.Header.{record_of, kept_glass, record_after}
-use Rattle.frame.specs.Frame.{frame_reading_number}
 use Rattle.frame.specs.laws.Glass.{refused}
 use Rattle.calls.specs.Calls.{ReadHeader, ReadFrame}
 use Rattle.calls.specs.laws.Calls.{header_taken, header_refused}
@@ -37,7 +37,7 @@ sync_taken c k e z = (k.left ∙ header_taken c z ∙ sync_record c.session c.me
 
 -- ---- "A refused header or frame changes neither record nor picture."
 
-pub frame_refused : {s t : State} {c : ReadFrame} → FrameStep s c t → frame_reading_number c.answer ≢ 0 → t.picture ≡ s.picture
+pub frame_refused : {s t : State} {c : ReadFrame} → FrameStep s c t → number_of c.answer ≢ 0 → t.picture ≡ s.picture
 frame_refused {c = c} k r = k.left ∙ (refused _ _ _ _ _ _ _ _ _ _ _ _ _ _ c.promise r).0 ∙ k.lent
 
 refused_same : (s t : State) (c : Call) → Step s c t → number c ≢ 0 → t ≡ s

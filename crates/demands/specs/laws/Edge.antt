@@ -1,17 +1,23 @@
 -- The calls for C are the panel's own: each promise gives back a call of calls/specs/Calls, so the demands hold of it too. And each promise leaves one number,
 -- one value and one content of every list (`OneAnswerC`).
-use Rattle.std.specs.Prelude.{ℕ, ◌≡◌, List, ℤ, length}
-use Rattle.std.proofs.Common.{sym, ◌∙◌}
+use Rattle.std.specs.Prelude.{ℕ, ◌≤◌, ◌≡◌, refl, List, ℤ, length}
+use Rattle.wire.specs.Refusal.{number_of, count_of}
+use Rattle.std.proofs.Common.{sym, ◌∙◌, subst, ap₂}
+use Rattle.whole.specs.Among.{among}
+use Rattle.whole.specs.laws.Among.{each, among_most}
+use Rattle.headers.specs.laws.Headers.{headers_among}
+use Rattle.code_write.specs.laws.Write.{write_among}
+use Rattle.frame_write.specs.laws.OneSet.{one_args, one_send}
+use Rattle.quants.specs.Quants.{one_for}
+use Rattle.panel.specs.laws.Cabinet.{over_few}
 use Rattle.whole.specs.Row.{◌⨟◌}
-use Rattle.wire.specs.Wrote.{writing_number, writing_length, Wrote}
+use Rattle.wire.specs.Wrote.{Wrote}
 use Rattle.wire.specs.laws.Wrote.{answer_of, answer_number, answer_length, answer_wrote}
 use Rattle.session.specs.declared.Session.{Session}
-use Rattle.session.specs.Header.{header_number}
 use Rattle.headers.specs.Headers.{headers_of, headers_fault}
 use Rattle.code.specs.Read.{reading_number, reading_bits, reading}
 use Rattle.code.specs.laws.OneCode.{read_once}
 use Rattle.code_write.specs.Write.{bytes_of, write_fault}
-use Rattle.frame.specs.Frame.{frame_reading_number, frame_reading_tiles}
 use Rattle.frame.specs.laws.Glass.{one_frame}
 use Rattle.frame_write.specs.Encode.{picture_frame}
 use Rattle.frame_write.specs.FrameWrite.{arg_fault, send_fault}
@@ -23,10 +29,10 @@ use Rattle.demands.specs.Demands.{OneAnswerC}
 -- ---- each is a call of calls/specs/Calls, so the demands hold of it; the number and the value that it hands out are that call's (`as_header` and `as_frame`
 -- stand there)
 
-pub header_is : (c : CReadHeader) → (c.number ≡ header_number (as_header c).answer) × (c.session' ≡ session_after (as_header c))
+pub header_is : (c : CReadHeader) → (c.number ≡ number_of (as_header c).answer) × (c.session' ≡ session_after (as_header c))
 header_is c = (c.promise.number, c.promise.session)
 
-pub frame_is : (c : CReadFrame) → (c.number ≡ frame_reading_number (as_frame c).answer) × (c.tiles ≡ frame_reading_tiles (as_frame c).answer)
+pub frame_is : (c : CReadFrame) → (c.number ≡ number_of (as_frame c).answer) × (c.tiles ≡ count_of (as_frame c).answer)
 frame_is c = (c.promise.number, c.promise.count)
 
 abbrev pub as_read : CReadComponent → ReadComponent
@@ -43,12 +49,16 @@ as_read c =
 pub read_is : (c : CReadComponent) → (c.number ≡ reading_number (as_read c).answer) × (c.bits ≡ reading_bits (as_read c).answer)
 read_is c = (c.promise.number, c.promise.long)
 
-module _ (f : ℕ) (bytes out out' : List ℕ) (size n : ℕ) (x : WriterCall f bytes out out' size n) where
+module _ (f : ℕ) (bytes out out' : List ℕ) (size n : ℕ) (few : f ≤ 13) (x : WriterCall f bytes out out' size n) where
   pub as_wrote : Wrote f bytes out out' (answer_of f bytes)
-  as_wrote = answer_wrote f bytes out out' x.left
+  as_wrote = answer_wrote f bytes out out' few x.left
 
-  pub wrote_is : (n ≡ writing_number (answer_of f bytes)) × (size ≡ writing_length (answer_of f bytes))
-  wrote_is = (x.number ∙ sym (answer_number f bytes), x.long ∙ sym (answer_length f bytes))
+  pub wrote_is : (n ≡ number_of (answer_of f bytes)) × (size ≡ count_of (answer_of f bytes))
+  wrote_is = (x.number ∙ sym (answer_number f bytes few), x.long ∙ sym (answer_length f bytes))
+
+pub write_few : (c : CWriteComponent) → write_fault c.mode c.list (length c.out) ≤ 13
+unfolding each among
+write_few c = among_most 13 (write_among c.mode c.list (length c.out)) refl
 
 abbrev pub as_write : CWriteComponent → WriteComponent
 as_write c = record {
@@ -57,11 +67,15 @@ as_write c = record {
   out = c.out;
   out' = c.out';
   answer = answer_of (write_fault c.mode c.list (length c.out)) (bytes_of c.mode c.list);
-  promise = as_wrote _ _ c.out c.out' c.size c.number c.promise;
+  promise = as_wrote _ _ c.out c.out' c.size c.number (write_few c) c.promise;
 }
 
-pub write_is : (c : CWriteComponent) → (c.number ≡ writing_number (as_write c).answer) × (c.size ≡ writing_length (as_write c).answer)
-write_is c = wrote_is _ _ c.out c.out' c.size c.number c.promise
+pub write_is : (c : CWriteComponent) → (c.number ≡ number_of (as_write c).answer) × (c.size ≡ count_of (as_write c).answer)
+write_is c = wrote_is _ _ c.out c.out' c.size c.number (write_few c) c.promise
+
+pub headers_few : (c : CWriteHeaders) → headers_fault c.width c.height c.mode (length c.out) ≤ 13
+unfolding each among
+headers_few c = among_most 13 (headers_among c.width c.height c.mode (length c.out)) refl
 
 abbrev pub as_headers : CWriteHeaders → WriteHeaders
 as_headers c = record {
@@ -71,16 +85,23 @@ as_headers c = record {
   out = c.out;
   out' = c.out';
   answer = answer_of (headers_fault c.width c.height c.mode (length c.out)) (headers_of c.width c.height c.mode);
-  promise = as_wrote _ _ c.out c.out' c.size c.number c.promise;
+  promise = as_wrote _ _ c.out c.out' c.size c.number (headers_few c) c.promise;
 }
 
-pub headers_is : (c : CWriteHeaders) → (c.number ≡ writing_number (as_headers c).answer) × (c.size ≡ writing_length (as_headers c).answer)
-headers_is c = wrote_is _ _ c.out c.out' c.size c.number c.promise
+pub headers_is : (c : CWriteHeaders) → (c.number ≡ number_of (as_headers c).answer) × (c.size ≡ count_of (as_headers c).answer)
+headers_is c = wrote_is _ _ c.out c.out' c.size c.number (headers_few c) c.promise
 
-abbrev send_number : CWriteFrame → ℕ
+abbrev pub send_number : CWriteFrame → ℕ
 send_number c =
     arg_fault c.width c.height c.mode c.quant (length c.pixels) (length c.list) (length c.scratch)
     ⨟ send_fault c.index c.width c.height c.mode c.quant c.pixels (length c.out)
+
+pub send_few : (c : CWriteFrame) → send_number c ≤ 13
+send_few c =
+    subst (λ (n : ℕ). n ≤ 13)
+    (ap₂ (λ (a b : ℕ). a ⨟ b) (one_args c.width c.height c.mode c.quant (length c.pixels) (length c.list) (length c.scratch))
+    (one_send c.pixels c.width c.height c.mode c.quant c.index (length c.out)))
+    (over_few c.width c.height c.mode (one_for c.quant) c.index c.pixels c.list c.scratch c.out)
 
 abbrev pub as_send : CWriteFrame → WriteFrame
 as_send c = record {
@@ -98,11 +119,11 @@ as_send c = record {
   out' = c.out';
   answer = answer_of (send_number c) (picture_frame c.index c.width c.height c.mode c.quant c.pixels);
   promise =
-      record { wrote = as_wrote _ _ c.out c.out' c.size c.number c.promise.wrote; first = c.promise.first; second = c.promise.second };
+      record { wrote = as_wrote _ _ c.out c.out' c.size c.number (send_few c) c.promise.wrote; first = c.promise.first; second = c.promise.second };
 }
 
-pub send_is : (c : CWriteFrame) → (c.number ≡ writing_number (as_send c).answer) × (c.size ≡ writing_length (as_send c).answer)
-send_is c = wrote_is _ _ c.out c.out' c.size c.number c.promise.wrote
+pub send_is : (c : CWriteFrame) → (c.number ≡ number_of (as_send c).answer) × (c.size ≡ count_of (as_send c).answer)
+send_is c = wrote_is _ _ c.out c.out' c.size c.number (send_few c) c.promise.wrote
 
 -- ---- one answer
 

@@ -1,34 +1,34 @@
 -- Requests Six and Thirteen over the calls: the proof of `RecordRight` and of `RecordGlass`, from the header call's laws and the frame call's promise.
 -- (01 is this project's scope document, 02 its change requests, 001 is MS-RDPRFX: README, "What 01 is".)
-use Rattle.std.specs.Prelude.{ℕ, ◌≤◌, ◌<◌, ◌≡◌, refl, false, List, length}
+use Rattle.std.specs.Prelude.{ℕ, ◌≤◌, ◌<◌, ◌≡◌, refl, false, List, length, Result}
+use Rattle.wire.specs.Refusal.{number_of}
 use Rattle.std.proofs.Common.{sym, ap, ◌∙◌, arith}
 use Rattle.std.proofs.Math.Path.{subst⁻¹}
 use Rattle.whole.specs.Row.{◌⇒◌∣◌}
 use Rattle.wire.specs.Le.{le16}
 use Rattle.session.specs.declared.Session.{Session}
-use Rattle.session.specs.declared.HeaderReading.{HeaderReading}
-use Rattle.session.specs.Header.{record_of, Right, made, kept_glass, record_after, header_number, header_record, header_reading}
+use Rattle.wire.specs.declared.Refusal.{Refusal}
+use Rattle.session.specs.Header.{record_of, Right, made, kept_glass, record_after, header_record, header_reading}
 use Rattle.session.specs.laws.Header.{right_at, other_glass}
 use Rattle.session.specs.laws.Right.{right_reading, glass_reading, wrong_made, glass_made, wrong_ready, wrong_header, sync_any}
-use Rattle.frame.specs.Frame.{frame_reading_number}
 use Rattle.calls.specs.Calls.{ReadHeader, session_after, ReadFrame, as_frame, OnOneRecord, no_call, header, frame}
 use Rattle.calls.specs.laws.Calls.{header-number, header_taken, unready_frame, other_size}
 use Rattle.demands.specs.Demands.{RecordRight, RecordGlass}
 
 right_after : (c : ReadHeader) → Right c.session → Right (session_after c)
-right_after c r = subst⁻¹ (λ (h : HeaderReading). Right (header_record h c.session)) c.promise (right_reading c.session c.message r)
+right_after c r = subst⁻¹ (λ (h : Result Session Refusal). Right (header_record h c.session)) c.promise (right_reading c.session c.message r)
 
 right_always : (s t : Session) → OnOneRecord s t → Right s → Right t
 right_always s t no_call r = r
 right_always s t (header c k) r = right_always _ t k (subst⁻¹ Right c.promise.session (right_reading c.session c.message r))
 right_always s t (frame c k) r = right_always _ t k (subst⁻¹ Right c.promise.session r)
 
-wrong_frame : (c : ReadFrame) → (Right c.session → ⊥) → frame_reading_number c.answer ≡ 12
+wrong_frame : (c : ReadFrame) → (Right c.session → ⊥) → number_of c.answer ≡ 12
 wrong_frame c w = unready_frame c (wrong_ready c.session (wrong_made c.session w))
 
 -- what a header other than a sync is answered with a record that no calls could have made
 unmade_header : (c : ReadHeader) → made c.session ≡ false → 6 ≤ length c.message → 0xCCC1 ≤ le16 c.message 0 → le16 c.message 0 ≤ 0xCCC3 →
-    header_number c.answer ≡ 12
+    number_of c.answer ≡ 12
 unmade_header c w some least most = header-number c ∙ wrong_header c.session c.message w some least most
 
 pub record_right : RecordRight
@@ -45,7 +45,7 @@ record_right = record {
 -- ---- the glass
 
 glass_kept : (c : ReadHeader) → c.session.glass ≤ 1 → (session_after c).glass ≡ c.session.glass
-glass_kept c l = ap (λ (h : HeaderReading). (header_record h c.session).glass) c.promise ∙ glass_reading c.session c.message l
+glass_kept c l = ap (λ (h : Result Session Refusal). (header_record h c.session).glass) c.promise ∙ glass_reading c.session c.message l
 
 -- one call more
 glass_on : (s t : Session) → s.glass ≤ 1 → t.glass ≡ s.glass → t.glass ≤ 1

@@ -1,21 +1,26 @@
 -- Request Eleven over the calls for C: each of them is one of the panel's (`as_short`, `as_sets`, `as_frame`), so `as_the_full` of its page holds of it.
 use Rattle.std.specs.Prelude.{ℕ, ◌≡◌, refl, List, length, take}
+use Rattle.wire.specs.Refusal.{number_of, count_of}
 use Rattle.std.proofs.Common.{ap, ap₂, sym, ◌∙◌}
-use Rattle.wire.specs.Wrote.{writing_number, writing_length}
+use Rattle.plan.specs.Answer.{plan_number}
+use Rattle.short_write.specs.Answer.{short_count}
 use Rattle.short_readback.specs.Request.{ReadOn, FullFrame}
 use Rattle.short_readback.specs.laws.Request.{request_eleven_frames}
 use Rattle.panel.specs.Short.{sets_for}
 use Rattle.calls.specs.Calls.{CReadFrame, as_frame, CWriteFrameSets, CWriteShort}
 use Rattle.demands.specs.ShortForC.{Ten, as_short, as_sets, ReadWith, ShortAndFull, ElevenForC}
-use Rattle.demands.specs.laws.Edge.{wrote_is}
 
 short_is : (c : CWriteShort) (t : Ten c.luma c.chroma) →
-    (c.number ≡ writing_number (as_short c t).answer) × (c.size ≡ writing_length (as_short c t).answer)
-short_is c t = wrote_is _ _ c.out c.out' c.size c.number c.promise.wrote
+    (c.number ≡ plan_number (as_short c t).answer) × (c.size ≡ short_count (as_short c t).answer)
+short_is c t =
+    let w = (as_short c t).promise.wrote in
+    (c.promise.wrote.number ∙ sym w.number, c.promise.wrote.long ∙ sym w.said)
 
 sets_is : (c : CWriteFrameSets) (t : Ten c.luma c.chroma) →
-    (c.number ≡ writing_number (as_sets c t).answer) × (c.size ≡ writing_length (as_sets c t).answer)
-sets_is c t = wrote_is _ _ c.out c.out' c.size c.number c.promise.wrote
+    (c.number ≡ number_of (as_sets c t).answer) × (c.size ≡ count_of (as_sets c t).answer)
+sets_is c t =
+    let w = (as_sets c t).promise.wrote in
+    (c.promise.wrote.number ∙ sym w.number, c.promise.wrote.long ∙ sym w.said)
 
 -- a frame call on a picture of this glass, on a message that is this
 read_on : (glass w h mode : ℕ) (m n pic : List ℕ) (f : CReadFrame) → ReadWith w h mode m f → f.word ≡ glass → m ≡ n → f.picture ≡ pic →

@@ -1,10 +1,13 @@
 -- Laws of the frame call: what a passed check gives, how the message's first fault is put together, and the three ways out.
-use Rattle.std.specs.Prelude.{ℕ, zero, suc, ◌+◌, ◌*◌, ◌≤◌, ◌≡◌, refl, true, false, List, ℤ, length, eqb, leb}
+use Rattle.std.specs.Prelude.{ℕ, zero, suc, ◌+◌, ◌*◌, ◌≤◌, ◌≡◌, refl, true, false, List, ℤ, length, eqb, leb, Ok, Err}
 use Rattle.std.proofs.Math.Path.{sym, ap}
 use Rattle.std.proofs.Common.{subst, ◌∙◌, true≢false, arith}
 use borrow.Author.Tests.{eqb-true, leb-true, eq-eqb, ne_eqb}
 use Rattle.whole.specs.Row.{◌⨟◌}
 use Rattle.whole.specs.laws.Row.{held, both, stops, goes_on, passes, fails, case_yes, case_no, ne_is}
+use Rattle.wire.specs.Refusal.{refusal_number, refusal_of}
+use Rattle.wire.specs.laws.Refusal.{number_pos, refusal_back}
+use Rattle.wire.specs.declared.Refusal.{Refusal}
 use Rattle.frame_layout.specs.Reader.{begin_fault, region_fault, end_fault, frame_fault, tiles_fault, size_at, set_place, end_place, quant_count, set_at}
 use Rattle.frame_layout.specs.Reader.{rect_count}
 use Rattle.frame_layout.specs.Reader.{tile_count, data_of, tiles_in, frame_tiles}
@@ -19,7 +22,6 @@ use Rattle.session.specs.Header.{ready}
 use Rattle.session.specs.declared.Session.{Session}
 use Rattle.frame.specs.Frame.{full, call_fault, early, front_fault, framed, frame_number, frame_picture, frame_list, Cleared, frame_reading, pass_of}
 use Rattle.frame.specs.Frame.{FrameJudged, FrameRead}
-use Rattle.frame.specs.declared.call.FrameReading.TheVariants.{Done, Refused}
 
 not_0 : (k : ℕ) → 0 ≡ suc k → ⊥
 not_0 k e = omega arith
@@ -113,13 +115,13 @@ message_good w h et m e =
 
 -- ---- the three ways out
 
-answer_refused : (n k : ℕ) (m : List ℕ) → k ≡ n → (k ≡ 0 → ⊥) → Refused k ≡ frame_reading n m
+answer_refused : (n : ℕ) (e : Refusal) (m : List ℕ) → refusal_number e ≡ n → Err e ≡ frame_reading n m
 unfolding frame_reading
-answer_refused n k m e h = case_no _ _ _ _ (ne_is e refl h) (ap Refused e)
+answer_refused n e m h = case_no _ _ _ _ (ne_is h refl (number_pos e)) (ap Err (sym (refusal_back e) ∙ ap refusal_of h))
 
-answer_done : (n k : ℕ) (m : List ℕ) → n ≡ 0 → k ≡ tile_count m (set_place m) → Done k ≡ frame_reading n m
+answer_done : (n k : ℕ) (m : List ℕ) → n ≡ 0 → k ≡ tile_count m (set_place m) → Ok k ≡ frame_reading n m
 unfolding frame_reading
-answer_done n k m e h = case_yes _ _ _ _ (eq-eqb n 0 e) (ap Done h)
+answer_done n k m e h = case_yes _ _ _ _ (eq-eqb n 0 e) (ap Ok h)
 
 -- what is judged before the picture is touched
 module _ (word : ℕ) (s : Session) (p : ℕ) (m : List ℕ) (y cb cr tmp : List ℤ) (f : ℕ)
@@ -177,11 +179,12 @@ module _ (word : ℕ) (s : Session) (m pic : List ℕ) (y cb cr tmp y' cb' cr' t
   is_number = j.number
 
   -- a refusal: the picture is as it was
-  pub frame_refused : (n ≡ 0 → ⊥) → FrameRead word s m pic y cb cr tmp pic y' cb' cr' tmp' (Refused n)
+  pub frame_refused : (e : Refusal) → refusal_number e ≡ n → FrameRead word s m pic y cb cr tmp pic y' cb' cr' tmp' (Err e)
   unfolding number before frame_picture
-  frame_refused k =
+  frame_refused e h =
+      let k : n ≡ 0 → ⊥ = λ z. number_pos e (h ∙ z) in
       record {
-        answer = answer_refused _ _ m is_number k;
+        answer = answer_refused _ e m (h ∙ is_number);
         picture = fails _ _ _ _ (ne_eqb number 0 (λ x. k (is_number ∙ x))) refl;
         y_list = j.y_left k;
         cb_list = j.cb_left k;
@@ -205,7 +208,7 @@ module _ (word : ℕ) (s : Session) (m pic : List ℕ) (y cb cr tmp y' cb' cr' t
     -- done: the frame is drawn, the lists are cleared
     pub frame_done :
         (pic' : List ℕ) (y'' cb'' cr'' tmp'' : List ℤ) (k : ℕ) → pic' ≡ framed word s.mode s.width s.height m pic → Cleared y'' cb'' cr'' tmp'' →
-        k ≡ tile_count m (set_place m) → FrameRead word s m pic y cb cr tmp pic' y'' cb'' cr'' tmp'' (Done k)
+        k ≡ tile_count m (set_place m) → FrameRead word s m pic y cb cr tmp pic' y'' cb'' cr'' tmp'' (Ok k)
     unfolding number before frame_picture frame_list
     frame_done pic' y'' cb'' cr'' tmp'' k p c t =
         let d : pic' ≡ framed s.glass s.mode s.width s.height m pic =

@@ -4,7 +4,7 @@
 -- entered only then (`frame_draw::paint::show` and `paint_32::show` ask for a frame without a fault); each component that it decodes is one of these
 -- (`tile_back::samples` asks that its number is 0), and decoding for drawing has no answer to give.
 -- (01 is this project's scope document, 02 its change requests, 001 is MS-RDPRFX: README, "What 01 is".)
-use Rattle.std.specs.Prelude.{ℕ, zero, suc, ◌+◌, ◌≤◌, ◌<◌, ◌≡◌, ℤ, length}
+use Rattle.std.specs.Prelude.{ℕ, zero, suc, ◌+◌, ◌≤◌, ◌<◌, ◌≡◌, ℤ, length, Result}
 use Rattle.std.proofs.Common.{sym, subst, ⊎_elim, arith}
 use mathlib.Core.List.Memᴰ
 use mathlib.Core.List.{List, Memᴰ}
@@ -15,8 +15,9 @@ use Rattle.frame_blocks.specs.Tiles.{index_of, code_part}
 use Rattle.frame_blocks.specs.laws.Tiles.{sound_part, tile_sound}
 use Rattle.frame_blocks.specs.Judged.{judged, in_set}
 use Rattle.session.specs.declared.Session.{Session}
-use Rattle.frame.specs.declared.call.FrameReading.{FrameReading}
-use Rattle.frame.specs.Frame.{frame_reading_number, FrameRead}
+use Rattle.wire.specs.Refusal.{number_of}
+use Rattle.wire.specs.declared.Refusal.{Refusal}
+use Rattle.frame.specs.Frame.{FrameRead}
 use Rattle.frame.specs.laws.Frame.{message_good}
 use Rattle.frame.specs.laws.Glass.{accepted}
 
@@ -38,8 +39,8 @@ component_number s m t k = judged s.mode (set_at m (set_place m) (index_of t k))
 
 -- THE STATEMENT: a frame call that answers 0 has drawn tiles none of whose components can be refused
 pub drawn_sound :
-    (word : ℕ) (s : Session) (m pic : List ℕ) (y cb cr tmp : List ℤ) (pic' : List ℕ) (y' cb' cr' tmp' : List ℤ) (r : FrameReading) →
-    FrameRead word s m pic y cb cr tmp pic' y' cb' cr' tmp' r → frame_reading_number r ≡ 0 →
+    (word : ℕ) (s : Session) (m pic : List ℕ) (y cb cr tmp : List ℤ) (pic' : List ℕ) (y' cb' cr' tmp' : List ℤ) (r : Result ℕ Refusal) →
+    FrameRead word s m pic y cb cr tmp pic' y' cb' cr' tmp' r → number_of r ≡ 0 →
     (t : Tile) → Memᴰ t (frame_tiles m) → (k : ℕ) → k < 3 → component_number s m t k ≡ 0
 unfolding frame_tiles in_set
 drawn_sound word s m pic y cb cr tmp pic' y' cb' cr' tmp' r done z t l k b =

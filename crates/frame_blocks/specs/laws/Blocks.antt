@@ -1,15 +1,24 @@
 -- What a passed check gives, block by block, and how a tileset's fault goes on with its tiles.
-use Rattle.std.specs.Prelude.{ℕ, zero, suc, ◌+◌, ◌*◌, ◌-◌, ◌≤◌, ◌<◌, ◌≡◌, refl, Bool, true, List, length, get_or, leb, eqb}
-use Rattle.std.proofs.Common.{ap, sym, ◌∙◌, arith, add_assoc}
+use Rattle.std.specs.Prelude.{ℕ, zero, suc, ◌+◌, ◌*◌, ◌-◌, ◌≤◌, ◌<◌, ◌≡◌, refl, Bool, true, List, length, get_or, take, drop, leb, eqb, Result, IsErrAnd}
+use Rattle.std.proofs.Common.{ap, sym, ◌∙◌, arith, add_assoc, length-drop, get_or-drop}
+use Rattle.std.proofs.Math.Seq.{get_or-take, length-take-le}
 use borrow.Author.Tests.{leb-true, eqb-true}
 use Rattle.whole.specs.Row.{◌⨟◌}
 use Rattle.whole.specs.laws.Row.{held, both, stops, goes_on}
+use Rattle.wire.specs.Refusal.{refusal_number, number_of}
+use Rattle.wire.specs.laws.Refusal.{number_pos, number_on}
+use Rattle.wire.specs.declared.Refusal.{Refusal}
 use Rattle.frame_layout.specs.Reader.{block_judge, size_at, fixed_head, least_head, codec_fault, begin_fault, region_judge, region_fault, rect_count, set_judge}
 use Rattle.frame_layout.specs.Reader.{set_fault, halves_fault, quants_fault, quant_count, set_at, tile_count, data_of, tiles_fault}
 use Rattle.frame_blocks.specs.Blocks.{set_fields, set_front, RegionGood, SetGood}
 
 not_0 : (k : ℕ) → 0 ≡ suc k → ⊥
 not_0 k e = omega arith
+
+-- what a `?` hands on is the first fault, where that is what it found
+pub handed_first : {A : Type 0} (answer : Result A Refusal) (refusal : Refusal) (f b : ℕ) → IsErrAnd answer (λ r. r ≡ refusal) →
+    refusal_number refusal ≡ f → number_of answer ≡ (f ⨟ b)
+handed_first answer refusal f b h e = stops f b (number_of answer) (λ z. number_pos refusal (e ∙ z)) (number_on answer refusal h ∙ e)
 
 pub head_good : (kind is : ℕ) (t : Bool) (size room : ℕ) → 0 ≡ block_judge kind is t size room → (t ≡ true) × (size ≤ room)
 unfolding block_judge
@@ -92,6 +101,13 @@ quants_go_on m k at i l f =
 pub quants_end : (m : List ℕ) (k at i : ℕ) → k ≤ i → 0 ≡ quants_fault m (k - i) (at + i)
 unfolding quants_fault
 quants_end m k at i l = let z : k - i ≡ 0 = omega arith in rw z refl
+
+-- the bytes of the part that a walk goes over
+pub part_byte : (m : List ℕ) (k at i : ℕ) → i < k → get_or (take (at + k - at) (drop at m)) i 0 ≡ get_or m (at + i) 0
+part_byte m k at i l = get_or-take (at + k - at) (drop at m) i 0 (omega arith) ∙ get_or-drop at m i 0
+
+pub part_long : (m : List ℕ) (k at : ℕ) → at + k ≤ length m → length (take (at + k - at) (drop at m)) ≡ k
+part_long m k at l = length-take-le (at + k - at) (drop at m) (let d = length-drop at m in omega arith) ∙ omega arith
 
 -- every byte of a checked row of quantisers is good
 pub quants_each : (m : List ℕ) (k at i : ℕ) → 0 ≡ quants_fault m k at → i < k → 0 ≡ halves_fault (get_or m (at + i) 0)

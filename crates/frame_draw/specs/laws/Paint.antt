@@ -1,11 +1,12 @@
 -- Laws of the loops that carry the picture, of words of any size: what is drawn of a row, of a tile and of a frame so far, and one step more.
--- `paint` and `paint_32` both cite them, and say nothing else.
+-- `paint` cites them of the words' numbers, and says nothing else.
 -- Assumes nothing.
-use Rattle.std.specs.Prelude.{ℕ, ◌+◌, ◌*◌, ◌-◌, ◌/◌, ◌%◌, ◌^◌, ◌≤◌, ◌<◌, ◌≡◌, refl, List, ℤ, get_or, set}
+use Rattle.std.specs.Prelude.{ℕ, ◌+◌, ◌*◌, ◌-◌, ◌/◌, ◌%◌, ◌^◌, ◌≤◌, ◌<◌, ◌≡◌, refl, List, ℤ, get_or, set, map}
 use Rattle.std.proofs.Math.Path.{ap, sym}
 use Rattle.std.proofs.Common.{◌∙◌, arith, length-set, eq-eqb, ne_eqb}
 use Rattle.std.proofs.Math.Nat.{sub-zero}
 use Rattle.std.proofs.Math.ListN.{length}
+use Rattle.std.proofs.lemmas.List.{map-set, get_or-map}
 use Rattle.whole.specs.laws.Row.{case_yes, case_no}
 use Rattle.frame_layout.specs.Bytes.{Tile}
 use Rattle.frame_layout.specs.Reader.{tiles_fault, tiles_in, tile_at, data_of, size_at, set_at, rect_count, quant_count, tile_count}
@@ -24,6 +25,13 @@ use Rattle.frame_draw.specs.Show.{Lists, Ready, tile_word}
 use Rattle.frame_draw.specs.laws.Show.{shown_next, shown_none, ready_drawn, data_short}
 
 -- ---- a row
+
+-- a word of a row put into the picture, by the words' numbers
+pub number_put :
+    {W : Type 0} (number : W → ℕ) (pic row : List W) (place x : ℕ) (v : W) → x < length row → v ≡ get_or row x v →
+    map number (set pic place v) ≡ set (map number pic) place (get_or (map number row) x 0)
+number_put number pic row place x v l e =
+    map-set number pic place v ∙ ap (set (map number pic) place) (ap number e ∙ sym (get_or-map number row x v 0 l))
 
 -- of a row's words those before x are in the picture, where their bits are set
 pub record Putting (mask : ℕ) (row : List ℕ) (w tx py : ℕ) (first : List ℕ) (x : ℕ) (pic : List ℕ) : Type 0 where

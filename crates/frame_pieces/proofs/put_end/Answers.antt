@@ -13,5 +13,4 @@ unfolding bytes16 bytes32 end_of
 returns c =
     let w1 = c.open_block.ensures in
     let w2 = patch_next _ _ _ _ _ _ _ w1 c.put_two8.ensures refl (omega arith) in
-    block_closed _ _ _ c.args.at 0xCCC5 8
-    (drop 6 end_of) w2 c.put32_at.ensures (omega arith)
+    block_closed _ _ _ c.args.at 0xCCC5 8 (drop 6 end_of) w2 c.put32_at.ensures (omega arith)

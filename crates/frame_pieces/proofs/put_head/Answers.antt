@@ -9,18 +9,9 @@ use Rattle.frame_pieces.proofs.put_head.Goals as goal
 pub returns : goal.returns
 unfolding bytes16 bytes32 head_of
 returns c =
-    let w1 =
-    c.open_block.ensures in
-    let w2 =
-    patch_next _ _ _ _ _ _ _ w1
-    c.put_two8.ensures refl (omega arith) in
-    let w3 =
-    patch_next _ _ _ _ _ _ _ w2
-    c.put8_at.ensures refl
-    (omega arith) in
-    let w4 =
-    patch_next _ _ _ _ _ _ _ w3 c.put_two16.ensures refl
-    (omega arith) in
+    let w1 = c.open_block.ensures in
+    let w2 = patch_next _ _ _ _ _ _ _ w1 c.put_two8.ensures refl (omega arith) in
+    let w3 = patch_next _ _ _ _ _ _ _ w2 c.put8_at.ensures refl (omega arith) in
+    let w4 = patch_next _ _ _ _ _ _ _ w3 c.put_two16.ensures refl (omega arith) in
     let w5 = patch_next _ _ _ _ _ _ _ w4 c.put_two16-2.ensures refl (omega arith) in
-    let w6 = patch_next _ _ _ _ _ _ _ w5 c.put16_at.ensures refl (omega arith) in
-    w6
+    patch_next _ _ _ _ _ _ _ w5 c.put16_at.ensures refl (omega arith)

@@ -11,28 +11,11 @@ use Rattle.frame_pieces.proofs.put_region.Goals as goal
 pub returns : goal.returns
 unfolding bytes16 bytes32 region_of
 returns c =
-    let w1 =
-    c.open_block.ensures in
-    let w2 =
-    patch_next _ _ _ _ _ _ _ w1
-    c.put_two8.ensures refl (omega arith) in
-    let w3 =
-    patch_next _ _ _ _ _ _ _ w2
-    c.put8_at.ensures refl (omega arith) in
-    let w4 =
-    patch_next _ _ _ _ _ _ _ w3
-    c.put16_at.ensures refl (omega arith) in
-    let w5 =
-    patch_next _ _ _ _ _ _ _ w4
-    c.put_two16.ensures refl
-    (omega arith) in
-    let w6 =
-    patch_next _ _ _ _ _ _ _ w5 c.put_two16-2.ensures refl
-    (omega arith) in
+    let w1 = c.open_block.ensures in
+    let w2 = patch_next _ _ _ _ _ _ _ w1 c.put_two8.ensures refl (omega arith) in
+    let w3 = patch_next _ _ _ _ _ _ _ w2 c.put8_at.ensures refl (omega arith) in
+    let w4 = patch_next _ _ _ _ _ _ _ w3 c.put16_at.ensures refl (omega arith) in
+    let w5 = patch_next _ _ _ _ _ _ _ w4 c.put_two16.ensures refl (omega arith) in
+    let w6 = patch_next _ _ _ _ _ _ _ w5 c.put_two16-2.ensures refl (omega arith) in
     let w7 = patch_next _ _ _ _ _ _ _ w6 c.put_two16-3.ensures refl (omega arith) in
-    block_closed _ _ _ 14 0xCCC6 23
-    (drop 6
-    (region_of
-    c.args.w
-    c.args.h))
-    w7 c.put32_at.ensures (omega arith)
+    block_closed _ _ _ 14 0xCCC6 23 (drop 6 (region_of c.args.w c.args.h)) w7 c.put32_at.ensures (omega arith)

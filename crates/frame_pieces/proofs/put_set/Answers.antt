@@ -9,21 +9,10 @@ use Rattle.frame_pieces.proofs.put_set.Goals as goal
 pub returns : goal.returns
 unfolding bytes16 bytes32 set_head_of
 returns c =
-    let w1 =
-    c.open_block.ensures in
-    let w2 =
-    patch_next _ _ _ _ _ _ _ w1
-    c.put_two8.ensures refl (omega arith) in
-    let w3 =
-    patch_next _ _ _ _ _ _ _ w2
-    c.put_two16.ensures refl (omega arith) in
-    let w4 =
-    patch_next _ _ _ _ _ _ _ w3
-    c.put16_at.ensures refl
-    (omega arith) in
-    let w5 =
-    patch_next _ _ _ _ _ _ _ w4 c.put_two8-2.ensures refl
-    (omega arith) in
+    let w1 = c.open_block.ensures in
+    let w2 = patch_next _ _ _ _ _ _ _ w1 c.put_two8.ensures refl (omega arith) in
+    let w3 = patch_next _ _ _ _ _ _ _ w2 c.put_two16.ensures refl (omega arith) in
+    let w4 = patch_next _ _ _ _ _ _ _ w3 c.put16_at.ensures refl (omega arith) in
+    let w5 = patch_next _ _ _ _ _ _ _ w4 c.put_two8-2.ensures refl (omega arith) in
     let w6 = patch_next _ _ _ _ _ _ _ w5 c.put16_at-2.ensures refl (omega arith) in
-    let w7 = patch_next _ _ _ _ _ _ _ w6 c.put32_at.ensures refl (omega arith) in
-    w7 ∙ rw c.props.ensures
+    patch_next _ _ _ _ _ _ _ w6 c.put32_at.ensures refl (omega arith) ∙ rw c.props.ensures

@@ -2,7 +2,7 @@
 -- them; no code is mentioned.
 -- Assumes nothing.
 -- (01 is this project's scope document, 02 its change requests, 001 is MS-RDPRFX: README, "What 01 is".)
-use Rattle.std.specs.Prelude.{ℕ, ◌+◌, ◌*◌, ◌/◌, ◌%◌, ◌≤◌, ◌<◌, ◌≡◌, true, false, List, ◌++◌, ◌⊎◌, ℤ, length, take}
+use Rattle.std.specs.Prelude.{ℕ, ◌+◌, ◌*◌, ◌/◌, ◌%◌, ◌≤◌, ◌<◌, ◌≡◌, true, false, List, ◌++◌, ◌⊎◌, ℤ, length, take, Result}
 use Rattle.std.proofs.Math.Path.{refl, ap₂, sym, subst}
 use Rattle.std.proofs.Common.{ap, ◌∙◌, div-add-mod', eqb-true, eq-eqb, ne_eqb, le-leb}
 use Rattle.std.proofs.Math.Logic.{⊎_elim}
@@ -10,9 +10,9 @@ use native.Mathlib.Omega.{arith}
 use Rattle.std.proofs.Math.Nat.{mul_comm}
 use Rattle.std.proofs.Math.Dec.{eqb}
 use Rattle.wire.specs.Mode.{is_mode}
-use Rattle.wire.specs.Wrote.{writing_number, writing_length}
+use Rattle.wire.specs.Refusal.{number_of, count_of}
 use Rattle.wire.specs.laws.Wrote.{wrote_bytes}
-use Rattle.wire.specs.declared.Writing.{Writing}
+use Rattle.wire.specs.declared.Refusal.{Refusal}
 use Rattle.whole.specs.Row.{◌⇒◌∣◌}
 use Rattle.whole.specs.laws.Row.{passes, fails, both, held, goes_on, case_is}
 use Rattle.frame_layout.specs.Bytes.{Tile, set_count, tiles_of, frame_of, end_of}
@@ -38,8 +38,7 @@ use Rattle.frame_draw.specs.laws.Pixels.{split}
 use Rattle.frame_draw.specs.Draw.{in_region}
 use Rattle.frame_draw.specs.Shown.{in_tile, Found, found, none, last_tile, word_in}
 use Rattle.frame_draw.specs.Show.{plane_of, tile_word}
-use Rattle.frame.specs.declared.call.FrameReading.{FrameReading}
-use Rattle.frame.specs.Frame.{full, call_fault, early, frame_number, frame_reading_number, FrameRead}
+use Rattle.frame.specs.Frame.{full, call_fault, early, frame_number, FrameRead}
 use Rattle.frame.specs.laws.Glass.{number_is, accepted, shown_pixel, shown_past, shown_length}
 use Rattle.frame_pieces.specs.Parts.{tile_with, cols_of, tiles_no}
 use Rattle.frame_pieces.specs.laws.Parts.{count_is}
@@ -64,17 +63,17 @@ mode_of w h mode q pixels list scratch e =
     let b = held (is_mode mode) 5 _ 0 (λ z. omega arith) a.1 in
     (a.0, b.0)
 
-pub record Written (w h mode : ℕ) (q : Quants) (index : ℕ) (p out' : List ℕ) (r : Writing) : Type 0 where
+pub record Written (w h mode : ℕ) (q : Quants) (index : ℕ) (p out' : List ℕ) (r : Result ℕ Refusal) : Type 0 where
   pub size : size_good w h ≡ true
   pub sendable : Sendable p w h mode q
-  pub bytes : take (writing_length r) out' ≡ frame_over index w h mode q p
+  pub bytes : take (count_of r) out' ≡ frame_over index w h mode q p
 
 pub written_is :
-    (w h mode : ℕ) (q : Quants) (index : ℕ) (p : List ℕ) (list list' scratch scratch' : List ℤ) (out out' : List ℕ) (r : Writing)
+    (w h mode : ℕ) (q : Quants) (index : ℕ) (p : List ℕ) (list list' scratch scratch' : List ℤ) (out out' : List ℕ) (r : Result ℕ Refusal)
     → length q.luma.v ≡ 10
     → length q.chroma.v ≡ 10
     → FrameWrittenOver w h mode q index p list list' scratch scratch' out out' r
-    → writing_number r ≡ 0
+    → number_of r ≡ 0
     → Written w h mode q index p out' r
 unfolding send_fault_over
 written_is w h mode q index p list list' scratch scratch' out out' r luma chroma f e =
@@ -207,7 +206,7 @@ module _ (p : List ℕ) (w h mode : ℕ) (q : Quants) (index n : ℕ) (pick : �
 
   -- the frame call on it, with the record that our headers give, lists of 4,096 and a picture long enough
   module _ (glass : ℕ) (either : glass ≤ 1) (good : size_good w h ≡ true) (pic : List ℕ) (y cb cr tmp : List ℤ) (pic' : List ℕ) (y' cb' cr' tmp' : List ℤ)
-      (r : FrameReading)
+      (r : Result ℕ Refusal)
       (ly : length y ≡ 4096) (lb : length cb ≡ 4096) (lr : length cr ≡ 4096) (lt : length tmp ≡ 4096) (room : h * w ≤ length pic)
       (done : FrameRead glass (record_of glass 4 w h mode) m pic y cb cr tmp pic' y' cb' cr' tmp' r) where
     call_fine : 0 ≡ early glass (record_of glass 4 w h mode) pic y cb cr tmp
@@ -219,7 +218,7 @@ module _ (p : List ℕ) (w h mode : ℕ) (q : Quants) (index n : ℕ) (pick : �
         (passes _ _ _ _ (eq-eqb (length cb) 4096 lb) (passes _ _ _ _ (eq-eqb (length cr) 4096 lr) (sym (eq-eqb (length tmp) 4096 lt))))))
         (passes _ _ _ _ (eq-eqb glass glass refl) (passes _ _ _ _ (le-leb (h * w) (length pic) room) refl)))
 
-    number_0 : frame_reading_number r ≡ 0
+    number_0 : number_of r ≡ 0
     unfolding frame_number
     number_0 = number_is glass (record_of glass 4 w h mode) m pic y cb cr tmp pic' y' cb' cr' tmp' r done ∙ sym (goes_on _ _ _ (sym call_fine) taken.fault)
 
@@ -239,7 +238,7 @@ module _ (p : List ℕ) (w h mode : ℕ) (q : Quants) (index n : ℕ) (pick : �
     }
 
 -- all tiles sent: every word of the channel
-all_shown : (glass : ℕ) (p : List ℕ) (w h mode : ℕ) (q : Quants) (pic pic' : List ℕ) (r : FrameReading) →
+all_shown : (glass : ℕ) (p : List ℕ) (w h mode : ℕ) (q : Quants) (pic pic' : List ℕ) (r : Result ℕ Refusal) →
     ShownPicked glass p w h q (tiles_no w h) (λ k. k) pic pic' r → ShownOver glass p w h q pic pic' r
 all_shown glass p w h mode q pic pic' r s = record {
   number = s.number;
@@ -251,12 +250,12 @@ all_shown glass p w h mode q pic pic' r s = record {
 
 -- our frame alone: with the record that our headers give
 pub own_frame_over :
-    (glass w h mode : ℕ) → glass ≤ 1 → (q : Quants) (index : ℕ) (p : List ℕ) (list list' scratch scratch' : List ℤ) (out out' : List ℕ) (r : Writing) →
+    (glass w h mode : ℕ) → glass ≤ 1 → (q : Quants) (index : ℕ) (p : List ℕ) (list list' scratch scratch' : List ℤ) (out out' : List ℕ) (r : Result ℕ Refusal) →
     length q.luma.v ≡ 10 → length q.chroma.v ≡ 10 →
-    FrameWrittenOver w h mode q index p list list' scratch scratch' out out' r → writing_number r ≡ 0 →
-    (pic : List ℕ) (y cb cr tmp : List ℤ) (pic' : List ℕ) (y' cb' cr' tmp' : List ℤ) (answer : FrameReading) →
+    FrameWrittenOver w h mode q index p list list' scratch scratch' out out' r → number_of r ≡ 0 →
+    (pic : List ℕ) (y cb cr tmp : List ℤ) (pic' : List ℕ) (y' cb' cr' tmp' : List ℤ) (answer : Result ℕ Refusal) →
     length y ≡ 4096 → length cb ≡ 4096 → length cr ≡ 4096 → length tmp ≡ 4096 → h * w ≤ length pic →
-    FrameRead glass (record_of glass 4 w h mode) (take (writing_length r) out') pic y cb cr tmp pic' y' cb' cr' tmp' answer →
+    FrameRead glass (record_of glass 4 w h mode) (take (count_of r) out') pic y cb cr tmp pic' y' cb' cr' tmp' answer →
     ShownOver glass p w h q pic pic' answer
 unfolding frame_over
 own_frame_over glass w h mode either q index p list list' scratch scratch' out out' r luma chroma fw f pic y cb cr tmp pic' y' cb' cr' tmp' answer ly lb lr lt
@@ -275,14 +274,15 @@ own_frame_over glass w h mode either q index p list list' scratch scratch' out o
 -- coefficients of the given pixels; nothing else changes.
 -- Over both sets, each component by its own:
 pub our_own_frames_over :
-    (glass : ℕ) (s₀ : Session) (w h mode : ℕ) (ho ho' : List ℕ) (hr : Writing) → glass ≤ 1 → HeadersWritten w h mode ho ho' hr → writing_number hr ≡ 0 →
-    (q : Quants) (index : ℕ) (p : List ℕ) (list list' scratch scratch' : List ℤ) (out out' : List ℕ) (r : Writing) →
+    (glass : ℕ) (s₀ : Session) (w h mode : ℕ) (ho ho' : List ℕ) (hr : Result ℕ Refusal) → glass ≤ 1 →
+    HeadersWritten w h mode ho ho' hr → number_of hr ≡ 0 →
+    (q : Quants) (index : ℕ) (p : List ℕ) (list list' scratch scratch' : List ℤ) (out out' : List ℕ) (r : Result ℕ Refusal) →
     length q.luma.v ≡ 10 → length q.chroma.v ≡ 10 →
-    FrameWrittenOver w h mode q index p list list' scratch scratch' out out' r → writing_number r ≡ 0 →
-    (pic : List ℕ) (y cb cr tmp : List ℤ) (pic' : List ℕ) (y' cb' cr' tmp' : List ℤ) (answer : FrameReading) →
+    FrameWrittenOver w h mode q index p list list' scratch scratch' out out' r → number_of r ≡ 0 →
+    (pic : List ℕ) (y cb cr tmp : List ℤ) (pic' : List ℕ) (y' cb' cr' tmp' : List ℤ) (answer : Result ℕ Refusal) →
     length y ≡ 4096 → length cb ≡ 4096 → length cr ≡ 4096 → length tmp ≡ 4096 → h * w ≤ length pic →
-    FrameRead glass (record_of glass 4 w h mode) (take (writing_length r) out') pic y cb cr tmp pic' y' cb' cr' tmp' answer →
-    AllTaken s₀ w h mode (take (writing_length hr) ho') × ShownOver glass p w h q pic pic' answer
+    FrameRead glass (record_of glass 4 w h mode) (take (count_of r) out') pic y cb cr tmp pic' y' cb' cr' tmp' answer →
+    AllTaken s₀ w h mode (take (count_of hr) ho') × ShownOver glass p w h q pic pic' answer
 our_own_frames_over glass s₀ w h mode ho ho' hr either hw e q index p list list' scratch scratch' out out' r luma chroma fw f
     pic y cb cr tmp pic' y' cb' cr' tmp' answer ly lb lr lt room done = (
       our_headers s₀ w h mode ho ho' hr hw e,
@@ -292,19 +292,21 @@ our_own_frames_over glass s₀ w h mode ho ho' hr either hw e q index p list lis
 
 -- with one set for both it is what 01 says
 one_shown :
-    (glass : ℕ) (p : List ℕ) (w h : ℕ) (q pic pic' : List ℕ) (r : FrameReading) → ShownOver glass p w h (one_for q) pic pic' r →
+    (glass : ℕ) (p : List ℕ) (w h : ℕ) (q pic pic' : List ℕ) (r : Result ℕ Refusal) → ShownOver glass p w h (one_for q) pic pic' r →
     Shown glass p w h q pic pic' r
 unfolding word_over word_back quant_for ◌⇒◌∣◌
 one_shown glass p w h q pic pic' r s = record { number = s.number; tiles = s.tiles; word = s.word; past = s.past; long = s.long }
 
 pub our_own_frames :
-    (glass : ℕ) (s₀ : Session) (w h mode : ℕ) (ho ho' : List ℕ) (hr : Writing) → glass ≤ 1 → HeadersWritten w h mode ho ho' hr → writing_number hr ≡ 0 →
-    (q : List ℕ) (index : ℕ) (p : List ℕ) (list list' scratch scratch' : List ℤ) (out out' : List ℕ) (r : Writing) → length q ≡ 10 →
-    FrameWritten w h mode q index p list list' scratch scratch' out out' r → writing_number r ≡ 0 →
-    (pic : List ℕ) (y cb cr tmp : List ℤ) (pic' : List ℕ) (y' cb' cr' tmp' : List ℤ) (answer : FrameReading) →
+    (glass : ℕ) (s₀ : Session) (w h mode : ℕ) (ho ho' : List ℕ) (hr : Result ℕ Refusal) → glass ≤ 1 →
+    HeadersWritten w h mode ho ho' hr → number_of hr ≡ 0 →
+    (q : List ℕ) (index : ℕ) (p : List ℕ) (list list' scratch scratch' : List ℤ) (out out' : List ℕ) (r : Result ℕ Refusal) →
+    length q ≡ 10 →
+    FrameWritten w h mode q index p list list' scratch scratch' out out' r → number_of r ≡ 0 →
+    (pic : List ℕ) (y cb cr tmp : List ℤ) (pic' : List ℕ) (y' cb' cr' tmp' : List ℤ) (answer : Result ℕ Refusal) →
     length y ≡ 4096 → length cb ≡ 4096 → length cr ≡ 4096 → length tmp ≡ 4096 → h * w ≤ length pic →
-    FrameRead glass (record_of glass 4 w h mode) (take (writing_length r) out') pic y cb cr tmp pic' y' cb' cr' tmp' answer →
-    AllTaken s₀ w h mode (take (writing_length hr) ho') × Shown glass p w h q pic pic' answer
+    FrameRead glass (record_of glass 4 w h mode) (take (count_of r) out') pic y cb cr tmp pic' y' cb' cr' tmp' answer →
+    AllTaken s₀ w h mode (take (count_of hr) ho') × Shown glass p w h q pic pic' answer
 our_own_frames glass s₀ w h mode ho ho' hr either hw e q index p list list' scratch scratch' out out' r ten fw f
     pic y cb cr tmp pic' y' cb' cr' tmp' answer ly lb lr lt room done =
     let both = our_own_frames_over glass s₀ w h mode ho ho' hr either hw e (one_for q) index p list list' scratch scratch' out out' r ten ten

@@ -1,16 +1,15 @@
 -- Calls of the frame writer that are done with sets that differ, luma's ten 6 and chroma's ten 7, one grey pixel, in both modes: what request Five's page asks
 -- of a call is met.
 -- Assumes nothing.
-use Rattle.std.specs.Prelude.{ℕ, ◌≡◌, refl, true, false, List, ℤ, pos, length, replicate}
+use Rattle.std.specs.Prelude.{ℕ, ◌≡◌, refl, true, false, List, ℤ, pos, length, replicate, Ok}
 use Rattle.std.proofs.Common.{sym, arith, le-leb}
 use Rattle.whole.specs.Row.{◌!◌⨾◌}
 use Rattle.whole.specs.laws.Row.{passes, goes_on}
 use Rattle.wire.specs.Le.{written}
 use Rattle.wire.specs.Mode.{is_mode}
 use Rattle.wire.specs.laws.Mode.{is_1, is_4}
-use Rattle.wire.specs.Wrote.{writing_number}
+use Rattle.wire.specs.Refusal.{number_of}
 use Rattle.wire.specs.laws.Wrote.{done}
-use Rattle.wire.specs.declared.Writing.TheVariants.{Done}
 use Rattle.session.specs.Header.{size_good}
 use Rattle.bands.specs.Bands.{good_to}
 use Rattle.quants.specs.Quants.{same}
@@ -53,7 +52,7 @@ module _ (mode : ℕ) (good : is_mode mode ≡ true) where
       list' = zeros;
       scratch' = zeros;
       out' = written bytes bytes;
-      answer = Done (length bytes);
+      answer = Ok (length bytes);
       promise =
           record {
             wrote = done _ _ _ _ _ (goes_on _ _ _ (sym arguments_0) sending_0) refl refl;
@@ -67,10 +66,9 @@ pub record MetSets (mode : ℕ) : Type 0 where
   pub call : WriteFrameSets
   pub in_mode : call.mode ≡ mode
   pub differ : same call.quants ≡ false
-  pub is_done : writing_number call.answer ≡ 0
+  pub is_done : number_of call.answer ≡ 0
 
 met_sets : (mode : ℕ) → is_mode mode ≡ true → Sendable grey 1 1 mode (sets_by 6 7) → MetSets mode
-unfolding writing_number
 met_sets mode good s = record { call = wrote_sets mode good s; in_mode = refl; differ = two_differ; is_done = refl }
 
 pub met_sets_1 : MetSets 1

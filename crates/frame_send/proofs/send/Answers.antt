@@ -23,14 +23,14 @@ pixels s = λ i. omega (arith, s.type_inv.pixels i)
 ten : (s : Start) → (length s.args.job.quants.luma.v ≡ 10) × (length s.args.job.quants.chroma.v ≡ 10)
 ten s = search rules
 
-pub put_frame-end-requires : goal.put_frame-end-requires
-put_frame-end-requires c =
+pub put_frame-requires : goal.put_frame-requires
+put_frame-requires c =
     let a = c.args in
     let j = c.args.job in
     let none = none_stopped j a.pixels.now a.picks.now a.n a.list.now a.scratch.now
-    (pixels (goal.at.put_frame-end-requires c).After-shared_slice_known-1) c.requires.0 c.requires.1 in
-    let room = fits j a.pixels.now a.picks.now a.n a.list.now a.scratch.now (pixels (goal.at.put_frame-end-requires c).After-shared_slice_known-1)
-    c.requires.0 c.requires.1 _ (roomy (goal.at.put_frame-end-requires c).Then-is_roomy) in
+    (pixels (goal.at.put_frame-requires c).After-shared_slice_known-1) c.requires.0 c.requires.1 in
+    let room = fits j a.pixels.now a.picks.now a.n a.list.now a.scratch.now (pixels (goal.at.put_frame-requires c).After-shared_slice_known-1)
+    c.requires.0 c.requires.1 _ (roomy (goal.at.put_frame-requires c).Then-is_roomy) in
     (c.requires.0, c.requires.1, none, room)
 
 pub returns-then-is_roomy : goal.returns-then-is_roomy
@@ -39,4 +39,4 @@ returns-then-is_roomy c =
     sent_once a.job a.pixels.now a.picks.now a.n a.list.now a.scratch.now (pixels (goal.at.returns-then-is_roomy c).After-shared_slice_known-1)
     c.requires.0 c.requires.1
     a.out.now _ _ (ten (goal.at.returns-then-is_roomy c).Start).0 (ten (goal.at.returns-then-is_roomy c).Start).1
-    (roomy (goal.at.returns-then-is_roomy c).Then-is_roomy) c.put_frame-end.ensures.0 c.put_frame-end.ensures.1
+    (roomy (goal.at.returns-then-is_roomy c).Then-is_roomy) c.put_frame.ensures.0 c.put_frame.ensures.1

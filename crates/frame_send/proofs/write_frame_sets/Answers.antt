@@ -1,56 +1,40 @@
--- `write_frame_sets` meets its contract: refused with everything as it was, or sent with no list of tiles, which is all of them (`as_all`), and both work
--- lists cleared (`all_refused`, `all_sent`). Assumes nothing.
+-- Refused with everything as it was, or sent with no list of tiles, which is all of them (`as_all`), and both work lists cleared (`all_refused`, `all_sent`).
 use Prim.Native.Nat.{ℕ}
-use mathlib.Core.Path.{ap, sym, ◌∙◌}
+use mathlib.Core.Path.{ap, ◌∙◌}
 use lib.IntN.{pos}
 use lib.ListN.{length, replicate}
-use Rattle.frame_write.specs.Job.{ArgsGood}
+use Rattle.wire.specs.laws.Refusal.{handed_on}
 use Rattle.frame_write.specs.laws.FrameWrite.{args_good, all_refused, all_sent}
 use Rattle.frame_write.specs.laws.Picked.{all_there, as_all}
 use Rattle.frame_send.proofs.write_frame_sets.Goals as goal
-use Rattle.frame_send.proofs.write_frame_sets.Goals.{Else-fault-ne0}
 
--- what the arguments are once they were judged
-good : (e : Else-fault-ne0) →
-    let a = e.args in
-    ArgsGood a.width a.height a.mode a.q a.pixels.now (length a.list.now) (length a.scratch.now)
-good e =
-    let a = e.args in
-    args_good a.width a.height a.mode a.q a.pixels.now (length a.list.now) (length a.scratch.now)
-    (sym e.if-fault-ne0.false ∙ e.arg_judge-fault.ensures)
-
-pub returns-then-fault-ne0 : goal.returns-then-fault-ne0
-returns-then-fault-ne0 c =
+pub returns-in_err-arg_judge : goal.returns-in_err-arg_judge
+returns-in_err-arg_judge c =
     let a = c.args in
-    let j = c.arg_judge-fault in
-    all_refused a.width a.height a.mode a.q a.index a.pixels.now a.list.now a.scratch.now a.out.now j.result
-    j.ensures c.if-fault-ne0.true
+    rw (handed_on _ _ c.from_residual.ensures.1)
+    (all_refused a.width a.height a.mode a.q a.index a.pixels.now a.list.now a.scratch.now a.out.now _ c.in_err-arg_judge.ensures)
 
 pub tiles_no-n-requires : goal.tiles_no-n-requires
-tiles_no-n-requires c = let g = good (goal.at.tiles_no-n-requires c).Else-fault-ne0 in (g.picture.wider, g.picture.higher)
+tiles_no-n-requires c =
+    let a = c.args in
+    let g = args_good a.width a.height a.mode a.q a.pixels.now (length a.list.now) (length a.scratch.now) c.in_ok-arg_judge.ensures in
+    (g.picture.wider, g.picture.higher)
 
 pub send-r-requires : goal.send-r-requires
 send-r-requires c =
     let a = c.args in
-    (good (goal.at.send-r-requires c).Else-fault-ne0, all_there a.width a.height c.tiles_no-n.result c.tiles_no-n.ensures.0 c.tiles_no-n.ensures.1)
-
-pub shape_of-list : goal.shape_of-list
-shape_of-list c =
-    c.clear.auto.list ∙ c.send-r.auto.list
-
-pub shape_of-scratch : goal.shape_of-scratch
-shape_of-scratch c = c.clear-2.auto.list ∙ c.send-r.auto.scratch
-
-pub shape_of-out : goal.shape_of-out
-shape_of-out c = c.send-r.auto.out
+    let n = c.tiles_no-n in (
+      args_good a.width a.height a.mode a.q a.pixels.now (length a.list.now) (length a.scratch.now) c.in_ok-arg_judge.ensures,
+      all_there a.width a.height n.result n.ensures.0 n.ensures.1,
+    )
 
 pub returns : goal.returns
 returns c =
     let a = c.args in
-    let g = good (goal.at.returns c).Else-fault-ne0 in
-    all_sent a.width a.height a.mode a.q a.index a.pixels.now a.list.now a.scratch.now a.out.now
-    c.arg_judge-fault.result c.arg_judge-fault.ensures c.if-fault-ne0.false _ _ _ c.send-r.result
-    (as_all a.pixels.now a.width a.height a.mode a.q a.index c.tiles_no-n.result a.out.now _ c.send-r.result
-    c.tiles_no-n.ensures.0 c.send-r.ensures)
-    (c.clear.ensures ∙ ap (λ (n : ℕ). replicate n (pos 0)) (c.send-r.auto.list ∙ g.first))
-    (c.clear-2.ensures ∙ ap (λ (n : ℕ). replicate n (pos 0)) (c.send-r.auto.scratch ∙ g.second))
+    let n = c.tiles_no-n in
+    let r = c.send-r in
+    let g = args_good a.width a.height a.mode a.q a.pixels.now (length a.list.now) (length a.scratch.now) c.in_ok-arg_judge.ensures in
+    all_sent a.width a.height a.mode a.q a.index a.pixels.now a.list.now a.scratch.now a.out.now c.in_ok-arg_judge.ensures _ _ _ r.result
+    (as_all a.pixels.now a.width a.height a.mode a.q a.index n.result a.out.now _ r.result n.ensures.0 r.ensures)
+    (c.clear.ensures ∙ ap (λ (k : ℕ). replicate k (pos 0)) (r.auto.list ∙ g.first))
+    (c.clear-2.ensures ∙ ap (λ (k : ℕ). replicate k (pos 0)) (r.auto.scratch ∙ g.second))

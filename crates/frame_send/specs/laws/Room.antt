@@ -1,10 +1,9 @@
 -- Where there is room for the largest frame, nothing has to be measured: no tile is refused (`tile_taken` of `bounds`), and the frame of any n tiles fits.
-use Rattle.std.specs.Prelude.{ℕ, ◌+◌, ◌*◌, ◌≤◌, ◌≡◌, refl, Bool, true, false, List, ℤ, length}
+use Rattle.std.specs.Prelude.{ℕ, ◌+◌, ◌*◌, ◌≤◌, ◌≡◌, refl, Bool, true, false, List, ℤ, length, Ok}
 use Rattle.std.proofs.Common.{arith}
 use Rattle.whole.specs.Row.{◌⇒◌∣◌}
 use Rattle.wire.specs.Le.{written}
 use Rattle.wire.specs.Wrote.{Wrote}
-use Rattle.wire.specs.declared.Writing.TheVariants.{Done}
 use Rattle.bits.specs.laws.Bytes.{Bytes}
 use Rattle.frame_layout.specs.Bytes.{tiles_of}
 use Rattle.quants.specs.Quants.{same, chroma_index}
@@ -42,8 +41,7 @@ module _ (j : Job) (p ks : List ℕ) (n : ℕ) (list scratch : List ℤ) (bytes 
   pub sent_once :
       (out out' : List ℕ) (b : ℕ) → length j.quants.luma.v ≡ 10 → length j.quants.chroma.v ≡ 10 → largest n ≤ length out →
       out' ≡ written (frame_sent j p ks n) out → b ≡ length (frame_sent j p ks n) →
-      Wrote (fault_sent j p ks n (length out)) (frame_sent j p ks n) out out' (Done b)
+      Wrote (fault_sent j p ks n (length out)) (frame_sent j p ks n) out out' (Ok b)
   sent_once out out' b l k r w e =
-      send_done j.index j.width j.height j.mode j.quants out n (tile_sent j p ks) (stop_sent j p ks)
-      (record { number = 0; size = length (tiles_of (tile_sent j p ks) n 0) }) (sizes_done _ _ _ none_stopped refl refl) l k refl (fits (length out) r)
-      out' b w e
+      send_done j.index j.width j.height j.mode j.quants out n (tile_sent j p ks) (stop_sent j p ks) l k (length (tiles_of (tile_sent j p ks) n 0))
+      (sizes_done _ _ _ none_stopped refl) (fits (length out) r) out' b w e

@@ -1,24 +1,26 @@
 -- Laws of what the frame writer refuses: places of tiles, sizes of components and tiles, and the sizing loop.
 -- Assumes nothing.
 use Prim.Native.Nat.{ℕ, zero, suc, ◌+◌, ◌*◌, ◌-◌, ◌/◌, ◌%◌, ◌≤◌, ◌<◌}
-use Rattle.std.specs.Prelude.{◌≡◌, Bool, true, false, List, eqb, ℤ, pos, nat_abs, get_or}
+use Rattle.std.specs.Prelude.{◌≡◌, Bool, true, false, List, eqb, ℤ, pos, nat_abs, get_or, Ok, Err, Result}
 use Rattle.std.proofs.Math.Path.{refl, ap, subst}
 use Rattle.std.proofs.Common.{sym, ◌∙◌, div-lt_iff_lt-mul, mod-lt, mul_comm}
 use native.Mathlib.Omega.{arith}
 use Rattle.std.proofs.Math.Decide.{dec_lt}
 use Rattle.std.proofs.Math.Nat.{sub-zero}
-use borrow.Author.Tests.{leb-true, eq-eqb, ne_eqb}
+use borrow.Author.Tests.{leb-true}
 use Rattle.std.proofs.Math.ListN.{length, length-append, get_or-eq_default}
 use Rattle.whole.specs.Row.{◌⇒◌∣◌, ◌⨟◌}
-use Rattle.whole.specs.laws.Row.{held, both, stops, goes_on, passes, case_yes, case_no, case_is, case_not}
+use Rattle.whole.specs.laws.Row.{held, both, stops, goes_on, passes}
 use Rattle.whole.specs.Tab.{at}
+use Rattle.wire.specs.Refusal.{refusal_number}
+use Rattle.wire.specs.laws.Refusal.{number_pos}
+use Rattle.wire.specs.declared.Refusal.{Refusal}
 use Rattle.frame_layout.specs.Bytes.{Tile, tile_len, tile_of, tiles_of}
 use Rattle.frame_layout.specs.laws.Here.{tile_length}
 use Rattle.bands.specs.Bands.{QuantGood, coefficients_fault, range_fault, all_in}
 use Rattle.bands.specs.laws.Range.{all_each}
 use Rattle.code_write.specs.Write.{bytes_of, all_in_range, code_fault, Measures}
 use Rattle.code_write.specs.laws.Write.{is_range}
-use Rattle.code_write.specs.declared.call.Sized.{Sized}
 use Rattle.frame_pieces.specs.Parts.{cols_of, tiles_no}
 use Rattle.frame_pieces.specs.laws.Parts.{tile_parts, tiles_step_length, few_tiles}
 use Rattle.tile_forth.specs.laws.TileForth.{rounded_of_length}
@@ -27,23 +29,16 @@ use Rattle.frame_write.specs.Sets.{list_over, part_over, stop_over, tile_over, t
 use Rattle.frame_write.specs.Picked.{stops_of}
 use Rattle.quants.specs.Quants.{quant_for, chroma_index}
 use Rattle.quants.specs.declared.Quants.{Quants}
-use Rattle.frame_write.specs.Job.{Sizes}
 use Rattle.frame_write.specs.laws.Stops.{stops_step}
 
 -- ---- what the sizing pass says, by the two cases: it refuses, or it does not
 
-module _ (f n : ℕ) (r : Sized) where
-  pub sizes_none : r.number ≡ f → (r.number ≡ 0 → ⊥) → r.size ≡ 0 → Sizes f n r
-  sizes_none e h z = record { number = e; size = case_no _ _ _ _ (ne_eqb f 0 (λ y. h (e ∙ y))) z }
+module _ (f n : ℕ) where
+  pub sizes_none : (r : Refusal) → refusal_number r ≡ f → Measures f n (Err r)
+  sizes_none r e = record { number = e; size = λ z. absurd (number_pos r z) }
 
-  pub sizes_done : r.number ≡ f → r.number ≡ 0 → r.size ≡ n → Sizes f n r
-  sizes_done e h z = record { number = e; size = case_yes _ _ _ _ (eq-eqb f 0 (sym e ∙ h)) z }
-
-  pub size_none : Sizes f n r → (r.number ≡ 0 → ⊥) → r.size ≡ 0
-  size_none s h = case_not _ _ _ _ (ne_eqb f 0 (λ y. h (s.number ∙ y))) s.size
-
-  pub size_done : Sizes f n r → r.number ≡ 0 → r.size ≡ n
-  size_done s h = case_is _ _ _ _ (eq-eqb f 0 (sym s.number ∙ h)) s.size
+  pub sizes_done : (k : ℕ) → 0 ≡ f → k ≡ n → Measures f n (Ok k)
+  sizes_done k e l = record { number = e; size = λ z. l }
 
 -- ---- where a tile stands
 
@@ -96,36 +91,30 @@ module _ (mode : ℕ) (q : List ℕ) (zs : List ℤ) where
   unfolding part_refusal
   part_range e = judged_range q zs (both _ _ e).0
 
-  pub part_judged :
-      (f : ℕ) → f ≡ coefficients_fault q zs → (f ≡ 0 → ⊥) → Sizes (part_refusal mode q zs) (length (bytes_of mode zs)) (record { number = f; size = 0 })
+  pub part_judged : (r : Refusal) → refusal_number r ≡ coefficients_fault q zs → Measures (part_refusal mode q zs) (length (bytes_of mode zs)) (Err r)
   unfolding part_refusal
-  part_judged f e h = sizes_none _ _ _ (stops _ _ _ (λ z. h (e ∙ z)) e) h refl
+  part_judged r e = sizes_none _ _ r (stops _ _ _ (λ z. number_pos r (e ∙ z)) e)
 
   -- behind the reader's 9 the component writer's own is silent
   same_six : 0 ≡ coefficients_fault q zs → code_fault mode zs ≡ part_refusal mode q zs
   unfolding part_refusal code_fault
   same_six e = goes_on _ _ _ (sym e) (sym (passes _ _ _ _ (judged_range q zs e) refl))
 
-  module _ (f : ℕ) (e : f ≡ coefficients_fault q zs) (z : f ≡ 0) (s : Sized) (m : Measures (code_fault mode zs) (length (bytes_of mode zs)) s) where
-    pub part_large : (s.number ≡ 0 → ⊥) → Sizes (part_refusal mode q zs) (length (bytes_of mode zs)) (record { number = s.number; size = 0 })
-    part_large h = sizes_none _ _ _ (m.number ∙ same_six (sym z ∙ e)) h refl
-
-    pub part_measured : s.number ≡ 0 → Sizes (part_refusal mode q zs) (length (bytes_of mode zs)) s
-    part_measured h = sizes_done _ _ _ (m.number ∙ same_six (sym z ∙ e)) h (m.size h)
+  pub part_measured : 0 ≡ coefficients_fault q zs → (r : Result ℕ Refusal) → Measures (code_fault mode zs) (length (bytes_of mode zs)) r →
+      Measures (part_refusal mode q zs) (length (bytes_of mode zs)) r
+  part_measured e r m = record { number = m.number ∙ same_six e; size = m.size }
 
 -- ---- a tile: the first of three refusals, or the three sizes together
 
-module _ (a b c x y z n : ℕ) (r : Sized) (mr : Sizes a x r) where
-  pub first-of : (r.number ≡ 0 → ⊥) → Sizes (a ⨟ (b ⨟ c)) n r
-  first-of h = sizes_none _ _ _ (stops _ _ _ (λ e. h (mr.number ∙ e)) mr.number) h (size_none _ _ _ mr h)
+module _ (a b c n : ℕ) (r : Refusal) where
+  pub first-of : refusal_number r ≡ a → Measures (a ⨟ (b ⨟ c)) n (Err r)
+  first-of e = sizes_none _ _ r (stops _ _ _ (λ z. number_pos r (e ∙ z)) e)
 
-  module _ (er : r.number ≡ 0) (s : Sized) (ms : Sizes b y s) where
-    pub second-of : (s.number ≡ 0 → ⊥) → Sizes (a ⨟ (b ⨟ c)) n s
-    second-of h = sizes_none _ _ _ (goes_on _ _ _ (sym mr.number ∙ er) (stops _ _ _ (λ e. h (ms.number ∙ e)) ms.number)) h (size_none _ _ _ ms h)
+  pub second-of : 0 ≡ a → refusal_number r ≡ b → Measures (a ⨟ (b ⨟ c)) n (Err r)
+  second-of z e = sizes_none _ _ r (goes_on _ _ _ (sym z) (stops _ _ _ (λ y. number_pos r (e ∙ y)) e))
 
-    pub third_of : s.number ≡ 0 → (t : Sized) → Sizes c z t → (t.number ≡ 0 → ⊥) → Sizes (a ⨟ (b ⨟ c)) n t
-    third_of es t mt h =
-        sizes_none _ _ _ (goes_on _ _ _ (sym mr.number ∙ er) (goes_on _ _ _ (sym ms.number ∙ es) mt.number)) h (size_none _ _ _ mt h)
+  pub third_of : 0 ≡ a → 0 ≡ b → refusal_number r ≡ c → Measures (a ⨟ (b ⨟ c)) n (Err r)
+  third_of z y e = sizes_none _ _ r (goes_on _ _ _ (sym z) (goes_on _ _ _ (sym y) e))
 
 module _ (p : List ℕ) (w h mode : ℕ) (q : Quants) where
   pub tile_long :
@@ -135,17 +124,16 @@ module _ (p : List ℕ) (w h mode : ℕ) (q : Quants) where
   tile_long k = tile_parts (chroma_index q) (k % cols_of w) (k / cols_of w) (part_over p w h mode q k 0) (part_over p w h mode q k 1)
       (part_over p w h mode q k 2)
 
-  module _ (k : ℕ) (r s t : Sized)
-      (mr : Sizes (stop_over p w h mode q k 0) (length (part_over p w h mode q k 0)) r) (er : r.number ≡ 0)
-      (ms : Sizes (stop_over p w h mode q k 1) (length (part_over p w h mode q k 1)) s) (es : s.number ≡ 0)
-      (mt : Sizes (stop_over p w h mode q k 2) (length (part_over p w h mode q k 2)) t) (et : t.number ≡ 0) where
-    pub tile_sized :
-        (n : ℕ) → n ≡ 19 + r.size + s.size + t.size →
-        Sizes (tile_refusal_over p w h mode q k) (tile_len (tile_over p w h mode q k)) (record { number = 0; size = n })
-    unfolding tile_refusal_over
-    tile_sized n e =
-        sizes_done _ _ _ (goes_on _ _ _ (sym mr.number ∙ er) (goes_on _ _ _ (sym ms.number ∙ es) (sym et ∙ mt.number))) refl
-        (omega (arith, tile_long k, size_done _ _ _ mr er, size_done _ _ _ ms es, size_done _ _ _ mt et))
+  pub tile_sized :
+      (k x y z n : ℕ) →
+      Measures (stop_over p w h mode q k 0) (length (part_over p w h mode q k 0)) (Ok x) →
+      Measures (stop_over p w h mode q k 1) (length (part_over p w h mode q k 1)) (Ok y) →
+      Measures (stop_over p w h mode q k 2) (length (part_over p w h mode q k 2)) (Ok z) →
+      n ≡ 19 + x + y + z → Measures (tile_refusal_over p w h mode q k) (tile_len (tile_over p w h mode q k)) (Ok n)
+  unfolding tile_refusal_over
+  tile_sized k x y z n a b c e =
+      sizes_done _ _ n (goes_on _ _ _ (sym a.number) (goes_on _ _ _ (sym b.number) c.number))
+      (omega (arith, tile_long k, a.size refl, b.size refl, c.size refl))
 
   pub tile_small : (k : ℕ) → 0 ≡ tile_refusal_over p w h mode q k → tile_len (tile_over p w h mode q k) ≤ 196624
   unfolding tile_refusal_over tile_part
@@ -159,8 +147,8 @@ module _ (p : List ℕ) (w h mode : ℕ) (q : Quants) where
 
 -- a part that is sized and not refused
 pub part_sized :
-    (mode : ℕ) (q : List ℕ) (zs : List ℤ) (s : Sized) → Sizes (part_refusal mode q zs) (length (bytes_of mode zs)) s → s.number ≡ 0 → s.size ≤ 65535
-part_sized mode q zs s m e = let a = size_done _ _ _ m e in let b = part_small mode q zs (sym e ∙ m.number) in omega arith
+    (mode : ℕ) (q : List ℕ) (zs : List ℤ) (k : ℕ) → Measures (part_refusal mode q zs) (length (bytes_of mode zs)) (Ok k) → k ≤ 65535
+part_sized mode q zs k m = let a = m.size refl in let b = part_small mode q zs m.number in omega arith
 
 -- ---- the sizing loop: what is left to refuse, and the bytes so far
 
@@ -174,27 +162,27 @@ module _ (tile : ℕ → Tile) (stop : ℕ → ℕ) where
   sizing_start n = record { rest = rw sub-zero; sum = rw sub-zero (omega arith); small = omega arith }
 
   pub sizing_ends : (n i total : ℕ) → n ≤ i → Sizing tile stop n i total →
-      Sizes (stops_of stop n 0) (length (tiles_of tile n 0)) (record { number = 0; size = total })
+      Measures (stops_of stop n 0) (length (tiles_of tile n 0)) (Ok total)
   unfolding stops_of tiles_of
   sizing_ends n i total l s =
       let z : n - i ≡ 0 = omega arith in
-      sizes_done _ _ _ (sym (s.rest ∙ ap (λ (k : ℕ). stops_of stop k i) z)) refl
+      sizes_done _ _ total (sym (s.rest ∙ ap (λ (k : ℕ). stops_of stop k i) z))
       (omega (arith, subst (λ (k : ℕ). total + length (tiles_of tile k i) ≡ length (tiles_of tile n 0)) z s.sum))
 
-  module _ (n i total : ℕ) (r : Sized) (l : i < n) (s : Sizing tile stop n i total) (m : Sizes (stop i) (tile_len (tile i)) r) where
-    pub sizing_stops : (r.number ≡ 0 → ⊥) → Sizes (stops_of stop n 0) (length (tiles_of tile n 0)) r
-    sizing_stops f = sizes_none _ _ _ (stops _ _ _ (λ e. f (m.number ∙ e)) m.number ∙ sym (s.rest ∙ stops_step stop n i l)) f (size_none _ _ _ m f)
+  module _ (n i total : ℕ) (l : i < n) (s : Sizing tile stop n i total) where
+    pub sizing_stops : (r : Refusal) → refusal_number r ≡ stop i → Measures (stops_of stop n 0) (length (tiles_of tile n 0)) (Err r)
+    sizing_stops r e = sizes_none _ _ r (stops _ _ _ (λ z. number_pos r (e ∙ z)) e ∙ sym (s.rest ∙ stops_step stop n i l))
 
-    pub sizing_next : (0 ≡ stop i → tile_len (tile i) ≤ 196624) → r.number ≡ 0 →
-        Sizing tile stop n (i + 1) (total + r.size) × (total + r.size ≤ (i + 1) * 196624)
-    sizing_next most e =
-        let k = size_done _ _ _ m e in
-        let t = most (sym e ∙ m.number) in
+    pub sizing_next : (k : ℕ) → Measures (stop i) (tile_len (tile i)) (Ok k) → (0 ≡ stop i → tile_len (tile i) ≤ 196624) →
+        Sizing tile stop n (i + 1) (total + k) × (total + k ≤ (i + 1) * 196624)
+    sizing_next k m most =
+        let e = m.size refl in
+        let t = most m.number in
         let u = tiles_step_length tile n i l in
         let a = s.sum in
         let b = s.small in
-        let c : total + r.size ≤ (i + 1) * 196624 = omega arith in
-        (record { rest = s.rest ∙ (stops_step stop n i l ∙ sym (goes_on _ _ _ (sym m.number ∙ e) refl)); sum = omega arith; small = c }, c)
+        let c : total + k ≤ (i + 1) * 196624 = omega arith in
+        (record { rest = s.rest ∙ (stops_step stop n i l ∙ sym (goes_on _ _ _ (sym m.number) refl)); sum = omega arith; small = c }, c)
 
   -- the bytes of tiles that are not refused
   module _ (most : (i : ℕ) → 0 ≡ stop i → tile_len (tile i) ≤ 196624) where
@@ -209,9 +197,9 @@ module _ (tile : ℕ → Tile) (stop : ℕ → ℕ) where
         let a = length-append (tile_of (tile i)) (tiles_of tile n (i + 1)) in
         omega arith
 
-    pub sized_small : (n : ℕ) (s : Sized) → n ≤ 2048 → Sizes (stops_of stop n 0) (length (tiles_of tile n 0)) s → s.number ≡ 0 →
-        (s.size ≡ length (tiles_of tile n 0)) × (s.size ≤ 402685952)
-    sized_small n s l m e =
-        let a = size_done _ _ _ m e in
-        let b = stops_small n 0 (sym e ∙ m.number) in
+    pub sized_small : (n k : ℕ) → n ≤ 2048 → Measures (stops_of stop n 0) (length (tiles_of tile n 0)) (Ok k) →
+        (k ≡ length (tiles_of tile n 0)) × (k ≤ 402685952)
+    sized_small n k l m =
+        let a = m.size refl in
+        let b = stops_small n 0 m.number in
         (a, omega arith)

@@ -1,6 +1,6 @@
 -- Laws of the frame writer: what good arguments give, and one law for each way out. Its promise leaves one answer and one content of lent memory.
 -- Assumes nothing.
-use Rattle.std.specs.Prelude.{ℕ, zero, suc, ◌+◌, ◌*◌, ◌≤◌, ◌<◌, ◌≡◌, refl, Bool, true, false, List, leb, eqb, ℤ, pos, length, replicate}
+use Rattle.std.specs.Prelude.{ℕ, zero, suc, ◌+◌, ◌*◌, ◌≤◌, ◌<◌, ◌≡◌, refl, Bool, true, false, List, leb, eqb, ℤ, pos, length, replicate, Result, Ok, Err}
 use Rattle.std.proofs.Common.{sym, ◌∙◌, ⊎_elim, arith, le-leb, eqb-true}
 use Rattle.std.proofs.lemmas.Bool.{lt-leb}
 use Rattle.whole.specs.Row.{◌!◌⨾◌, ◌⨟◌}
@@ -9,14 +9,16 @@ use Rattle.wire.specs.Le.{bytes16, written}
 use Rattle.wire.specs.Mode.{is_mode}
 use Rattle.wire.specs.Wrote.{Wrote}
 use Rattle.wire.specs.laws.Wrote.{refused, done, onward, wrote_once}
-use Rattle.wire.specs.declared.Writing.{Writing}
-use Rattle.wire.specs.declared.Writing.TheVariants.{Done, Refused}
+use Rattle.wire.specs.Refusal.{refusal_number}
+use Rattle.wire.specs.laws.Refusal.{number_pos}
+use Rattle.wire.specs.declared.Refusal.{Refusal}
+use Rattle.wire.specs.declared.Refusal.TheVariants.{Room}
 use Rattle.frame_layout.specs.Bytes.{Tile, tiles_of, begin_of, front_of, frame_of}
 use Rattle.session.specs.Header.{size_good}
 use Rattle.session.specs.laws.Header.{allowed}
 use Rattle.bands.specs.Bands.{is_good}
 use Rattle.bands.specs.laws.Band.{good_set}
-use Rattle.code_write.specs.declared.call.Sized.{Sized}
+use Rattle.code_write.specs.Write.{Measures}
 use Rattle.frame_pieces.specs.Parts.{pixels_good}
 use Rattle.frame_pieces.specs.laws.Parts.{frame_long, count_is, tens_of}
 use Rattle.quants.specs.Quants.{sets_of, chroma_index}
@@ -24,8 +26,7 @@ use Rattle.quants.specs.declared.Quants.{Quants}
 use Rattle.frame_write.specs.FrameWrite.{work_left}
 use Rattle.frame_write.specs.Sets.{good_sets, frame_over, arg_fault_over, send_fault_over, FrameWrittenOver}
 use Rattle.frame_write.specs.Picked.{stops_of}
-use Rattle.frame_write.specs.Job.{ArgsGood, Sizes}
-use Rattle.frame_write.specs.laws.Encode.{size_done}
+use Rattle.frame_write.specs.Job.{ArgsGood}
 
 -- ---- the arguments
 
@@ -71,8 +72,7 @@ still_good g x y = record { picture = g.picture; small = g.small; first = x ∙ 
 
 -- ---- the answers
 
-module _ (index w h mode : ℕ) (q : Quants) (out : List ℕ) (n : ℕ) (tile : ℕ → Tile) (stop : ℕ → ℕ) (s : Sized)
-    (m : Sizes (stops_of stop n 0) (length (tiles_of tile n 0)) s) where
+module _ (index w h mode : ℕ) (q : Quants) (out : List ℕ) (n : ℕ) (tile : ℕ → Tile) (stop : ℕ → ℕ) where
   -- the frame of n tiles, and what is refused of it
   abbrev pub frame : List ℕ
   frame = frame_of index w h mode (sets_of q) n tile
@@ -80,22 +80,21 @@ module _ (index w h mode : ℕ) (q : Quants) (out : List ℕ) (n : ℕ) (tile : 
   abbrev pub fault : ℕ
   fault = stops_of stop n 0 ⨟ (leb (length frame) (length out) ! 13 ⨾ 0)
 
-  pub send_stop : (s.number ≡ 0 → ⊥) → Wrote fault frame out out (Refused s.number)
-  send_stop f = refused _ s.number _ out (stops _ _ _ (λ z. f (m.number ∙ z)) m.number) f
+  pub send_stop : (r : Refusal) → refusal_number r ≡ stops_of stop n 0 → Wrote fault frame out out (Err r)
+  send_stop r e = refused _ r _ out (stops _ _ _ (λ z. number_pos r (e ∙ z)) e)
 
-  module _ (l : length q.luma.v ≡ 10) (k : length q.chroma.v ≡ 10) (e : s.number ≡ 0) where
-    frame_size : length frame ≡ 72 + 5 * chroma_index q + s.size
-    frame_size = omega (arith, frame_long index w h mode (sets_of q) n (tens_of q l k) tile, count_is q l k, size_done _ _ _ m e)
+  module _ (l : length q.luma.v ≡ 10) (k : length q.chroma.v ≡ 10) (s : ℕ) (m : Measures (stops_of stop n 0) (length (tiles_of tile n 0)) (Ok s)) where
+    frame_size : length frame ≡ 72 + 5 * chroma_index q + s
+    frame_size = omega (arith, frame_long index w h mode (sets_of q) n (tens_of q l k) tile, count_is q l k, m.size refl)
 
-    pub send_room : length out < 72 + 5 * chroma_index q + s.size → Wrote fault frame out out (Refused 13)
+    pub send_room : length out < 72 + 5 * chroma_index q + s → Wrote fault frame out out (Err Room)
     send_room r =
-        refused _ 13 _ out (goes_on _ _ _ (sym m.number ∙ e) (fails _ _ _ _ (lt-leb (length frame) (length out) (omega (arith, frame_size))) refl))
-        (λ y. omega arith)
+        refused _ Room _ out (goes_on _ _ _ (sym m.number) (fails _ _ _ _ (lt-leb (length frame) (length out) (omega (arith, frame_size))) refl))
 
-    pub send_done : 72 + 5 * chroma_index q + s.size ≤ length out → (out' : List ℕ) (b : ℕ) → out' ≡ written frame out → b ≡ length frame →
-        Wrote fault frame out out' (Done b)
+    pub send_done : 72 + 5 * chroma_index q + s ≤ length out → (out' : List ℕ) (b : ℕ) → out' ≡ written frame out → b ≡ length frame →
+        Wrote fault frame out out' (Ok b)
     send_done r out' b w' lk =
-        done _ b _ out out' (goes_on _ _ _ (sym m.number ∙ e) (passes _ _ _ _ (le-leb (length frame) (length out) (omega (arith, frame_size))) refl)) lk w'
+        done _ b _ out out' (goes_on _ _ _ (sym m.number) (passes _ _ _ _ (le-leb (length frame) (length out) (omega (arith, frame_size))) refl)) lk w'
 
 pub untouched : (f x : ℕ) (xs : List ℤ) → x ≡ f → (x ≡ 0 → ⊥) → xs ≡ work_left f xs
 unfolding work_left
@@ -107,23 +106,25 @@ unfolding work_left
 cleared zero xs ys e c = c
 cleared (suc f) xs ys e c = absurd (omega arith)
 
-module _ (w h mode : ℕ) (q : Quants) (index : ℕ) (p : List ℕ) (list scratch : List ℤ) (out : List ℕ) (x : ℕ)
-    (is : x ≡ arg_fault_over w h mode q (length p) (length list) (length scratch)) where
-  pub all_refused : (x ≡ 0 → ⊥) → FrameWrittenOver w h mode q index p list list scratch scratch out out (Refused x)
-  all_refused f = record {
-    wrote = refused _ x _ out (stops _ _ _ (λ z. f (is ∙ z)) is) f;
-    first = untouched _ x list is f;
-    second = untouched _ x scratch is f;
+module _ (w h mode : ℕ) (q : Quants) (index : ℕ) (p : List ℕ) (list scratch : List ℤ) (out : List ℕ) where
+  abbrev arguments : ℕ
+  arguments = arg_fault_over w h mode q (length p) (length list) (length scratch)
+
+  pub all_refused : (x : Refusal) → refusal_number x ≡ arguments → FrameWrittenOver w h mode q index p list list scratch scratch out out (Err x)
+  all_refused x is = record {
+    wrote = refused _ x _ out (stops _ _ _ (λ z. number_pos x (is ∙ z)) is);
+    first = untouched _ _ list is (number_pos x);
+    second = untouched _ _ scratch is (number_pos x);
   }
 
   pub all_sent :
-      x ≡ 0 → (list' scratch' : List ℤ) (out' : List ℕ) (r : Writing) →
+      0 ≡ arguments → (list' scratch' : List ℤ) (out' : List ℕ) (r : Result ℕ Refusal) →
       Wrote (send_fault_over index w h mode q p (length out)) (frame_over index w h mode q p) out out' r →
       list' ≡ replicate 4096 (pos 0) → scratch' ≡ replicate 4096 (pos 0) → FrameWrittenOver w h mode q index p list list' scratch scratch' out out' r
   all_sent z list' scratch' out' r s c d = record {
-    wrote = onward _ _ _ out out' r (sym z ∙ is) s;
-    first = cleared _ list list' (sym z ∙ is) c;
-    second = cleared _ scratch scratch' (sym z ∙ is) d;
+    wrote = onward _ _ _ out out' r z s;
+    first = cleared _ list list' z c;
+    second = cleared _ scratch scratch' z d;
   }
 
 -- ---- the promise leaves one answer, one output and one content of each work list
@@ -134,7 +135,7 @@ unfolding frame_over frame_of front_of begin_of bytes16
 some_frame index w h mode q p = omega arith
 
 pub frame_over_once :
-    (w h mode : ℕ) (q : Quants) (index : ℕ) (p : List ℕ) (list a a' scratch b b' : List ℤ) (out c c' : List ℕ) (r r' : Writing)
+    (w h mode : ℕ) (q : Quants) (index : ℕ) (p : List ℕ) (list a a' scratch b b' : List ℤ) (out c c' : List ℕ) (r r' : Result ℕ Refusal)
     → FrameWrittenOver w h mode q index p list a scratch b out c r
     → FrameWrittenOver w h mode q index p list a' scratch b' out c' r'
     → (r ≡ r') × (a ≡ a') × (b ≡ b') × (c ≡ c')

@@ -2,13 +2,14 @@
 -- only zeros after every other answer."
 -- Assumes nothing.
 -- (01 is this project's scope document, 02 its change requests, 001 is MS-RDPRFX: README, "What 01 is".)
-use Rattle.std.specs.Prelude.{ℕ, zero, suc, ◌+◌, ◌≡◌, List, [], ◌∷◌, ℤ, pos, length, replicate}
+use Rattle.std.specs.Prelude.{ℕ, zero, suc, ◌+◌, ◌≤◌, ◌≡◌, List, [], ◌∷◌, ℤ, pos, length, replicate, Result}
 use Rattle.std.proofs.Math.Path.{refl, sym}
 use Rattle.std.proofs.Common.{◌∙◌, subst}
+use Rattle.whole.specs.Row.{◌⨟◌}
 use Rattle.whole.specs.Among.{among, Among, Other}
-use Rattle.whole.specs.laws.Among.{numbers, each, among_then, among_all, among_none, first_there, first_none}
-use Rattle.wire.specs.Wrote.{writing_number}
-use Rattle.wire.specs.declared.Writing.{Writing}
+use Rattle.whole.specs.laws.Among.{numbers, each, among_then, among_all, among_most, among_none, first_there, first_none}
+use Rattle.wire.specs.Refusal.{number_of}
+use Rattle.wire.specs.declared.Refusal.{Refusal}
 use Rattle.bands.specs.Bands.{range_fault, sums_fault, scale_fault, coefficients_fault}
 use Rattle.quants.specs.declared.Quants.{Quants}
 use Rattle.frame_write.specs.Encode.{part_refusal}
@@ -48,26 +49,35 @@ pub send_among : (index w h mode : ℕ) (q : Quants) (p : List ℕ) (room : ℕ)
 unfolding send_fault_over among
 send_among index w h mode q p room = search (numbers, tiles_among)
 
-module _ (w h mode : ℕ) (q : Quants) (index : ℕ) (p : List ℕ) (list list' scratch scratch' : List ℤ) (out out' : List ℕ) (r : Writing)
+-- which numbers its first fault comes to
+pub fault_among : (w h mode : ℕ) (q : Quants) (index : ℕ) (p : List ℕ) (list scratch room : ℕ) →
+    Among (5 ∷ 7 ∷ 2 ∷ send_numbers) (arg_fault_over w h mode q (length p) list scratch ⨟ send_fault_over index w h mode q p room)
+unfolding each among
+fault_among w h mode q index p list scratch room =
+    among_then _ _ (among_all _ (arg_among w h mode q (length p) list scratch) refl) (among_all _ (send_among index w h mode q p room) refl)
+
+pub fault_few : (w h mode : ℕ) (q : Quants) (index : ℕ) (p : List ℕ) (list scratch room : ℕ) →
+    (arg_fault_over w h mode q (length p) list scratch ⨟ send_fault_over index w h mode q p room) ≤ 13
+unfolding each
+fault_few w h mode q index p list scratch room = among_most 13 (fault_among w h mode q index p list scratch room) refl
+
+module _ (w h mode : ℕ) (q : Quants) (index : ℕ) (p : List ℕ) (list list' scratch scratch' : List ℤ) (out out' : List ℕ) (r : Result ℕ Refusal)
     (x : FrameWrittenOver w h mode q index p list list' scratch scratch' out out' r) where
   arguments : ℕ
   arguments = arg_fault_over w h mode q (length p) (length list) (length scratch)
 
   -- which numbers the call answers
-  pub frame_written_among : Among (5 ∷ 7 ∷ 2 ∷ send_numbers) (writing_number r)
-  unfolding each among
-  frame_written_among =
-      rw x.wrote.number (among_then _ _ (among_all _ (arg_among w h mode q (length p) (length list) (length scratch)) refl)
-      (among_all _ (send_among index w h mode q p (length out)) refl))
+  pub frame_written_among : Among (5 ∷ 7 ∷ 2 ∷ send_numbers) (number_of r)
+  frame_written_among = rw x.wrote.number (fault_among w h mode q index p (length list) (length scratch) (length out))
 
-  pub work_untouched : Among arg_numbers (writing_number r) → (list' ≡ list) × (scratch' ≡ scratch)
+  pub work_untouched : Among arg_numbers (number_of r) → (list' ≡ list) × (scratch' ≡ scratch)
   unfolding arguments each among
   work_untouched e =
       let o = among_none arg_numbers (send_among index w h mode q p (length out)) refl in
       let f = first_there arguments _ o (subst (Among arg_numbers) x.wrote.number e) in
       (x.first ∙ sym (untouched _ arguments list refl f), x.second ∙ sym (untouched _ arguments scratch refl f))
 
-  pub work_zeros : Other arg_numbers (writing_number r) → (list' ≡ replicate 4096 (pos 0)) × (scratch' ≡ replicate 4096 (pos 0))
+  pub work_zeros : Other arg_numbers (number_of r) → (list' ≡ replicate 4096 (pos 0)) × (scratch' ≡ replicate 4096 (pos 0))
   unfolding arguments
   work_zeros o =
       let z = sym (first_none arguments _ (arg_among w h mode q (length p) (length list) (length scratch)) (subst (Other arg_numbers) x.wrote.number o)) in

@@ -1,13 +1,13 @@
 -- Where luma and chroma are equal the writer over both is the writer over one set: every byte, every refusal and every list is as before.
 -- Assumes nothing.
 use Prim.Native.Nat.{ℕ, zero, suc, ◌+◌, ◌/◌, ◌%◌}
-use Rattle.std.specs.Prelude.{◌≡◌, Bool, true, false, leb, ℤ, length}
+use Rattle.std.specs.Prelude.{◌≡◌, Bool, true, false, leb, ℤ, length, Result}
 use Rattle.std.proofs.Math.Path.{refl, ap, ap₂}
 use Rattle.std.proofs.Common.{sym, ◌∙◌, subst}
 use mathlib.Core.List.{List}
 use Rattle.whole.specs.Row.{◌!◌⨾◌, ◌⇒◌∣◌, ◌⨟◌}
 use Rattle.wire.specs.Wrote.{Wrote}
-use Rattle.wire.specs.declared.Writing.{Writing}
+use Rattle.wire.specs.declared.Refusal.{Refusal}
 use Rattle.bands.specs.Bands.{is_good}
 use Rattle.bands.specs.declared.Quant.{Quant}
 use Rattle.quants.specs.Quants.{same, quant_for, chroma_index, one_for}
@@ -75,7 +75,7 @@ one_set index w h mode q p e =
 
 -- ---- the promise over one set is the promise over both
 
-module _ (w h mode : ℕ) (v : List ℕ) (index : ℕ) (p : List ℕ) (list list' scratch scratch' : List ℤ) (out out' : List ℕ) (r : Writing) where
+module _ (w h mode : ℕ) (v : List ℕ) (index : ℕ) (p : List ℕ) (list list' scratch scratch' : List ℤ) (out out' : List ℕ) (r : Result ℕ Refusal) where
   arguments : arg_fault_over w h mode (one_for v) (length p) (length list) (length scratch) ≡ arg_fault w h mode v (length p) (length list) (length scratch)
   arguments = one_args w h mode v (length p) (length list) (length scratch)
 
@@ -110,7 +110,7 @@ module _ (w h mode : ℕ) (v : List ℕ) (index : ℕ) (p : List ℕ) (list list
 
 -- and so it leaves one answer too
 pub frame_once :
-    (w h mode : ℕ) (q : List ℕ) (index : ℕ) (p : List ℕ) (list a a' scratch b b' : List ℤ) (out c c' : List ℕ) (r r' : Writing)
+    (w h mode : ℕ) (q : List ℕ) (index : ℕ) (p : List ℕ) (list a a' scratch b b' : List ℤ) (out c c' : List ℕ) (r r' : Result ℕ Refusal)
     → FrameWritten w h mode q index p list a scratch b out c r
     → FrameWritten w h mode q index p list a' scratch b' out c' r'
     → (r ≡ r') × (a ≡ a') × (b ≡ b') × (c ≡ c')

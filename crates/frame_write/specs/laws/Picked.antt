@@ -1,7 +1,7 @@
 -- A frame over a list of tile numbers: with no list it is the full frame, and so it is where all tiles are listed.
 -- Assumes nothing.
 use Prim.Native.Nat.{ℕ, zero, suc, ◌+◌, ◌≤◌, ◌<◌}
-use Rattle.std.specs.Prelude.{◌≡◌, leb, length, get_or}
+use Rattle.std.specs.Prelude.{◌≡◌, leb, length, get_or, Result}
 use Rattle.std.proofs.Math.Path.{refl, ap, ap₂, sym}
 use Rattle.std.proofs.Common.{◌∙◌, subst, arith, add-zero}
 use mathlib.Core.List.{List, [], ◌∷◌, ◌++◌}
@@ -9,7 +9,7 @@ use Rattle.std.proofs.Math.Nat.{zero-add}
 use Rattle.std.proofs.Math.ListN.{get_or-eq_default}
 use Rattle.whole.specs.Row.{◌!◌⨾◌, ◌⨟◌}
 use Rattle.wire.specs.Wrote.{Wrote}
-use Rattle.wire.specs.declared.Writing.{Writing}
+use Rattle.wire.specs.declared.Refusal.{Refusal}
 use Rattle.quants.specs.Quants.{sets_of, one_for}
 use Rattle.quants.specs.declared.Quants.{Quants}
 use Rattle.frame_layout.specs.Bytes.{Tile, tile_of, tiles_of, front_of, frame_of, end_of}
@@ -88,14 +88,14 @@ module _ (p : List ℕ) (w h mode : ℕ) (q : Quants) where
   fault_by index ks n room = stops_of (stop_by ks) n 0 ⨟ (leb (length (frame_by index ks n)) room ! 13 ⨾ 0)
 
   -- a frame that was sent is the definition's, by equal bytes and equal refusals
-  wrote_is : (index n : ℕ) (ks bytes out out' : List ℕ) (stop : ℕ) (r : Writing) → frame_by index ks n ≡ bytes → stops_of (stop_by ks) n 0 ≡ stop →
+  wrote_is : (index n : ℕ) (ks bytes out out' : List ℕ) (stop : ℕ) (r : Result ℕ Refusal) → frame_by index ks n ≡ bytes → stops_of (stop_by ks) n 0 ≡ stop →
       Wrote (fault_by index ks n (length out)) (frame_by index ks n) out out' r → Wrote (stop ⨟ (leb (length bytes) (length out) ! 13 ⨾ 0)) bytes out out' r
   wrote_is index n ks bytes out out' stop r e g x =
       subst (λ (s : ℕ). Wrote (s ⨟ (leb (length bytes) (length out) ! 13 ⨾ 0)) bytes out out' r) g
       (subst (λ (b : List ℕ). Wrote (stops_of (stop_by ks) n 0 ⨟ (leb (length b) (length out) ! 13 ⨾ 0)) b out out' r) e x)
 
   -- no list: the full frame
-  pub as_all : (index n : ℕ) (out out' : List ℕ) (r : Writing) → n ≡ tiles_no w h →
+  pub as_all : (index n : ℕ) (out out' : List ℕ) (r : Result ℕ Refusal) → n ≡ tiles_no w h →
       Wrote (fault_by index [] n (length out)) (frame_by index [] n) out out' r →
       Wrote (send_fault_over index w h mode q p (length out)) (frame_over index w h mode q p) out out' r
   unfolding send_fault_over frame_over sent_at
@@ -104,7 +104,7 @@ module _ (p : List ℕ) (w h mode : ℕ) (q : Quants) where
       (ap (λ (k : ℕ). stops_of (tile_refusal_over p w h mode q) k 0) e ∙ sym (along (tiles_no w h) 0)) x
 
   -- a list: the listed tiles
-  pub as_listed : (index : ℕ) (ks out out' : List ℕ) (r : Writing) →
+  pub as_listed : (index : ℕ) (ks out out' : List ℕ) (r : Result ℕ Refusal) →
       Wrote (fault_by index ks (length ks) (length out)) (frame_by index ks (length ks)) out out' r →
       Wrote (send_fault_picked index w h mode q p ks (length out)) (frame_picked index w h mode q p ks) out out' r
   unfolding send_fault_picked refusals_picked frame_picked

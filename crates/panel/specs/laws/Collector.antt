@@ -3,6 +3,8 @@
 -- (01 is this project's scope document, 02 its change requests, 001 is MS-RDPRFX: README, "What 01 is".)
 use Rattle.std.specs.Prelude.{ℕ, zero, suc, ◌≡◌, refl, List}
 use Rattle.std.proofs.Common.{ap, ◌∙◌, sym}
+use Rattle.wire.specs.Refusal.{refusal_of}
+use Rattle.wire.specs.laws.Refusal.{number_pos, refusal_back}
 use Rattle.collect.specs.declared.Collector.{Collector}
 use Rattle.collect.specs.declared.Collected.{Collected}
 use Rattle.collect.specs.declared.Collected.TheVariants.{More, Header, Frame, Refused}
@@ -28,12 +30,15 @@ collect-call c bytes store store' call size n t e f g h =
     }
 
 -- the three numbers are one answer's: no refusal is 0
+refused_at : (n call size : ℕ) → (n ≡ 0 → ⊥) → answer_of n call size ≡ Refused (refusal_of n)
+refused_at zero call size h = absurd (h refl)
+refused_at (suc n) call size h = refl
+
 told_by : (a : Collected) (fault : ℕ) → Says a fault → answer_of (collected_number a) (collected_call a) (collected_size a) ≡ a
 told_by More fault e = refl
 told_by (Header n) fault e = refl
 told_by (Frame n) fault e = refl
-told_by (Refused zero) fault e = absurd (e.1 refl)
-told_by (Refused (suc n)) fault e = refl
+told_by (Refused refusal) fault e = refused_at _ 0 0 (number_pos refusal) ∙ ap Refused (refusal_back refusal)
 
 pub told :
     (c c' : Collector) (bytes store store' : List ℕ) (call size taken n : ℕ) → Bytes bytes → CollectCall c c' bytes store store' call size taken n →

@@ -82,12 +82,6 @@ overflow_step-k c =
     let pre = c.requires in
     omega (arith, pre.0.fits, pre.0.len, loop.invariant.0, loop.invariant.1, loop.invariant.2.same, c.loop-k-test.true)
 
-pub loop-k-smaller : goal.loop-k-smaller
-loop-k-smaller c =
-    let loop = c.loop-k in
-    let pre = c.requires in
-    omega (arith, pre.0.fits, pre.0.len, loop.invariant.0, loop.invariant.1, loop.invariant.2.same, c.loop-k-test.true)
-
 pub loop-k-preserved : goal.loop-k-preserved
 loop-k-preserved c =
     let loop-test = c.loop-k-test in

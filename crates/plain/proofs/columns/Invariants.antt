@@ -1,5 +1,5 @@
 -- What the loop keeps, and what falls with each turn.
-use Prim.Native.Nat.{◌+◌, ◌*◌, ◌-◌, ◌≤◌}
+use Prim.Native.Nat.{◌+◌, ◌*◌, ◌≤◌}
 use mathlib.Core.Path.{◌≡◌}
 use Rattle.whole.specs.Tab.{at}
 use Rattle.bands.specs.laws.Part.{Done}
@@ -9,6 +9,3 @@ use Rattle.plain.proofs.columns.Given as goal
 abbrev pub invariant-loop-k : goal.invariant-loop-k
 invariant-loop-k l = (l.k-end ≡ 2 * l.n * (2 * l.n)) × (l.k ≤ 2 * l.n * (2 * l.n)) × Done (at (level_from l.from l.n l.initial.dst)) (l.from + l.k)
     l.initial.dst l.dst
-
-abbrev pub decreases-loop-k : goal.decreases-loop-k
-decreases-loop-k l = 2 * l.n * (2 * l.n) - l.k

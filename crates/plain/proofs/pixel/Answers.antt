@@ -5,9 +5,9 @@ use Rattle.tile_back.specs.laws.Word.{plane_near, word_there}
 use Rattle.plain.proofs.pixel.Goals as goal
 
 pub word-requires : goal.word-requires
-word-requires c =
+word-requires g c =
     (plane_near _ c.args.i c.requires.1, plane_near _ c.args.i c.requires.2, plane_near _ c.args.i c.requires.3)
 
 pub returns : goal.returns
-returns c =
-    c.word.ensures ∙ word_there 0 _ _ _ c.args.i c.requires.1 c.requires.2 c.requires.3
+returns g c =
+    c.word.ensures ∙ word_there _ _ _ _ c.args.i c.requires.1 c.requires.2 c.requires.3

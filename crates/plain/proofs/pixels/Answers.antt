@@ -1,34 +1,15 @@
 -- `pixels` meets its contract. The loop keeps the words made so far (`Making`). Assumes nothing.
-use mathlib.Core.Path.{refl, sym, ◌∙◌}
-use native.Mathlib.Omega.{arith}
+use Rattle.std.specs.Prelude.{refl}
+use Rattle.std.proofs.Common.{◌∙◌, arith}
+use Rattle.std.proofs.lemmas.List.{length-map, map-set}
 use Rattle.plain.specs.laws.Making.{making_none, making_next, making_all}
 use Rattle.plain.proofs.pixels.Goals as goal
 
 pub loop-i-init : goal.loop-i-init
-loop-i-init c = making_none _ _ _ _ _ _ c.requires.0 refl
-
-pub pixel-requires : goal.pixel-requires
-pixel-requires c =
-    let pre = c.requires in
-    (c.loop-i-test.true, pre.1, pre.2, pre.3)
-
-pub offset_bounds-words-i : goal.offset_bounds-words-i
-offset_bounds-words-i c = omega (arith, c.loop-i.invariant.len, c.loop-i-test.true)
-
-pub bounds-words-i : goal.bounds-words-i
-bounds-words-i c = omega (arith, c.loop-i.invariant.len, c.loop-i-test.true)
-
-pub overflow_step-i : goal.overflow_step-i
-overflow_step-i c = omega (arith, c.loop-i-test.true)
-
-pub loop-i-smaller : goal.loop-i-smaller
-loop-i-smaller c = omega (arith, c.loop-i-test.true)
+loop-i-init g c = making_none _ _ _ _ _ _ (length-map _ _ ∙ c.requires.0) refl
 
 pub loop-i-preserved : goal.loop-i-preserved
-loop-i-preserved c = making_next _ _ _ _ _ _ _ c.loop-i-test.true c.loop-i.invariant c.pixel.ensures
-
-pub shape_of-words : goal.shape_of-words
-shape_of-words c = c.loop-i.invariant.len ∙ sym c.requires.0
+loop-i-preserved g c = rw map-set (making_next _ _ _ _ _ _ _ c.loop-i-test.true c.loop-i.invariant c.pixel.ensures)
 
 pub returns : goal.returns
-returns c = making_all _ _ _ _ _ _ c.loop-i-test.false c.loop-i.invariant
+returns g c = making_all _ _ _ _ _ _ (omega arith) c.loop-i.invariant

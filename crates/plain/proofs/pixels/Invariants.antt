@@ -1,10 +1,7 @@
--- What the loop keeps, and what falls with each turn.
-use Prim.Native.Nat.{◌-◌}
+-- What the loop keeps.
+use Rattle.std.specs.Prelude.{map}
 use Rattle.plain.specs.laws.Making.{Making}
 use Rattle.plain.proofs.pixels.Given as goal
 
 abbrev pub invariant-loop-i : goal.invariant-loop-i
-invariant-loop-i l = Making 0 l.ys l.cbs l.crs l.i l.words
-
-abbrev pub decreases-loop-i : goal.decreases-loop-i
-decreases-loop-i l = 4096 - l.i
+invariant-loop-i g l = let w = g.W.GlassWord in Making w.GLASS l.ys l.cbs l.crs l.i (map w.number l.words)

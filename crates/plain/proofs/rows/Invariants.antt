@@ -1,5 +1,5 @@
 -- What the loop keeps, and what falls with each turn.
-use Prim.Native.Nat.{ℕ, ◌*◌, ◌-◌, ◌/◌, ◌%◌, ◌≤◌}
+use Prim.Native.Nat.{ℕ, ◌*◌, ◌/◌, ◌%◌, ◌≤◌}
 use mathlib.Core.Path.{◌≡◌}
 use lib.ListN.{drop}
 use Rattle.whole.specs.Tab.{at}
@@ -10,6 +10,3 @@ use Rattle.plain.proofs.rows.Given as goal
 abbrev pub invariant-loop-k : goal.invariant-loop-k
 invariant-loop-k l = (l.k-end ≡ 2 * l.n * (2 * l.n)) × (l.k ≤ 2 * l.n * (2 * l.n)) × Done
     (λ (i : ℕ). rows_at l.n (at (drop l.from l.src)) (i / (2 * l.n)) (i % (2 * l.n))) l.k l.initial.dst l.dst
-
-abbrev pub decreases-loop-k : goal.decreases-loop-k
-decreases-loop-k l = 2 * l.n * (2 * l.n) - l.k

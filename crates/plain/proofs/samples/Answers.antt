@@ -1,32 +1,22 @@
--- `samples` meets its contract: refused, or the wavelet of its coefficients. Assumes nothing.
+-- Refused, or the wavelet of its coefficients.
+use Rattle.std.proofs.Common.{refl, sym, subst}
+use Rattle.wire.specs.laws.Refusal.{number_on, number_pos}
+use Rattle.plain.specs.Plain.{Sampled}
 use Rattle.plain.specs.laws.Parts.{samples_refused, coefficients_good, samples_done}
 use Rattle.plain.proofs.samples.Goals as goal
 
-pub component-n-requires : goal.component-n-requires
-component-n-requires c =
-    let pre = c.requires in
-    (pre.0, pre.2)
+pub returns-in_err-component : goal.returns-in_err-component
+returns-in_err-component c =
+    let a = c.args in
+    subst (Sampled a.mode a.q.v a.code.now a.work.now c.component.new.work) (sym (number_on _ _ c.from_residual.ensures.1))
+    (samples_refused a.mode a.q.v a.code.now a.work.now _ _ c.in_err-component.ensures (number_pos _))
 
 pub tile-requires : goal.tile-requires
 tile-requires c =
-    let if1 = c.if-n-eq0 in
-    let pre = c.requires in
     let a = c.args in
-    let d = c.component-n in
-    let g = coefficients_good a.mode a.q.v a.code.now a.work.now d.new.work d.result d.ensures if1.true in
-    (g.0, pre.1, g.1)
+    let g = coefficients_good a.mode a.q.v a.code.now a.work.now _ _ c.in_ok-component.ensures refl in (g.0, c.requires.1, g.1)
 
-pub returns-then-n-eq0 : goal.returns-then-n-eq0
-returns-then-n-eq0 c =
-    let tile = c.tile in
-    let if1 = c.if-n-eq0 in
+pub returns : goal.returns
+returns c =
     let a = c.args in
-    let d = c.component-n in
-    samples_done a.mode a.q.v a.code.now a.work.now d.new.work d.result d.ensures if1.true tile.new.work
-    tile.ensures
-
-pub returns-else-n-eq0 : goal.returns-else-n-eq0
-returns-else-n-eq0 c =
-    let a = c.args in
-    let d = c.component-n in
-    samples_refused a.mode a.q.v a.code.now a.work.now d.new.work d.result d.ensures c.if-n-eq0.false
+    samples_done a.mode a.q.v a.code.now a.work.now _ _ c.in_ok-component.ensures refl _ c.tile.ensures

@@ -35,9 +35,6 @@ value c =
 pub loop-k-init : goal.loop-k-init
 loop-k-init c = scale_start c.args.q.v c.args.work.now c.requires.0
 
-pub offset_bounds-work-k : goal.offset_bounds-work-k
-offset_bounds-work-k c = omega arith
-
 pub slice_copy_out-scaled : goal.slice_copy_out-scaled
 slice_copy_out-scaled c =
     let pre = c.requires in
@@ -64,21 +61,12 @@ returns-then-not-in_range c =
     scale_bad args.q.v args.work.now pre.0 l.work l.k l.invariant loop-test.true _ (value ((goal.at.returns-then-not-in_range c).After-scaled-v)) l.work
     (sym c.in_range.ensures ∙ c.if-not-in_range.true)
 
-pub offset_bounds-work-k-in-loop-k : goal.offset_bounds-work-k-in-loop-k
-offset_bounds-work-k-in-loop-k c = omega arith
-
 pub bounds-work-k : goal.bounds-work-k
 bounds-work-k c =
     let loop-test = c.loop-k-test in
     let loop = c.loop-k in
     let pre = c.requires in
     omega (arith, loop.invariant.done.same, pre.0, loop-test.true)
-
-pub overflow_step-k : goal.overflow_step-k
-overflow_step-k c = omega arith
-
-pub loop-k-smaller : goal.loop-k-smaller
-loop-k-smaller c = omega arith
 
 pub loop-k-preserved : goal.loop-k-preserved
 loop-k-preserved c =

@@ -1,10 +1,6 @@
 -- What the loop keeps, and what falls with each turn.
-use Prim.Native.Nat.{◌-◌}
 use Rattle.plain.specs.laws.Fit.{Scaling}
 use Rattle.plain.proofs.scale.Given as goal
 
 abbrev pub invariant-loop-k : goal.invariant-loop-k
 invariant-loop-k l = Scaling l.q.v l.initial.work l.work l.k
-
-abbrev pub decreases-loop-k : goal.decreases-loop-k
-decreases-loop-k l = 4096 - l.k

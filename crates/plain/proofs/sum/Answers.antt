@@ -39,12 +39,6 @@ value c =
 pub loop-i-init : goal.loop-i-init
 loop-i-init c = sum_start c.args.work.now c.requires.0
 
-pub overflow_add-i : goal.overflow_add-i
-overflow_add-i c = omega arith
-
-pub offset_bounds-work-i : goal.offset_bounds-work-i
-offset_bounds-work-i c = omega arith
-
 pub slice_copy_out-plus : goal.slice_copy_out-plus
 slice_copy_out-plus c =
     let pre = c.requires in
@@ -73,24 +67,12 @@ returns-then-not-in_range c =
     sum_bad args.work.now pre.0 l.work (to_z w32 l.s-bits) l.i l.invariant loop-test.true _ (value (goal.at.returns-then-not-in_range c).After-plus-s) l.work
     (sym c.in_range.ensures ∙ c.if-not-in_range.true)
 
-pub overflow_add-s : goal.overflow_add-s
-overflow_add-s c = omega arith
-
-pub offset_bounds-work-i-in-loop-i : goal.offset_bounds-work-i-in-loop-i
-offset_bounds-work-i-in-loop-i c = omega arith
-
 pub bounds-work-i : goal.bounds-work-i
 bounds-work-i c =
     let loop-test = c.loop-i-test in
     let loop = c.loop-i in
     let pre = c.requires in
     omega (arith, loop.invariant.done.same, pre.0, loop-test.true)
-
-pub overflow_step-i : goal.overflow_step-i
-overflow_step-i c = omega arith
-
-pub loop-i-smaller : goal.loop-i-smaller
-loop-i-smaller c = omega arith
 
 pub loop-i-preserved : goal.loop-i-preserved
 loop-i-preserved c =

@@ -180,6 +180,10 @@ module _ (q : List ℕ) (before mid : List ℤ) (n : ℕ) (s : Sums before mid n
       let e = nine (all_in (sums_of before) 64) n s.number h in
       record { number = sym e ∙ stops _ _ _ (λ z. h (s.number ∙ z)) s.number; list = λ z. absurd (omega arith) }
 
+  -- a sum is out of range: its number is that of both
+  pub fit_ends : (n ≡ 0 → ⊥) → Fitted q before mid n
+  fit_ends h = record { number = stops _ _ _ (λ z. h (s.number ∙ z)) s.number; list = λ z. absurd (h z) }
+
   module _ (z : n ≡ 0) where
     -- what scaling asks for
     pub mid_good : length before ≡ 4096 → AllNear 32767 before → (length mid ≡ 4096) × AllNear 32767 mid
@@ -188,7 +192,7 @@ module _ (q : List ℕ) (before mid : List ℤ) (n : ℕ) (s : Sums before mid n
         (ap length (s.list z) ∙ g.0, subst (AllNear 32767) (sym (s.list z)) g.1)
 
     module _ (after : List ℤ) (m : ℕ) (t : Scales q mid after m) where
-      fit_goes : Fitted q before after m
+      pub fit_goes : Fitted q before after m
       fit_goes = record {
         number = goes_on _ _ _ (sym s.number ∙ z) (t.number ∙ ap (scale_fault q) (s.list z));
         list = λ y. t.list y ∙ ap (scaled_by q) (s.list z);

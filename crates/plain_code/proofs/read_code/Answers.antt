@@ -1,10 +1,9 @@
 -- `read_code` meets its contract. The loop keeps `Going`: what is read and stored so far is the walk of the definition. Assumes nothing.
 use mathlib.Core.Path.{refl, sym, ap, ◌∙◌}
+use Rattle.std.specs.Prelude.{Ok}
 use native.Mathlib.Omega.{arith}
-use lib.ListN.{length, length-set}
+use lib.ListN.{length-set}
 use Rattle.bits.specs.Bits.{bits_of}
-use Rattle.code.specs.declared.element.Element.{Element}
-use Rattle.code.specs.Fill.{placed_of}
 use Rattle.code.specs.laws.Place.{same_bits, fine_one, fine_two}
 use Rattle.code.specs.laws.Filling.{filling_fine, filling_end, turn_bad}
 use Rattle.code.specs.laws.Read.{code_bad, code_done, code_tail}
@@ -24,31 +23,27 @@ element-requires c =
     let pre = c.requires in
     (pre.0, omega (arith, loop.invariant.place), loop.invariant.fill.kps, loop.invariant.fill.krs)
 
-pub shape_of-list-in-Refused : goal.shape_of-list-in-Refused
-shape_of-list-in-Refused c =
+pub shape_of-list-in-Err : goal.shape_of-list-in-Err
+shape_of-list-in-Err c =
     let loop = c.loop-i in
     let pre = c.requires in
     loop.invariant.fill.clear.len ∙ sym pre.1
 
-pub returns-in-Refused : goal.returns-in-Refused
-returns-in-Refused c =
-    let loop-test = c.loop-i-test in
-    let args = c.args in
+pub returns-in-Err : goal.returns-in-Err
+returns-in-Err c =
+    let a = c.args in
     let l = c.loop-i in
-    let e = c.element in
-    let B = bits_of args.s.now in
-    code_bad args.rlgr3 args.s.now l.list _
-    (turn_bad args.rlgr3 4096 B l.list l.list l.c l.i e.result (placed_of (length l.list) l.i e.result) l.invariant.fill
-    loop-test.true e.ensures refl _ (ap (λ (x : Element). placed_of (length l.list) l.i x) c.in-Refused.is))
-    _ _ refl c.refusal_number.ensures
+    code_bad a.rlgr3 a.s.now l.list _
+    (turn_bad a.rlgr3 4096 (bits_of a.s.now) l.list l.list l.c l.i l.invariant.fill c.loop-i-test.true _ (sym c.in-Err.is ∙ c.element.ensures))
+    _ refl
 
 pub onward-i-requires : goal.onward-i-requires
 onward-i-requires c =
     let loop-test = c.loop-i-test in
     omega (arith, loop-test.true)
 
-pub loop-i-smaller-in-Zeros : goal.loop-i-smaller-in-Zeros
-loop-i-smaller-in-Zeros c =
+pub loop-i-smaller-in-Ok-Zeros : goal.loop-i-smaller-in-Ok-Zeros
+loop-i-smaller-in-Ok-Zeros c =
     let element = c.element in
     let loop-test = c.loop-i-test in
     let loop = c.loop-i in
@@ -56,19 +51,19 @@ loop-i-smaller-in-Zeros c =
     omega (
       arith,
       (going_zeros args.rlgr3 args.s.now loop.list loop.c loop.i loop.invariant loop-test.true _ _ _
-          (sym c.in-Zeros.is ∙ element.ensures) c.onward-i.ensures).1,
+          (ap Ok (sym c.in-Ok-Zeros.field-0-is) ∙ sym c.in-Ok-Zeros.is ∙ element.ensures) c.onward-i.ensures).1,
       loop-test.true,
       c.onward-i.ensures,
     )
 
-pub loop-i-preserved-in-Zeros : goal.loop-i-preserved-in-Zeros
-loop-i-preserved-in-Zeros c =
+pub loop-i-preserved-in-Ok-Zeros : goal.loop-i-preserved-in-Ok-Zeros
+loop-i-preserved-in-Ok-Zeros c =
     let element = c.element in
     let loop-test = c.loop-i-test in
     let loop = c.loop-i in
     let args = c.args in
     (going_zeros args.rlgr3 args.s.now loop.list loop.c loop.i loop.invariant loop-test.true _ _ _
-    (sym c.in-Zeros.is ∙ element.ensures) c.onward-i.ensures).0
+    (ap Ok (sym c.in-Ok-Zeros.field-0-is) ∙ sym c.in-Ok-Zeros.is ∙ element.ensures) c.onward-i.ensures).0
 
 pub unfolded-requires : goal.unfolded-requires
 unfolded-requires c =
@@ -76,8 +71,8 @@ unfolded-requires c =
     let loop-test = c.loop-i-test in
     let loop = c.loop-i in
     let args = c.args in
-    (fine_one _ _ _ _ _ _ c.in-One.is (filling_fine args.rlgr3 4096 (bits_of args.s.now) loop.list loop.c loop.i
-    loop.invariant.fill loop-test.true _ element.ensures)).1
+    (fine_one _ _ _ _ _ _ c.in-Ok-One.field-0-is (filling_fine args.rlgr3 4096 (bits_of args.s.now) loop.list loop.c loop.i
+    loop.invariant.fill loop-test.true _ (sym c.in-Ok-One.is ∙ element.ensures))).1
 
 pub overflow_add-i : goal.overflow_add-i
 overflow_add-i c =
@@ -87,8 +82,8 @@ overflow_add-i c =
     let args = c.args in
     omega (
       arith,
-      (fine_one _ _ _ _ _ _ c.in-One.is (filling_fine args.rlgr3 4096 (bits_of args.s.now) loop.list loop.c loop.i
-          loop.invariant.fill loop-test.true _ element.ensures)).0,
+      (fine_one _ _ _ _ _ _ c.in-Ok-One.field-0-is (filling_fine args.rlgr3 4096 (bits_of args.s.now) loop.list loop.c loop.i
+          loop.invariant.fill loop-test.true _ (sym c.in-Ok-One.is ∙ element.ensures))).0,
       loop.invariant.fill.clear.len,
       loop-test.true,
     )
@@ -101,8 +96,8 @@ offset_bounds-list-i c =
     let args = c.args in
     omega (
       arith,
-      (fine_one _ _ _ _ _ _ c.in-One.is (filling_fine args.rlgr3 4096 (bits_of args.s.now) loop.list loop.c loop.i
-          loop.invariant.fill loop-test.true _ element.ensures)).0,
+      (fine_one _ _ _ _ _ _ c.in-Ok-One.field-0-is (filling_fine args.rlgr3 4096 (bits_of args.s.now) loop.list loop.c loop.i
+          loop.invariant.fill loop-test.true _ (sym c.in-Ok-One.is ∙ element.ensures))).0,
       loop.invariant.fill.clear.len,
       loop-test.true,
     )
@@ -115,79 +110,79 @@ bounds-list-i c =
     let args = c.args in
     omega (
       arith,
-      (fine_one _ _ _ _ _ _ c.in-One.is (filling_fine args.rlgr3 4096 (bits_of args.s.now) loop.list loop.c loop.i
-          loop.invariant.fill loop-test.true _ element.ensures)).0,
+      (fine_one _ _ _ _ _ _ c.in-Ok-One.field-0-is (filling_fine args.rlgr3 4096 (bits_of args.s.now) loop.list loop.c loop.i
+          loop.invariant.fill loop-test.true _ (sym c.in-Ok-One.is ∙ element.ensures))).0,
       loop.invariant.fill.clear.len,
       loop-test.true,
     )
 
-pub overflow_add-i-in-One : goal.overflow_add-i-in-One
-overflow_add-i-in-One c =
+pub overflow_add-i-in-Ok-One : goal.overflow_add-i-in-Ok-One
+overflow_add-i-in-Ok-One c =
     let element = c.element in
     let loop-test = c.loop-i-test in
     let loop = c.loop-i in
     let args = c.args in
     omega (
       arith,
-      (fine_one _ _ _ _ _ _ c.in-One.is (filling_fine args.rlgr3 4096 (bits_of args.s.now) loop.list loop.c loop.i
-          loop.invariant.fill loop-test.true _ element.ensures)).0,
+      (fine_one _ _ _ _ _ _ c.in-Ok-One.field-0-is (filling_fine args.rlgr3 4096 (bits_of args.s.now) loop.list loop.c loop.i
+          loop.invariant.fill loop-test.true _ (sym c.in-Ok-One.is ∙ element.ensures))).0,
       loop.invariant.fill.clear.len,
       loop-test.true,
     )
 
-pub overflow_add-i-in-One-2 : goal.overflow_add-i-in-One-2
-overflow_add-i-in-One-2 c =
+pub overflow_add-i-in-Ok-One-2 : goal.overflow_add-i-in-Ok-One-2
+overflow_add-i-in-Ok-One-2 c =
     let element = c.element in
     let loop-test = c.loop-i-test in
     let loop = c.loop-i in
     let args = c.args in
     omega (
       arith,
-      (fine_one _ _ _ _ _ _ c.in-One.is (filling_fine args.rlgr3 4096 (bits_of args.s.now) loop.list loop.c loop.i
-          loop.invariant.fill loop-test.true _ element.ensures)).0,
+      (fine_one _ _ _ _ _ _ c.in-Ok-One.field-0-is (filling_fine args.rlgr3 4096 (bits_of args.s.now) loop.list loop.c loop.i
+          loop.invariant.fill loop-test.true _ (sym c.in-Ok-One.is ∙ element.ensures))).0,
       loop.invariant.fill.clear.len,
       loop-test.true,
     )
 
-pub loop-i-smaller-in-One : goal.loop-i-smaller-in-One
-loop-i-smaller-in-One c =
+pub loop-i-smaller-in-Ok-One : goal.loop-i-smaller-in-Ok-One
+loop-i-smaller-in-Ok-One c =
     let element = c.element in
     let loop-test = c.loop-i-test in
     let loop = c.loop-i in
     let args = c.args in
     omega (
       arith,
-      (fine_one _ _ _ _ _ _ c.in-One.is (filling_fine args.rlgr3 4096 (bits_of args.s.now) loop.list loop.c loop.i
-          loop.invariant.fill loop-test.true _ element.ensures)).0,
+      (fine_one _ _ _ _ _ _ c.in-Ok-One.field-0-is (filling_fine args.rlgr3 4096 (bits_of args.s.now) loop.list loop.c loop.i
+          loop.invariant.fill loop-test.true _ (sym c.in-Ok-One.is ∙ element.ensures))).0,
       loop-test.true,
     )
 
-pub loop-i-preserved-in-One : goal.loop-i-preserved-in-One
-loop-i-preserved-in-One c =
+pub loop-i-preserved-in-Ok-One : goal.loop-i-preserved-in-Ok-One
+loop-i-preserved-in-Ok-One c =
     let element = c.element in
     let loop-test = c.loop-i-test in
     let loop = c.loop-i in
     let args = c.args in
     (going_one args.rlgr3 args.s.now loop.list loop.c loop.i loop.invariant loop-test.true _ _ _ _
-    (sym c.in-One.is ∙ element.ensures) (same_bits _ _ (record { sfits = c.unfolded.type_inv }) c.unfolded.ensures)).0
+    (ap Ok (sym c.in-Ok-One.field-0-is) ∙ sym c.in-Ok-One.is ∙ element.ensures) (same_bits _ _ (record { sfits = c.unfolded.type_inv }) c.unfolded.ensures)).0
 
-pub unfolded-requires-in-Two : goal.unfolded-requires-in-Two
-unfolded-requires-in-Two c =
+pub unfolded-requires-in-Ok-Two : goal.unfolded-requires-in-Ok-Two
+unfolded-requires-in-Ok-Two c =
     let element = c.element in
     let loop-test = c.loop-i-test in
     let loop = c.loop-i in
     let args = c.args in
-    (fine_two _ _ _ _ _ _ c.in-Two.is (filling_fine args.rlgr3 4096 (bits_of args.s.now) loop.list loop.c loop.i
-    loop.invariant.fill loop-test.true _ element.ensures)).0
+    (fine_two _ _ _ _ _ _ c.in-Ok-Two.field-0-is (filling_fine args.rlgr3 4096 (bits_of args.s.now) loop.list loop.c loop.i
+    loop.invariant.fill loop-test.true _ (sym c.in-Ok-Two.is ∙ element.ensures))).0
 
-pub offset_bounds-list-i-in-Two : goal.offset_bounds-list-i-in-Two
-offset_bounds-list-i-in-Two c =
+pub offset_bounds-list-i-in-Ok-Two : goal.offset_bounds-list-i-in-Ok-Two
+offset_bounds-list-i-in-Ok-Two c =
     let loop-test = c.loop-i-test in
     let loop = c.loop-i in
     omega (arith, loop.invariant.fill.clear.len, loop-test.true)
 
-pub bounds-list-i-in-Two : goal.bounds-list-i-in-Two
-bounds-list-i-in-Two c =
+pub bounds-list-i-in-Ok-Two : goal.bounds-list-i-in-Ok-Two
+bounds-list-i-in-Ok-Two c =
     let loop-test = c.loop-i-test in
     let loop = c.loop-i in
     omega (arith, loop.invariant.fill.clear.len, loop-test.true)
@@ -198,8 +193,8 @@ unfolded-requires-then-i-lt4095 c =
     let loop-test = c.loop-i-test in
     let loop = c.loop-i in
     let args = c.args in
-    (fine_two _ _ _ _ _ _ c.in-Two.is (filling_fine args.rlgr3 4096 (bits_of args.s.now) loop.list loop.c loop.i loop.invariant.fill
-    loop-test.true _ element.ensures)).1 (omega (arith, c.if-i-lt4095.true))
+    (fine_two _ _ _ _ _ _ c.in-Ok-Two.field-0-is (filling_fine args.rlgr3 4096 (bits_of args.s.now) loop.list loop.c loop.i
+    loop.invariant.fill loop-test.true _ (sym c.in-Ok-Two.is ∙ element.ensures))).1 (omega (arith, c.if-i-lt4095.true))
 
 pub overflow_add-i-then-i-lt4095 : goal.overflow_add-i-then-i-lt4095
 overflow_add-i-then-i-lt4095 c =
@@ -218,29 +213,31 @@ bounds-list-i-then-i-lt4095 c =
     let loop = c.loop-i in
     simp length-set (omega (arith, loop.invariant.fill.clear.len, c.if-i-lt4095.true))
 
-pub onward-i-requires-in-Two : goal.onward-i-requires-in-Two
-onward-i-requires-in-Two c =
+pub onward-i-requires-in-Ok-Two : goal.onward-i-requires-in-Ok-Two
+onward-i-requires-in-Ok-Two c =
     let loop-test = c.loop-i-test in
     omega (arith, loop-test.true)
 
 pub loop-i-smaller : goal.loop-i-smaller
 loop-i-smaller c =
     let loop-test = c.loop-i-test in
-    omega (arith, c.onward-i-in-Two.ensures, loop-test.true)
+    omega (arith, c.onward-i-in-Ok-Two.ensures, loop-test.true)
 
 pub loop-i-preserved : goal.loop-i-preserved
 loop-i-preserved c =
-    let unfolded2 = c.unfolded-in-Two in
+    let unfolded2 = c.unfolded-in-Ok-Two in
     let element = c.element in
     let loop-test = c.loop-i-test in
     let loop = c.loop-i in
     let args = c.args in
     elim c.if-i-lt4095.branch [
       | then-i-lt4095 w ↦ rw w.list-is (going_two args.rlgr3 args.s.now loop.list loop.c loop.i loop.invariant loop-test.true _ _ _ _
-          (sym c.in-Two.is ∙ element.ensures) c.onward-i-in-Two.ensures _ (same_bits _ _ (record { sfits = unfolded2.type_inv }) unfolded2.ensures) _
+          (ap Ok (sym c.in-Ok-Two.field-0-is) ∙ sym c.in-Ok-Two.is ∙ element.ensures) c.onward-i-in-Ok-Two.ensures _
+          (same_bits _ _ (record { sfits = unfolded2.type_inv }) unfolded2.ensures) _
           (same_bits _ _ (record { sfits = w.unfolded-then-i-lt4095.type_inv }) w.unfolded-then-i-lt4095.ensures) w.if-i-lt4095.true).0
       | else-i-lt4095 w ↦ rw w.list-is (going_lone args.rlgr3 args.s.now loop.list loop.c loop.i loop.invariant loop-test.true _ _ _ _
-          (sym c.in-Two.is ∙ element.ensures) c.onward-i-in-Two.ensures _ (same_bits _ _ (record { sfits = unfolded2.type_inv }) unfolded2.ensures)
+          (ap Ok (sym c.in-Ok-Two.field-0-is) ∙ sym c.in-Ok-Two.is ∙ element.ensures) c.onward-i-in-Ok-Two.ensures _
+          (same_bits _ _ (record { sfits = unfolded2.type_inv }) unfolded2.ensures)
           w.if-i-lt4095.false).0
     ]
 

@@ -28,20 +28,19 @@ pub returns-then-mode-ne4 : goal.returns-then-mode-ne4
 unfolding shell_fault
 returns-then-mode-ne4 c =
     let a = c.args in
-    shell_refused a.mode a.s.now a.list.now 5 (fails _ _ _ _ (mode_none _ c.if-mode-ne1.true (ap not (ne_eqb a.mode 4 c.if-mode-ne4.true))) refl)
-    (λ z. omega arith)
+    shell_refused a.mode a.s.now a.list.now _ (fails _ _ _ _ (mode_none _ c.if-mode-ne1.true (ap not (ne_eqb a.mode 4 c.if-mode-ne4.true))) refl)
 
 pub returns-then-list-ne4096 : goal.returns-then-list-ne4096
 unfolding shell_fault
 returns-then-list-ne4096 c =
     let a = c.args in
-    shell_refused a.mode a.s.now a.list.now 2 (passes _ _ _ _ (known a.mode c.else-mode-ne1.either) (search rows)) (λ z. omega arith)
+    shell_refused a.mode a.s.now a.list.now _ (passes _ _ _ _ (known a.mode c.else-mode-ne1.either) (search rows))
 
 pub returns-then-s-gt65535 : goal.returns-then-s-gt65535
 unfolding shell_fault
 returns-then-s-gt65535 c =
     let a = c.args in
-    shell_refused a.mode a.s.now a.list.now 6 (passes _ _ _ _ (known a.mode c.else-mode-ne1.either) (search rows)) (λ z. omega arith)
+    shell_refused a.mode a.s.now a.list.now _ (passes _ _ _ _ (known a.mode c.else-mode-ne1.either) (search rows))
 
 pub read_code-r-requires : goal.read_code-r-requires
 read_code-r-requires c =
@@ -59,14 +58,14 @@ returns-then-reading_number-ne0 c =
     let a = c.args in
     let d = c.read_code-r in
     let zeros = c.clear-then-reading_number-ne0.ensures ∙ ap (λ (k : ℕ). replicate k (pos 0)) (d.auto.list ∙ clear.auto.list ∙ if3.false) in
-    code_refused a.mode a.s.now a.list.now 0 (through a.mode _ _ (known a.mode c.else-mode-ne1.either) c.if-list-ne4096.false c.if-s-gt65535.false)
-    refl d.new.list _ d.result d.ensures
+    code_refused a.mode a.s.now a.list.now (through a.mode _ _ (known a.mode c.else-mode-ne1.either) c.if-list-ne4096.false c.if-s-gt65535.false)
+    d.new.list _ d.result d.ensures
     (λ z. if5.true (reading-number.ensures ∙ z)) zeros
 
 pub returns-else-reading_number-ne0 : goal.returns-else-reading_number-ne0
 returns-else-reading_number-ne0 c =
     let a = c.args in
     let d = c.read_code-r in
-    code_taken a.mode a.s.now a.list.now 0 (through a.mode _ _ (known a.mode c.else-mode-ne1.either) c.if-list-ne4096.false c.if-s-gt65535.false)
-    refl d.new.list d.new.list d.result d.ensures
+    code_taken a.mode a.s.now a.list.now (through a.mode _ _ (known a.mode c.else-mode-ne1.either) c.if-list-ne4096.false c.if-s-gt65535.false)
+    d.new.list d.new.list d.result d.ensures
     (sym c.reading_number.ensures ∙ c.if-reading_number-ne0.false)

@@ -1,5 +1,5 @@
 -- A turn of the loop over elements: what it keeps, whatever kind of element it took.
-use Rattle.std.specs.Prelude.{ℕ, ◌+◌, ◌*◌, ◌-◌, ◌≤◌, ◌<◌, min, ◌≡◌, refl, Bool, List, ℤ, pos, length, drop, set, replicate}
+use Rattle.std.specs.Prelude.{ℕ, ◌+◌, ◌*◌, ◌-◌, ◌≤◌, ◌<◌, min, ◌≡◌, refl, Bool, List, ℤ, pos, length, drop, set, replicate, Ok}
 use Rattle.std.proofs.Common.{sym, ap, subst, arith, length-drop, length-append}
 use borrow.Author.Tests.{lt-ltb, le-ltb}
 use Rattle.whole.specs.Row.{◌⇒◌∣◌}
@@ -35,12 +35,12 @@ module _ (rlgr3 : Bool) (s : List ℕ) (out : List ℤ) (c : State) (i : ℕ) (w
   B = bits_of s
 
   abbrev Here : Element → Type 0
-  Here e = e ≡ elem_of rlgr3 c.kp c.krp (4096 - i) c.at B
+  Here e = Ok e ≡ elem_of rlgr3 c.kp c.krp (4096 - i) c.at B
 
   abbrev Next : List ℤ → State → ℕ → Type 0
   Next new t j = Going rlgr3 s new t j × (i < j)
 
-  told : (e : Element) → Here e → Told rlgr3 c.kp c.krp (4096 - i) c.at B e
+  told : (e : Element) → Here e → Told rlgr3 c.kp c.krp (4096 - i) c.at B (Ok e)
   told e q = subst (Told rlgr3 c.kp c.krp (4096 - i) c.at B) (sym q) (elem_told rlgr3 c.kp c.krp (4096 - i) c.at B (omega arith))
 
   onward : (front : List ℕ) (new : List ℤ) (t : State) (j k : ℕ) → Took rlgr3 c.kp c.krp (4096 - i) c.at B front t →
@@ -55,18 +55,18 @@ module _ (rlgr3 : Bool) (s : List ℕ) (out : List ℤ) (c : State) (i : ℕ) (w
 
   pub going_zeros : (z k : ℕ) (t : State) → Here (Zeros z t) → k ≡ min 4096 (i + z) → Next out t k
   going_zeros z k t q e =
-      onward _ out t (min 4096 (i + z)) k (told (Zeros z t) q) (filling_next rlgr3 4096 B out c i w.fill h (Zeros z t) q (min 4096 (i + z)) t refl) e
+      onward _ out t (min 4096 (i + z)) k (told (Zeros z t) q) (filling_next rlgr3 4096 B out c i w.fill h (Zeros z t) q) e
 
   pub going_one : (z v : ℕ) (t : State) (x : ℤ) → Here (One z v t) → x ≡ unfold_z v → Next (set out (i + z) x) t (i + z + 1)
   going_one z v t x q e =
       onward _ (set out (i + z) x) t (i + z + 1) (i + z + 1) (told (One z v t) q)
-      (rw e (filling_next rlgr3 4096 B out c i w.fill h (One z v t) q (i + z + 1) t refl)) refl
+      (rw e (filling_next rlgr3 4096 B out c i w.fill h (One z v t) q)) refl
 
   module _ (a b k : ℕ) (t : State) (q : Here (Two a b t)) (f : k ≡ min 4096 (i + 2)) (x : ℤ) (e : x ≡ unfold_z a) where
     both : (new : List ℤ) → new ≡ stored_of out i (Two a b t) → Next new t k
     both new g =
         onward _ new t (min 4096 (i + 2)) k (told (Two a b t) q)
-        (rw g (filling_next rlgr3 4096 B out c i w.fill h (Two a b t) q (min 4096 (i + 2)) t refl)) f
+        (rw g (filling_next rlgr3 4096 B out c i w.fill h (Two a b t) q)) f
 
     pub going_lone : 4095 ≤ i → Next (set out i x) t k
     unfolding ◌⇒◌∣◌

@@ -1,4 +1,5 @@
 -- Read with zeros past the end and judged once is read with each cut told: of numbers, of ones, of a GR number, and of the three kinds of element.
+use Rattle.std.specs.Prelude.{None}
 use Rattle.std.specs.Prelude.{ℕ, zero, suc, ◌+◌, ◌*◌, ◌-◌, ◌/◌, ◌%◌, ◌^◌, ◌≤◌, ◌<◌, ◌≡◌, refl, Bool, true, List, [], ◌∷◌, ltb, leb, length, drop, get_or}
 use Rattle.std.proofs.Common.{sym, ap₂, ◌∙◌, add-one, lt-ltb, le-ltb, drop_of_length-le, drop-cons}
 use Rattle.std.proofs.Math.Path.{ap}
@@ -8,10 +9,9 @@ use Rattle.std.proofs.Math.Decide.{dec_lt}
 use Rattle.std.proofs.Math.ListN.{length-drop}
 use Rattle.std.proofs.Math.Pow.{high}
 use Rattle.whole.specs.Row.{◌⇒◌∣◌}
-use Rattle.bits.specs.Bits.{val, bits_of, ones_of, num_of, gr_of}
+use Rattle.bits.specs.Bits.{got, val, bits_of, ones_of, num_of, gr_of}
 use Rattle.bits.specs.laws.Bit.{length_bits_of, num_more, num_end, val_lt, grow, gr_cut, gr_cut_low, gr_got, gr_small}
 use Rattle.bits.specs.laws.Word.{num_short}
-use Rattle.bits.specs.declared.Num.TheVariants.{Got, Cut}
 use Rattle.code.specs.Code.{kr_after, kp_one, kp_two, raised, size}
 use Rattle.code.specs.ReadList.{state_at, wide, no_second_place, one_elem, two_elem, run_first, run_elem}
 use Rattle.code.specs.laws.Steps.{run_some, run1_cut, run2_cut, run3_cut, run3_got}
@@ -21,7 +21,7 @@ use Rattle.plain_code.specs.Zeros.{ones_in, num_in, gr_in, judged_of}
 
 -- ---- ones
 
-ones_whole : (bs : List Bool) (v at : ℕ) → ones_in bs < length bs → ones_of v at bs ≡ Got (v + ones_in bs) (at + ones_in bs + 1)
+ones_whole : (bs : List Bool) (v at : ℕ) → ones_in bs < length bs → ones_of v at bs ≡ got (v + ones_in bs) (at + ones_in bs + 1)
 unfolding ones_in ones_of
 ones_whole [] v at h = absurd (omega arith)
 ones_whole (true ∷ bs) v at h =
@@ -33,7 +33,7 @@ ones_whole (false ∷ bs) v at h =
     let f : at + 0 + 1 ≡ at + 1 = omega arith in
     rw (e, f)
 
-ones_short : (bs : List Bool) (v at : ℕ) → length bs ≤ ones_in bs → ones_of v at bs ≡ Cut
+ones_short : (bs : List Bool) (v at : ℕ) → length bs ≤ ones_in bs → ones_of v at bs ≡ None
 unfolding ones_in ones_of
 ones_short [] v at h = refl
 ones_short (true ∷ bs) v at h = ones_short bs (v + 1) (at + 1) (omega arith)
@@ -81,14 +81,14 @@ ones_end B at r e o = by (dec_lt at (length B))
 
 -- ---- numbers
 
-pub num_whole : (k acc at : ℕ) (B : List Bool) → at + k ≤ length B → num_of k acc at (drop at B) ≡ Got (num_in k acc at B) (at + k)
+pub num_whole : (k acc at : ℕ) (B : List Bool) → at + k ≤ length B → num_of k acc at (drop at B) ≡ got (num_in k acc at B) (at + k)
 unfolding num_in
 num_whole zero acc at B h = let e : at + 0 ≡ at = omega arith in rw e (num_end B acc at)
 num_whole (suc k) acc at B h =
     let e : at + 1 + k ≡ at + suc k = omega arith in
     num_more B k acc at (omega arith) ∙ rw e at (num_whole k (acc * 2 + val (get_or B at false)) (at + 1) B (omega arith))
 
-num_cut : (k at : ℕ) (B : List Bool) → at ≤ length B → length B < at + k → num_of k 0 at (drop at B) ≡ Cut
+num_cut : (k at : ℕ) (B : List Bool) → at ≤ length B → length B < at + k → num_of k 0 at (drop at B) ≡ None
 num_cut k at B h l = num_short k 0 at (drop at B) (omega (arith, length-drop at B))
 
 pub num_lt : (k acc at j : ℕ) (B : List Bool) → acc < 2 ^ j → num_in k acc at B < 2 ^ (j + k)
@@ -128,17 +128,17 @@ module _ (k at : ℕ) (B : List Bool) (next : ℕ) (e : next ≡ at + gr_in k at
   v_is : at + ones_in (drop at B) + 1 + k ≡ next
   v_is = omega (arith, gr_ones k at B)
 
-  pub gr_whole : next ≤ length B → gr_of k at B ≡ Got (gr_in k at B) next
+  pub gr_whole : next ≤ length B → gr_of k at B ≡ got (gr_in k at B) next
   unfolding gr_in
   gr_whole h =
       let o = ones_whole (drop at B) 0 at (omega (arith, v_is, length-drop at B)) in
       let z : 0 + ones_in (drop at B) ≡ ones_in (drop at B) = omega arith in
       rw v_is at (gr_got k at B _ _ _ _ (rw z at o) (num_whole k 0 (at + ones_in (drop at B) + 1) B (omega (arith, v_is))))
 
-  pub gr_short : length B < next → gr_of k at B ≡ Cut
+  pub gr_short : length B < next → gr_of k at B ≡ None
   gr_short h = by (dec_lt (ones_in (drop at B)) (length (drop at B)))
     where
-      by : Dec (ones_in (drop at B) < length (drop at B)) → gr_of k at B ≡ Cut
+      by : Dec (ones_in (drop at B) < length (drop at B)) → gr_of k at B ≡ None
       by (yes l) = gr_cut_low k at B _ _ (ones_whole (drop at B) 0 at l)
           (num_cut k (at + ones_in (drop at B) + 1) B (omega (arith, length-drop at B)) (omega (arith, v_is)))
       by (no l) = gr_cut k at B (ones_short (drop at B) 0 at (omega arith))
@@ -193,11 +193,11 @@ module _ (kp krp n : ℕ) (B : List Bool) (len : n ≡ length B) where
           )
 
   -- one bit
-  bit_is : (at b : ℕ) → b ≡ val (get_or B at false) → at < n → num_of 1 0 at (drop at B) ≡ Got b (at + 1)
+  bit_is : (at b : ℕ) → b ≡ val (get_or B at false) → at < n → num_of 1 0 at (drop at B) ≡ got b (at + 1)
   unfolding num_in
-  bit_is at b e h = let z : num_in 1 0 at B ≡ b = omega (arith, e) in num_whole 1 0 at B (omega arith) ∙ ap (λ (m : ℕ). Got m (at + 1)) z
+  bit_is at b e h = let z : num_in 1 0 at B ≡ b = omega (arith, e) in num_whole 1 0 at B (omega arith) ∙ ap (λ (m : ℕ). got m (at + 1)) z
 
-  bit_cut : (at : ℕ) → n ≤ at → num_of 1 0 at (drop at B) ≡ Cut
+  bit_cut : (at : ℕ) → n ≤ at → num_of 1 0 at (drop at B) ≡ None
   bit_cut at h = num_short 1 0 at (drop at B) (omega (arith, length-drop at B))
 
   -- a run's zeros, sign and magnitude
@@ -211,7 +211,7 @@ module _ (kp krp n : ℕ) (B : List Bool) (len : n ≡ length B) where
       f : next ≡ mid + 1 + gr_in (krp / 8) (mid + 1) B / 2 ^ (krp / 8) + 1 + krp / 8
       f = rw (← eg) en
 
-      whole : mid ≤ n → num_of (kp / 8) 0 from (drop from B) ≡ Got z mid
+      whole : mid ≤ n → num_of (kp / 8) 0 from (drop from B) ≡ got z mid
       whole l = rw (ez, em) (num_whole (kp / 8) 0 from B (omega arith))
 
       by : Dec (n < mid) → Dec (n < mid + 1) → Dec (n < next) →
@@ -224,7 +224,7 @@ module _ (kp krp n : ℕ) (B : List Bool) (len : n ≡ length B) where
           (gr_short (krp / 8) (mid + 1) B next f (omega arith))))
       by (no l) (no k) (no j) =
           rw (le-ltb n next (omega arith)) (sym (run3_got kp krp left B _ z mid s (mid + 1) g next (whole (omega arith)) (bit_is mid s es (omega arith))
-          (gr_whole (krp / 8) (mid + 1) B next f (omega arith) ∙ ap (λ (x : ℕ). Got x next) (sym eg))))
+          (gr_whole (krp / 8) (mid + 1) B next f (omega arith) ∙ ap (λ (x : ℕ). got x next) (sym eg))))
 
   module _ (left at b : ℕ) (eb : b ≡ val (get_or B at false)) where
     pub zeros_is : (w q : ℕ) (t : State) → b ≡ 0 → w ≡ 2 ^ (kp / 8) → q ≡ raised 4 kp → t ≡ state_at (at + 1) q krp →

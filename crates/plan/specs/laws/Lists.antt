@@ -1,13 +1,14 @@
 -- Lists of tile numbers: what rising, existing and listed say of their places, and a finger that walks along a rising list.
 use Rattle.std.specs.Prelude.{ℕ, zero, suc, ◌+◌, ◌-◌, ◌≤◌, ◌<◌, ◌≡◌, refl, Bool, true, false, List, [], ◌∷◌, length, get_or, eqb, ltb}
 use Rattle.std.proofs.Common.{sym, subst, ◌∙◌, arith, add-one, ltb-true, lt-ltb, eqb-true, eq-eqb}
+use Rattle.std.specs.List.{IsAllAdjacentAnswer}
 use Rattle.std.proofs.Math.Decide.{dec_lt}
 use Rattle.whole.specs.Row.{◌⇒◌∣◌}
 use Rattle.whole.specs.laws.Row.{passes, held, case_yes}
 use Rattle.plan.specs.Plan.{rising, below, is_listed}
 use Rattle.plan.specs.Facts.{StrictlyRising, AllExist}
 use Rattle.plan.specs.Runs.{listed_at}
-use Rattle.plan.specs.laws.All.{yes_not_no, other_test, all_is, is_all}
+use Rattle.plan.specs.laws.All.{yes_not_no, other_test, all_is, is_all, all_fails}
 
 -- ---- "strictly rising"
 
@@ -22,6 +23,12 @@ rising_is ks e i l = ltb-true _ _ (all_is (rises_at ks) (length ks - 1) e i (ome
 pub is-rising : (ks : List ℕ) → StrictlyRising ks → rising ks ≡ true
 unfolding rising
 is-rising ks r = is_all (rises_at ks) (length ks - 1) (λ i l. lt-ltb _ _ (r i (omega arith)))
+
+-- what a walk over neighbours answers
+pub rising_answer : (ks : List ℕ) (r : Bool) → IsAllAdjacentAnswer (λ a b t. t ≡ ltb a b) ks r → r ≡ rising ks
+unfolding rising
+rising_answer ks true h = sym (is_all (rises_at ks) (length ks - 1) (λ i l. sym (h i 0 (omega arith))))
+rising_answer ks false h = all_fails (rises_at ks) (length ks - 1) h.0 (omega (arith, h.1)) (sym (h.2 0))
 
 -- a number is below every later one
 pub rising_apart : (ks : List ℕ) → StrictlyRising ks → (j i : ℕ) → i < j → j < length ks → get_or ks i 0 < get_or ks j 0

@@ -1,5 +1,5 @@
 -- All that specs/Request states is so.
-use Rattle.std.specs.Prelude.{ℕ, zero, suc, ◌≤◌, ◌<◌, Bool, List, length, get_or, drop}
+use Rattle.std.specs.Prelude.{ℕ, zero, suc, ◌≤◌, ◌<◌, Bool, List, length, get_or, drop, Result}
 use Rattle.std.proofs.Math.Path.{◌≡◌, refl, sym}
 use Rattle.std.proofs.Common.{ap, subst, ◌∙◌, arith, add-one}
 use Rattle.std.proofs.Math.Bool.{true, false}
@@ -13,7 +13,7 @@ use Rattle.session.specs.Header.{size_good}
 use Rattle.frame_pieces.specs.Parts.{tiles_no, pixels_good}
 use Rattle.plan.specs.Plan.{changed_tile, rising, below, is_listed, covers, pictures_fault, picks_fault, plan_fault, changed, make_fault}
 use Rattle.plan.specs.Plan.{Size, Lengths, Pictures}
-use Rattle.plan.specs.Made.{planned_number, planned_count, PlanMade}
+use Rattle.plan.specs.Made.{PlanMade}
 use Rattle.plan.specs.Facts.{Unchanged, StrictlyRising, AllExist, AllListed, Contains, Acceptable}
 use Rattle.plan.specs.Request.{CheckPlan, MakePlan, planned_by, SamePictures, RequestEleven}
 use Rattle.plan.specs.laws.All.{yes_not_no, other_test, all_is, is_all}
@@ -21,8 +21,9 @@ use Rattle.plan.specs.laws.Same.{unchanged_is, is_unchanged, filled-same}
 use Rattle.plan.specs.laws.Lists.{rising_is, is-rising, rising_before, below_is, is-below, listed_is, is-listed}
 use Rattle.plan.specs.laws.Cover.{is_covered, listed_covered, same_covered, missing_covered}
 use Rattle.plan.specs.laws.Changed.{those_meet, those_listed, those_rising, size_allowed, pictures_are}
-use Rattle.plan.specs.laws.Made.{number_said, count_said}
-use Rattle.plan.specs.declared.make.Planned.{Planned}
+use Rattle.plan.specs.laws.Made.{same_answer}
+use Rattle.wire.specs.Refusal.{number_of, count_of}
+use Rattle.wire.specs.declared.Refusal.{Refusal}
 
 -- ---- the tests of the row, and what they say
 
@@ -223,12 +224,12 @@ module _ (m : MakePlan) where
   abbrev list : List ℕ
   list = changed m.old m.new m.width m.height
 
-  number_is : planned_number m.answer ≡ fault
-  number_is = ap planned_number m.promise.answer ∙ number_said fault list
+  number_is : number_of m.answer ≡ fault
+  number_is = m.promise.number
 
-  module _ (e : planned_number m.answer ≡ 0) where
-    count_is : planned_count m.answer ≡ length list
-    count_is = ap planned_count m.promise.answer ∙ (count_said fault list ∙ done_long fault list (sym number_is ∙ e))
+  module _ (e : number_of m.answer ≡ 0) where
+    count_is : count_of m.answer ≡ length list
+    count_is = m.promise.said ∙ done_long fault list (sym number_is ∙ e)
 
     left_is : m.out' ≡ written list m.out
     left_is = m.promise.left ∙ done_left fault list m.out (sym number_is ∙ e)
@@ -237,7 +238,7 @@ module _ (m : MakePlan) where
     unfolding written
     lists_them = rw (count_is, left_is) (take-append_seam list (drop (length list) m.out))
 
-    leaves_rest : drop (planned_count m.answer) m.out' ≡ drop (planned_count m.answer) m.out
+    leaves_rest : drop (count_of m.answer) m.out' ≡ drop (count_of m.answer) m.out
     unfolding written
     leaves_rest = rw (count_is, left_is) (drop-append_seam list (drop (length list) m.out))
 
@@ -245,17 +246,17 @@ module _ (m : MakePlan) where
     unfolding make_fault
     were_good = pictures_are m.width m.height m.old m.new (both _ _ (sym e ∙ number_is)).0
 
-  leaves_all : (planned_number m.answer ≡ 0 → ⊥) → m.out' ≡ m.out
+  leaves_all : (number_of m.answer ≡ 0 → ⊥) → m.out' ≡ m.out
   leaves_all n = m.promise.left ∙ refused_left fault list m.out (λ z. n (number_is ∙ z))
 
-own_accepted : (m : MakePlan) (c : CheckPlan) → planned_number m.answer ≡ 0 → SamePictures m c → c.picks ≡ planned_by m → c.answer ≡ 0
+own_accepted : (m : MakePlan) (c : CheckPlan) → number_of m.answer ≡ 0 → SamePictures m c → c.picks ≡ planned_by m → c.answer ≡ 0
 own_accepted m c e s q =
     let a = planned_accepted m.width m.height m.old m.new (were_good m e) in
     c.promise ∙ (rw (q ∙ lists_them m e, ← s.width, ← s.height, ← s.old, ← s.new) a)
 
 made_once :
-    (w h : ℕ) (old new out a b : List ℕ) (r q : Planned) → PlanMade w h old new out a r → PlanMade w h old new out b q → (r ≡ q) × (a ≡ b)
-made_once w h old new out a b r q x y = (x.answer ∙ sym y.answer, x.left ∙ sym y.left)
+    (w h : ℕ) (old new out a b : List ℕ) (r q : Result ℕ Refusal) → PlanMade w h old new out a r → PlanMade w h old new out b q → (r ≡ q) × (a ≡ b)
+made_once w h old new out a b r q x y = (same_answer r q (x.number ∙ sym y.number) (x.said ∙ sym y.said), x.left ∙ sym y.left)
 
 -- ---- the checker's call
 

@@ -9,13 +9,13 @@ use Rattle.sample.proofs.samples.Goals.{Else-not-is_good}
 set : (e : Else-not-is_good) → QuantGood e.args.q.v
 set e = good_set _ (sym e.is_good.ensures ∙ e.if-not-is_good.false)
 
-pub component_fault-n-requires : goal.component_fault-n-requires
-component_fault-n-requires c = (c.if-work-ne4096.false, set (goal.at.component_fault-n-requires c).Else-not-is_good)
+pub component_fault-requires : goal.component_fault-requires
+component_fault-requires c = (c.if-work-ne4096.false, set (goal.at.component_fault-requires c).Else-not-is_good)
 
 pub samples-requires : goal.samples-requires
 samples-requires c = (
-  c.component_fault-n.auto.work ∙ c.if-work-ne4096.false,
+  c.component_fault.auto.work ∙ c.if-work-ne4096.false,
   c.if-tmp-ne4096.false,
   set (goal.at.samples-requires c).Else-not-is_good,
-  sym c.if-n-ne0.false ∙ c.component_fault-n.ensures.number,
+  sym c.if-n-ne0.false ∙ (c.number_of-n.ensures ∙ c.component_fault.ensures.number),
 )

@@ -1,17 +1,19 @@
--- `take_header` meets its contract: the first fault's number where there is one, else the record after, which a message without a fault allows to be read.
-use mathlib.Core.Path.{refl, sym, ◌∙◌}
-use Rattle.whole.specs.laws.Row.{case_yes, case_no, ne_is, eq_is}
-use Rattle.session.specs.Header.{header_reading}
-use Rattle.session.specs.laws.Header.{good}
+-- `take_header` meets its contract: the first fault's refusal where there is one, else the record after, which a message without a fault allows to be read.
+use mathlib.Core.Path.{sym, ap, ◌∙◌}
+use Rattle.std.specs.Prelude.{Ok, Err}
+use Rattle.wire.specs.Refusal.{refusal_of}
+use Rattle.wire.specs.laws.Refusal.{number_pos, handed_on, refusal_back}
+use Rattle.session.specs.laws.Header.{good, header_taken, header_refused}
 use Rattle.session.proofs.take_header.Goals as goal
 
-pub returns-then-n-ne0 : goal.returns-then-n-ne0
-unfolding header_reading
-returns-then-n-ne0 c = case_no _ _ _ _ (ne_is c.header_fault-n.ensures refl c.if-n-ne0.true) (cc)
+pub returns-in_err-header_fault : goal.returns-in_err-header_fault
+returns-in_err-header_fault c =
+    let e = c.in_err-header_fault.ensures in
+    handed_on _ _ c.from_residual.ensures.1 ∙ ap Err (sym (refusal_back _) ∙ ap refusal_of e) ∙
+    sym (header_refused c.args.s c.args.m.now (λ z. number_pos _ (e ∙ z)))
 
-pub record_after-after-requires : goal.record_after-after-requires
-record_after-after-requires c = good _ _ (sym c.if-n-ne0.false ∙ c.header_fault-n.ensures)
+pub record_after-requires : goal.record_after-requires
+record_after-requires c = good _ _ c.in_ok-header_fault.ensures
 
 pub returns : goal.returns
-unfolding header_reading
-returns c = case_yes _ _ _ _ (eq_is c.header_fault-n.ensures refl c.if-n-ne0.false) (cc)
+returns c = ap Ok c.record_after.ensures ∙ sym (header_taken c.args.s c.args.m.now (sym c.in_ok-header_fault.ensures))

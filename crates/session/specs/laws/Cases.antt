@@ -6,12 +6,14 @@ use Rattle.wire.specs.Mode.{is_mode}
 use Rattle.whole.specs.Row.{◌!◌⨾◌, ◌⇒◌∣◌, ◌⨟◌}
 use Rattle.session.specs.Header.{tiles_over, right, size_good, counted, made, ready, due, size_of, sync_judge, versions_judge, channels_judge}
 use Rattle.session.specs.Header.{properties_good, context_judge, et_of, sync_fault, versions_fault, channels_fault, context_fault, field_fault, head_judge}
+use Rattle.wire.specs.Refusal.{refusal_of}
 use Rattle.session.specs.Header.{header_fault, kept_glass, record_after, header_reading}
 use Rattle.session.specs.Cases.{Cases}
 
 pub cases : Cases
 unfolding le16 le32 ◌!◌⨾◌ ◌⇒◌∣◌ ◌⨟◌ tiles_over right size_good is_mode counted made ready due size_of sync_judge versions_judge channels_judge properties_good
-    context_judge et_of sync_fault versions_fault channels_fault context_fault field_fault head_judge header_fault kept_glass record_after header_reading
+    context_judge et_of sync_fault versions_fault channels_fault context_fault field_fault head_judge
+    header_fault kept_glass record_after header_reading refusal_of
 cases = record {
   sync_taken = refl;
   versions_taken = refl;

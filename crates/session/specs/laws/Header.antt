@@ -1,17 +1,20 @@
 -- What holds of a record that calls could have made, of one that is ready, and of a header message in which nothing is wrong.
 -- (01 is this project's scope document, 02 its change requests, 001 is MS-RDPRFX: README, "What 01 is".)
-use Rattle.std.specs.Prelude.{ℕ, ◌*◌, ◌%◌, ◌≤◌, ◌<◌, ◌≡◌, refl, Bool, true, false, ◌⊎◌, List, length, leb, eqb}
+use Rattle.std.specs.Prelude.{ℕ, ◌*◌, ◌%◌, ◌≤◌, ◌<◌, ◌≡◌, refl, Bool, true, false, ◌⊎◌, List, length, leb, eqb, Ok, Err}
 use Rattle.std.proofs.Common.{sym, ◌∙◌, true≢false, arith, mul_comm, mul-le-mul_right, leb-true, le-leb, eqb-true, le-ltb, eq-eqb, ne_eqb}
 use Rattle.std.proofs.lemmas.Bool.{lt-leb, eqb-false}
 use Rattle.whole.specs.Row.{◌!◌⨾◌, ◌⇒◌∣◌}
 use Rattle.wire.specs.Le.{le16, le32}
 use Rattle.wire.specs.Mode.{is_mode}
+use Rattle.wire.specs.Refusal.{refusal_of, number_of}
 use Rattle.wire.specs.laws.Mode.{mode_is}
+use Rattle.wire.specs.laws.Refusal.{number_back}
+use Rattle.whole.specs.laws.Among.{each, among_most}
 use Rattle.whole.specs.laws.Row.{held, both, passes, case_yes, case_no, case_is, case_not}
 use Rattle.session.specs.declared.Session.{Session}
-use Rattle.session.specs.declared.HeaderReading.TheVariants.{Taken, Refused}
 use Rattle.session.specs.Header.{tiles_over, record_of, of_glass, stepped, Right, right, size_good, counted, made, ready, due, kept_glass}
-use Rattle.session.specs.Header.{size_of, head_judge, header_fault, channels_judge, channels_fault, field_fault, record_after, header_number, header_reading}
+use Rattle.session.specs.Header.{size_of, head_judge, header_fault, channels_judge, channels_fault, field_fault, record_after, header_reading}
+use Rattle.session.specs.laws.Numbers.{header_among}
 
 -- ---- tiles over pixels
 
@@ -240,19 +243,21 @@ channels_size m t e =
 
 -- ---- the answer, by the first fault
 
-pub header_taken : (s : Session) (m : List ℕ) → header_fault s m ≡ 0 → header_reading s m ≡ Taken (record_after s m)
+pub header_taken : (s : Session) (m : List ℕ) → header_fault s m ≡ 0 → header_reading s m ≡ Ok (record_after s m)
 unfolding header_reading
 header_taken s m e = sym (case_yes _ _ _ _ (eq-eqb (header_fault s m) 0 e) refl)
 
-pub header_refused : (s : Session) (m : List ℕ) → (header_fault s m ≡ 0 → ⊥) → header_reading s m ≡ Refused (header_fault s m)
+pub header_refused : (s : Session) (m : List ℕ) → (header_fault s m ≡ 0 → ⊥) → header_reading s m ≡ Err (refusal_of (header_fault s m))
 unfolding header_reading
 header_refused s m h = sym (case_no _ _ _ _ (ne_eqb (header_fault s m) 0 h) refl)
 
 -- the number is the first fault's
-number_by : (s : Session) (m : List ℕ) (b : Bool) → eqb (header_fault s m) 0 ≡ b → header_number (header_reading s m) ≡ header_fault s m
-unfolding header_number
+number_by : (s : Session) (m : List ℕ) (b : Bool) → eqb (header_fault s m) 0 ≡ b → number_of (header_reading s m) ≡ header_fault s m
+unfolding each
 number_by s m true e = let z = eqb-true (header_fault s m) 0 e in rw (header_taken s m z) (sym z)
-number_by s m false e = rw (header_refused s m (eqb-false (header_fault s m) 0 e)) refl
+number_by s m false e =
+    let z = eqb-false (header_fault s m) 0 e in
+    rw (header_refused s m z) (number_back (header_fault s m) (omega (arith, z)) (among_most 13 (header_among s m) refl))
 
-pub reading-number : (s : Session) (m : List ℕ) → header_number (header_reading s m) ≡ header_fault s m
+pub reading-number : (s : Session) (m : List ℕ) → number_of (header_reading s m) ≡ header_fault s m
 reading-number s m = number_by s m _ refl

@@ -23,7 +23,7 @@ unfolding record_after
 right_record s m = either _ _ _ (right_at _ 1 0 0 0) (either _ _ _ (right_at _ 2 _ _ _) (either _ _ _ (right_at _ 3 _ _ _) (right_at _ 4 _ _ _)))
 
 by_fault : (s : Session) (m : List ℕ) (b : Bool) → eqb (header_fault s m) 0 ≡ b → Right s → Right (header_record (header_reading s m) s)
-unfolding header_reading header_record ◌⇒◌∣◌
+unfolding header_reading ◌⇒◌∣◌
 by_fault s m true e r = rw e (right_record s m)
 by_fault s m false e r = rw e r
 
@@ -44,7 +44,7 @@ unfolding record_after
 glass_record s m l = glass_by _ _ _ _ (kept-glass s.glass l) (glass_by _ _ _ _ refl (glass_by _ _ _ _ refl refl))
 
 glass_fault : (s : Session) (m : List ℕ) (b : Bool) → eqb (header_fault s m) 0 ≡ b → s.glass ≤ 1 → (header_record (header_reading s m) s).glass ≡ s.glass
-unfolding header_reading header_record ◌⇒◌∣◌
+unfolding header_reading ◌⇒◌∣◌
 glass_fault s m true e l = rw e (glass_record s m l)
 glass_fault s m false e l = rw e refl
 

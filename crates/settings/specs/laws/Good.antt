@@ -1,18 +1,19 @@
 -- What a reader gives: settings with nothing to refuse, and one of few numbers.
 -- Assumes nothing.
-use Rattle.std.specs.Prelude.{ℕ, zero, suc, ◌*◌, ◌≤◌, ◌≡◌, refl, Bool, true, false, List, [], ◌∷◌, eqb, length, get_or, take, drop}
+use Rattle.std.specs.Prelude.{ℕ, zero, suc, ◌*◌, ◌≤◌, ◌≡◌, refl, Bool, true, false, Option, Some, None, List, [], ◌∷◌, eqb, length, get_or, take, drop}
 use Rattle.std.proofs.Common.{subst, arith, eq-eqb, ne_eqb, length-drop, length-take-le}
 use Rattle.std.proofs.Math.Decide.{ℕ_discrete}
 use Rattle.whole.specs.Row.{◌⇒◌∣◌}
 use Rattle.whole.specs.Among.{among, Among}
-use Rattle.whole.specs.laws.Among.{numbers, said, among_then}
+use Rattle.whole.specs.laws.Among.{numbers, said, among_then, each, among_most}
 use Rattle.whole.specs.laws.Row.{both, case_yes, case_no, case_not}
+use Rattle.wire.specs.Refusal.{refusal_of}
 use Rattle.bands.specs.Bands.{quant_of}
-use Rattle.settings.specs.Settings.{settings, Kept, Refused, start, body_of, settings_fault, settings_in, front_fault, bytes_fault, record_fault, after}
+use Rattle.settings.specs.Settings.{Reading, settings, why_of, Refused, store_number, given, start, body_of, settings_fault, settings_in, front_fault}
+use Rattle.settings.specs.Settings.{bytes_fault, record_fault, after, last_or}
 use Rattle.settings.specs.Settings.{ended, unless, walk, read_settings, GoodSettings}
-use Rattle.settings.specs.laws.Read.{body_in, body_1, body_2}
+use Rattle.settings.specs.laws.Read.{body_in, body_1, body_2, why_pos, number_of_why}
 use Rattle.settings.specs.declared.Settings.{Settings}
-use Rattle.settings.specs.declared.read.Reading.{Reading}
 use Rattle.settings.specs.declared.read.State.{State}
 
 -- ---- a record with nothing to refuse says good settings
@@ -43,8 +44,13 @@ tens kind body d h = by (ℕ_discrete kind 1)
         subst Tens (case_no (eqb kind 1) _ _ (settings (quant_of (take 5 body)) (quant_of (take 5 (drop 5 body))) (get_or body 10 0)) (ne_eqb kind 1 e) refl)
         (record { luma = ten body (omega arith); chroma = ten (drop 5 body) (omega (arith, length-drop 5 body)) })
 
+-- a setting that was said is good
+SaidOf : Option Settings → Type 0
+SaidOf (Some t) = GoodSettings t
+SaidOf None = Unit
+
 Said : State → Type 0
-Said s = s.any ≡ true → GoodSettings s.last
+Said s = SaidOf s.last
 
 good_in : (newest version kind : ℕ) (body : List ℕ) → (kind ≡ 0 → ⊥) → 0 ≡ record_fault newest version kind body → GoodSettings (settings_in kind body)
 unfolding record_fault bytes_fault
@@ -54,32 +60,31 @@ good_in newest version kind body d e =
     record { luma = t.luma; chroma = t.chroma; fine = case_not (eqb kind 0) _ _ _ (ne_eqb kind 0 d) p.1 }
 
 said_after : (newest kind : ℕ) (s : State) (body : List ℕ) → Said s → 0 ≡ record_fault newest s.version kind body → Said (after s kind body)
-unfolding after Said
+unfolding after Said SaidOf
 said_after newest kind s body h e = by (ℕ_discrete kind 0)
   where
     by : Dec (kind ≡ 0) → Said (after s kind body)
     by (yes z) = subst Said (case_yes (eqb kind 0) _ _ _ (eq-eqb kind 0 z) refl) h
-    by (no z) = subst Said (case_no (eqb kind 0) _ _ _ (ne_eqb kind 0 z) refl) (λ a. good_in newest s.version kind body z e)
+    by (no z) = subst Said (case_no (eqb kind 0) _ _ _ (ne_eqb kind 0 z) refl) (good_in newest s.version kind body z e)
 
 -- ---- the whole walk
 
-end_row : (a b : Bool) (t : Settings) → (b ≡ true → GoodSettings t) → (a ⇒ Refused 1 ∣ b ⇒ Kept t ∣ Refused 15).number ≡ 0 →
-    GoodSettings (a ⇒ Refused 1 ∣ b ⇒ Kept t ∣ Refused 15).settings
-unfolding ◌⇒◌∣◌
-end_row true b t h e = absurd (omega (arith, e))
-end_row false true t h e = h refl
-end_row false false t h e = absurd (omega (arith, e))
+end_row : (a : Bool) (t : Option Settings) → SaidOf t → store_number (a ⇒ Refused 1 ∣ last_or t) ≡ 0 → GoodSettings (given (a ⇒ Refused 1 ∣ last_or t))
+unfolding ◌⇒◌∣◌ last_or SaidOf
+end_row true t h e = absurd (why_pos (why_of 1) e)
+end_row false (Some t) h e = h
+end_row false None h e = absurd (why_pos (why_of 15) e)
 
-good_end : (s : State) → Said s → (ended s).number ≡ 0 → GoodSettings (ended s).settings
+good_end : (s : State) → Said s → store_number (ended s) ≡ 0 → GoodSettings (given (ended s))
 unfolding ended Said
-good_end s h e = end_row (eqb s.version 0) s.any s.last h e
+good_end s h e = end_row (eqb s.version 0) s.last h e
 
-good_unless : (n : ℕ) (r : Reading) → (0 ≡ n → r.number ≡ 0 → GoodSettings r.settings) → (unless n r).number ≡ 0 → GoodSettings (unless n r).settings
+good_unless : (n : ℕ) (r : Reading) → (0 ≡ n → store_number r ≡ 0 → GoodSettings (given r)) → store_number (unless n r) ≡ 0 → GoodSettings (given (unless n r))
 unfolding unless
 good_unless zero r h e = h refl e
-good_unless (suc n) r h e = absurd (omega (arith, e))
+good_unless (suc n) r h e = absurd (why_pos (why_of (suc n)) e)
 
-good_walk : (newest : ℕ) (s : State) (skip : ℕ) (bs : List ℕ) → Said s → (walk newest s skip bs).number ≡ 0 → GoodSettings (walk newest s skip bs).settings
+good_walk : (newest : ℕ) (s : State) (skip : ℕ) (bs : List ℕ) → Said s → store_number (walk newest s skip bs) ≡ 0 → GoodSettings (given (walk newest s skip bs))
 unfolding walk
 good_walk newest s skip [] h e = good_end s h e
 good_walk newest s zero (kind ∷ rest) h e =
@@ -87,9 +92,9 @@ good_walk newest s zero (kind ∷ rest) h e =
     (λ z. good_walk newest (after s kind rest) (body_of kind) rest (said_after newest kind s rest h z)) e
 good_walk newest s (suc skip) (b ∷ rest) h e = good_walk newest s skip rest h e
 
-pub given_good : (newest : ℕ) (m : List ℕ) → (read_settings newest m).number ≡ 0 → GoodSettings (read_settings newest m).settings
-unfolding read_settings Said
-given_good newest m e = good_walk newest start 0 m (λ a. absurd (let z : ◌≡◌ {A = ℕ} 0 1 = cc in omega arith)) e
+pub given_good : (newest : ℕ) (m : List ℕ) → store_number (read_settings newest m) ≡ 0 → GoodSettings (given (read_settings newest m))
+unfolding read_settings Said SaidOf
+given_good newest m e = good_walk newest start 0 m tt e
 
 -- ---- the numbers
 
@@ -104,25 +109,37 @@ bytes_among : (newest kind : ℕ) (body : List ℕ) → Among answers (bytes_fau
 unfolding bytes_fault settings_fault among
 bytes_among newest kind body = search numbers
 
-end_among : (a b : Bool) (t : Settings) → Among answers (a ⇒ Refused 1 ∣ b ⇒ Kept t ∣ Refused 15).number
-unfolding ◌⇒◌∣◌ among
-end_among true b t = said refl
-end_among false true t = said refl
-end_among false false t = said refl
+end_among : (a : Bool) (t : Option Settings) → Among answers (store_number (a ⇒ Refused 1 ∣ last_or t))
+unfolding ◌⇒◌∣◌ among last_or why_of refusal_of
+end_among true t = said refl
+end_among false (Some t) = said refl
+end_among false None = said refl
 
-unless_among : (n : ℕ) (r : Reading) → Among answers n → Among answers r.number → Among answers (unless n r).number
+-- the number of one of these answers is that of its refusal
+small : (n : ℕ) → Among answers n → n ≤ 15
+unfolding each
+small n a = among_most 15 a refl
+
+-- the fault of a record is one of them
+fault_among : (newest version kind : ℕ) (body : List ℕ) → Among answers (record_fault newest version kind body)
+unfolding record_fault
+fault_among newest version kind body = among_then _ _ (front_among version kind (length body)) (bytes_among newest kind body)
+
+pub fault_most : (newest version kind : ℕ) (body : List ℕ) → record_fault newest version kind body ≤ 15
+fault_most newest version kind body = small _ (fault_among newest version kind body)
+
+unless_among : (n : ℕ) (r : Reading) → Among answers n → Among answers (store_number r) → Among answers (store_number (unless n r))
 unfolding unless
 unless_among zero r p q = q
-unless_among (suc n) r p q = p
+unless_among (suc n) r p q = rw (number_of_why (suc n) (omega arith) (small (suc n) p)) p
 
-walk_among : (newest : ℕ) (s : State) (skip : ℕ) (bs : List ℕ) → Among answers (walk newest s skip bs).number
-unfolding walk ended record_fault
-walk_among newest s skip [] = end_among (eqb s.version 0) s.any s.last
+walk_among : (newest : ℕ) (s : State) (skip : ℕ) (bs : List ℕ) → Among answers (store_number (walk newest s skip bs))
+unfolding walk ended
+walk_among newest s skip [] = end_among (eqb s.version 0) s.last
 walk_among newest s zero (kind ∷ rest) =
-    unless_among _ _ (among_then _ _ (front_among s.version kind (length rest)) (bytes_among newest kind rest))
-    (walk_among newest (after s kind rest) (body_of kind) rest)
+    unless_among _ _ (fault_among newest s.version kind rest) (walk_among newest (after s kind rest) (body_of kind) rest)
 walk_among newest s (suc skip) (b ∷ rest) = walk_among newest s skip rest
 
-pub read_among : (newest : ℕ) (m : List ℕ) → Among answers (read_settings newest m).number
+pub read_among : (newest : ℕ) (m : List ℕ) → Among answers (store_number (read_settings newest m))
 unfolding read_settings
 read_among newest m = walk_among newest start 0 m

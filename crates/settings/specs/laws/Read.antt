@@ -1,17 +1,23 @@
 -- Laws of the reader's walk: a body passed, one record, and the loop over the records.
 -- Assumes nothing.
-use Rattle.std.specs.Prelude.{ℕ, zero, suc, ◌+◌, ◌-◌, ◌≤◌, ◌<◌, ◌≡◌, refl, Bool, true, false, List, [], ◌∷◌, eqb, length, get_or, take, drop}
+use Rattle.std.specs.Prelude.{ℕ, zero, suc, ◌+◌, ◌-◌, ◌≤◌, ◌<◌, ◌≡◌, refl, Bool, true, false, Some, Ok, Err, List, [], ◌∷◌, eqb, length, get_or, take, drop}
 use Rattle.std.proofs.Math.Path.{ap}
 use Rattle.std.proofs.Common.{sym, ◌∙◌, arith, add-one, add-zero, zero-add, leb-true, eq-eqb, ne_eqb, length-drop, drop-cons, drop-drop, get_or-drop}
 use Rattle.std.proofs.Math.Decide.{ℕ_discrete}
+use Rattle.whole.specs.Row.{◌⇒◌∣◌}
 use Rattle.whole.specs.laws.Row.{held, both, case_yes, case_no, passes, fails, rows}
 use Rattle.wire.specs.Le.{le16}
+use Rattle.wire.specs.Refusal.{refusal_of}
+use Rattle.wire.specs.laws.Refusal.{number_pos, number_back}
 use Rattle.bands.specs.Bands.{quant_of}
 use Rattle.quants.specs.laws.Quants.{drop_all}
-use Rattle.settings.specs.Settings.{settings, Refused, start, body_of, state, takes, settings_fault, front_fault, bytes_fault, record_fault, settings_in}
+use Rattle.settings.specs.Settings.{Reading, settings, no_settings, why_number, why_of, Kept, Refused, store_number, given, start, body_of, state, takes}
+use Rattle.settings.specs.Settings.{settings_fault, front_fault, bytes_fault, record_fault, settings_in}
 use Rattle.settings.specs.Settings.{after, ended, unless, walk, read_settings}
 use Rattle.settings.specs.declared.Settings.{Settings}
-use Rattle.settings.specs.declared.read.Reading.{Reading}
+use Rattle.settings.specs.declared.StoreRefusal.{StoreRefusal}
+use Rattle.settings.specs.declared.StoreRefusal.TheVariants.{Common, Version, Alone}
+use Rattle.wire.specs.declared.Refusal.TheVariants.{Cut, Buffer, Kind, Length, Field, TooBig, Quant, Place, Range, Overrun, Tail, Order, Room}
 use Rattle.settings.specs.declared.read.State.{State}
 
 -- ---- one record at a place of a message
@@ -89,14 +95,14 @@ module _ (m : List ℕ) (at kind : ℕ) where
   unfolding bytes_fault
   bytes_setting newest n s k e f = case_no (eqb kind 0) _ _ _ (ne_eqb kind 0 k) (f ∙ ap settings_fault e)
 
-  pub after_version : (s : State) (v : ℕ) → kind ≡ 0 → v ≡ le16 m at → state v s.any s.last ≡ after s kind (drop at m)
+  pub after_version : (s : State) (v : ℕ) → kind ≡ 0 → v ≡ le16 m at → state v s.last ≡ after s kind (drop at m)
   unfolding after
   after_version s v k e =
-      case_yes (eqb kind 0) _ _ _ (eq-eqb kind 0 k) (ap (λ (x : ℕ). state x s.any s.last) (e ∙ version_at m at))
+      case_yes (eqb kind 0) _ _ _ (eq-eqb kind 0 k) (ap (λ (x : ℕ). state x s.last) (e ∙ version_at m at))
 
-  pub after_setting : (s : State) (t : Settings) → (kind ≡ 0 → ⊥) → t ≡ settings_in kind (drop at m) → state s.version true t ≡ after s kind (drop at m)
+  pub after_setting : (s : State) (t : Settings) → (kind ≡ 0 → ⊥) → t ≡ settings_in kind (drop at m) → state s.version (Some t) ≡ after s kind (drop at m)
   unfolding after
-  after_setting s t k e = case_no (eqb kind 0) _ _ _ (ne_eqb kind 0 k) (ap (state s.version true) e)
+  after_setting s t k e = case_no (eqb kind 0) _ _ _ (ne_eqb kind 0 k) (ap (λ (x : Settings). state s.version (Some x)) e)
 
 -- ---- the walk
 
@@ -131,16 +137,68 @@ unfolding unless
 goes_on zero r e = refl
 goes_on (suc n) r e = absurd (omega arith)
 
+-- ---- a refusal and its number
+
+pub why_back : (why : StoreRefusal) → why_of (why_number why) ≡ why
+unfolding why_of refusal_of ◌⇒◌∣◌
+why_back (Common Cut) = refl
+why_back (Common Buffer) = refl
+why_back (Common Kind) = refl
+why_back (Common Length) = refl
+why_back (Common Field) = refl
+why_back (Common TooBig) = refl
+why_back (Common Quant) = refl
+why_back (Common Place) = refl
+why_back (Common Range) = refl
+why_back (Common Overrun) = refl
+why_back (Common Tail) = refl
+why_back (Common Order) = refl
+why_back (Common Room) = refl
+why_back Version = refl
+why_back Alone = refl
+
+pub why_pos : (why : StoreRefusal) → why_number why ≡ 0 → ⊥
+why_pos (Common refusal) e = number_pos refusal e
+why_pos Version e = absurd (omega (arith, e))
+why_pos Alone e = absurd (omega (arith, e))
+
+-- an answer by its number, and by its settings where that is 0
+abbrev pub told : ℕ → Settings → Reading
+told zero s = Kept s
+told (suc n) s = Refused (suc n)
+
+pub reading_told : (r : Reading) → told (store_number r) (given r) ≡ r
+reading_told (Ok s) = refl
+reading_told (Err why) = by (why_number why) refl
+  where
+    by : (n : ℕ) → n ≡ why_number why → told n no_settings ≡ Err why
+    by zero e = absurd (why_pos why (sym e))
+    by (suc n) e = ap Err (ap why_of e ∙ why_back why)
+
+-- the numbers up to 15 are those of refusals
+pub number_of_why : (n : ℕ) → 0 < n → n ≤ 15 → why_number (why_of n) ≡ n
+unfolding why_of ◌⇒◌∣◌
+number_of_why n l u = by (ℕ_discrete n 14) (ℕ_discrete n 15)
+  where
+    by : Dec (n ≡ 14) → Dec (n ≡ 15) → why_number (eqb n 14 ⇒ Version ∣ eqb n 15 ⇒ Alone ∣ Common (refusal_of n)) ≡ n
+    by (yes a) b = rw (eq-eqb n 14 a) (sym a)
+    by (no a) (yes b) = rw (ne_eqb n 14 a, eq-eqb n 15 b) (sym b)
+    by (no a) (no b) = rw (ne_eqb n 14 a, ne_eqb n 15 b) (number_back n l (omega arith))
+
 -- ---- the loop: what the reader answers is the walk from the place where it stands
 
 module _ (newest : ℕ) (m : List ℕ) (s : State) (at kind : ℕ) where
-  pub turn_refuses : (n : ℕ) → read_settings newest m ≡ walk newest s 0 (drop at m) → at < length m → kind ≡ get_or m at 0 →
+  turn_at : (n : ℕ) → read_settings newest m ≡ walk newest s 0 (drop at m) → at < length m → kind ≡ get_or m at 0 →
       n ≡ record_fault newest s.version kind (drop (at + 1) m) → (n ≡ 0 → ⊥) → Refused n ≡ read_settings newest m
-  turn_refuses n i h k e d =
+  turn_at n i h k e d =
       let faults : record_fault newest s.version (get_or m at 0) (drop (at + 1) m) ≡ n =
       ap (λ (x : ℕ). record_fault newest s.version x (drop (at + 1) m)) (sym k) ∙ sym e in
       let on = walk newest (after s (get_or m at 0) (drop (at + 1) m)) 0 (drop (at + 1 + body_of (get_or m at 0)) m) in
       refuses n on d ∙ sym (i ∙ (walk_at newest s m at h ∙ ap (λ (f : ℕ). unless f on) faults))
+
+  pub turn_refuses : (why : StoreRefusal) → read_settings newest m ≡ walk newest s 0 (drop at m) → at < length m → kind ≡ get_or m at 0 →
+      why_number why ≡ record_fault newest s.version kind (drop (at + 1) m) → Err why ≡ read_settings newest m
+  turn_refuses why i h k e = ap Err (sym (why_back why)) ∙ turn_at (why_number why) i h k e (why_pos why)
 
   pub turn_goes_on : (t : State) (end : ℕ) → read_settings newest m ≡ walk newest s 0 (drop at m) → at < length m → kind ≡ get_or m at 0 →
       0 ≡ record_fault newest s.version kind (drop (at + 1) m) → t ≡ after s kind (drop (at + 1) m) → end ≡ at + 1 + body_of kind →
@@ -150,9 +208,9 @@ module _ (newest : ℕ) (m : List ℕ) (s : State) (at kind : ℕ) where
       e ∙ ap (λ (x : ℕ). record_fault newest s.version x (drop (at + 1) m)) k in
       i ∙ (walk_at newest s m at h ∙ (goes_on _ _ none ∙ sym (rw (f, g, k))))
 
-pub turn_starts : (newest : ℕ) (m : List ℕ) (s : State) → s ≡ start → read_settings newest m ≡ walk newest s 0 (drop 0 m)
+pub turn_starts : (newest : ℕ) (m : List ℕ) → read_settings newest m ≡ walk newest start 0 (drop 0 m)
 unfolding read_settings
-turn_starts newest m s e = rw e
+turn_starts newest m = refl
 
 pub turn_ends : (newest : ℕ) (m : List ℕ) (s : State) (at : ℕ) → read_settings newest m ≡ walk newest s 0 (drop at m) → length m ≤ at →
     ended s ≡ read_settings newest m

@@ -1,18 +1,19 @@
 -- All that specs/Request states is so.
 -- Assumes nothing.
-use Rattle.std.specs.Prelude.{ℕ, ◌<◌, ◌≡◌, refl, Bool, true, false, List, [], ◌∷◌, ◌++◌, eqb, leb, length}
+use Rattle.std.specs.Prelude.{ℕ, suc, ◌<◌, ◌≡◌, refl, Bool, true, false, List, [], ◌∷◌, ◌++◌, eqb, leb, length}
 use Rattle.std.proofs.Common.{ap, sym, ◌∙◌, inl, append-nil, arith}
 use Rattle.whole.specs.Row.{◌⇒◌∣◌}
 use Rattle.whole.specs.laws.Row.{both, case_yes, case_no}
-use Rattle.wire.specs.Wrote.{writing_number}
+use Rattle.wire.specs.Refusal.{number_of}
 use Rattle.wire.specs.laws.Wrote.{wrote_once, wrote_bytes}
 use Rattle.bands.specs.declared.Quant.{Quant}
 use Rattle.quants.specs.Quants.{same}
 use Rattle.quants.specs.laws.Quants.{same_is}
-use Rattle.settings.specs.Settings.{settings, Kept, Refused, known, takes, ended, walk, read_settings, version_record, one_record, two_record, settings_of}
-use Rattle.settings.specs.Settings.{write_fault, GoodSettings}
-use Rattle.settings.specs.Request.{one, two, records_of, store_of, WriteSettings, written_by, RequestFive}
-use Rattle.settings.specs.laws.Good.{given_good, read_among}
+use Rattle.settings.specs.Settings.{settings, Kept, Refused, store_number, known, takes, record_fault, ended, walk, read_settings, version_record, one_record}
+use Rattle.settings.specs.Settings.{two_record, settings_of, write_fault, GoodSettings}
+use Rattle.settings.specs.Request.{Setting, one, two, records_of, store_of, AllGood, WriteSettings, written_by, RequestFive}
+use Rattle.settings.specs.laws.Good.{given_good, fault_most, read_among}
+use Rattle.settings.specs.laws.Read.{number_of_why}
 use Rattle.settings.specs.laws.Store.{kind_fault, place_fault, presence_fault, placed_behind, version_again, taken_small, version_refused, not_taken}
 use Rattle.settings.specs.laws.Store.{version_cut, missing, unknown, last_kept, alone, fault_said, set_refused, mode_refused}
 use Rattle.settings.specs.laws.Store.{one_refused, two_refused, foreign}
@@ -88,11 +89,11 @@ old s g = by_sets (same s.quants) (λ e. case_yes _ _ _ _ e (equal_back 1 s take
     (λ e. case_no _ _ _ _ e (ap (read_settings 1) (else_store s e) ∙ guessing _))
 
 -- a call that is done has written them, and had nothing to refuse
-call_good : (c : WriteSettings) → writing_number c.answer ≡ 0 → GoodSettings c.settings
+call_good : (c : WriteSettings) → number_of c.answer ≡ 0 → GoodSettings c.settings
 unfolding write_fault
 call_good c e = record { luma = c.luma; chroma = c.chroma; fine = (both _ _ (sym e ∙ c.promise.number)).0 }
 
-call_wrote : (c : WriteSettings) → writing_number c.answer ≡ 0 → written_by c ≡ settings_of c.settings
+call_wrote : (c : WriteSettings) → number_of c.answer ≡ 0 → written_by c ≡ settings_of c.settings
 call_wrote c e = wrote_bytes _ (settings_of c.settings) c.out c.out' c.answer c.promise e
 
 some_bytes : (s : Settings) → 0 < length (settings_of s)
@@ -102,6 +103,12 @@ some_bytes s = by_sets (same s.quants) (λ e. rw (of_one s e) (omega arith)) (λ
 empty_read : (newest : ℕ) → read_settings newest [] ≡ Refused 1
 unfolding read_settings walk ended ◌⇒◌∣◌
 empty_read newest = refl
+
+-- the first fault by its number, which is 15 at most
+fault_number : (newest v kind n : ℕ) (rs : List Setting) (rest : List ℕ) → takes newest v ≡ true → AllGood v rs → record_fault newest v kind rest ≡ suc n →
+    store_number (read_settings newest (store_of v rs ++ (kind ∷ rest))) ≡ suc n
+fault_number newest v kind n rs rest t g e =
+    ap store_number (fault_said newest v kind n rs rest t g e) ∙ number_of_why (suc n) (omega arith) (omega (arith, e, fault_most newest v kind rest))
 
 pub request_five : RequestFive
 request_five = record {
@@ -116,6 +123,7 @@ request_five = record {
   unknown_first = unknown;
   last_counts = last_kept;
   first-fault = fault_said;
+  first_number = fault_number;
   unknown_kind = λ newest v kind rs rest t g k. fault_said newest v kind 2 rs rest t g (sym (kind_fault newest v kind rest (foreign v kind k)));
   second_version = λ newest v rs rest t g.
       fault_said newest v 0 11 rs rest t g (sym (place_fault newest v 0 rest (always v) (version_again v (taken_small newest v t).0)));

@@ -1,6 +1,6 @@
 -- A store of whole records walked: its version, good records behind it, and what a reader answers at their end or at a fault.
 -- Assumes nothing.
-use Rattle.std.specs.Prelude.{ℕ, suc, ◌≤◌, ◌<◌, ◌≡◌, Bool, ◌⊎◌, List, [], ◌∷◌, ◌++◌, eqb, leb, length, get_or}
+use Rattle.std.specs.Prelude.{ℕ, suc, ◌≤◌, ◌<◌, ◌≡◌, Bool, Option, Some, None, ◌⊎◌, List, [], ◌∷◌, ◌++◌, eqb, leb, length, get_or}
 use Rattle.std.proofs.Math.Path.{refl}
 use Rattle.std.proofs.Common.{ap, ap₂, sym, ◌∙◌, inl, inr, ⊎_elim, append_assoc, append-nil, arith, eq-eqb, ne_eqb, le-leb, eqb-true, length-append, take_at}
 use Rattle.std.proofs.Common.{drop_at}
@@ -15,8 +15,8 @@ use Rattle.bands.specs.Bands.{quant_of, is_good}
 use Rattle.bands.specs.laws.Band.{good_set}
 use Rattle.quants.specs.Quants.{quant_bytes}
 use Rattle.quants.specs.laws.Quants.{set_five, quant_back}
-use Rattle.settings.specs.Settings.{settings, no_settings, Kept, Refused, state, start, body_of, known, placed, takes, settings_fault, settings_in}
-use Rattle.settings.specs.Settings.{front_fault, bytes_fault, record_fault, after, ended, unless, walk, read_settings, version_record, one_record}
+use Rattle.settings.specs.Settings.{settings, Kept, Refused, state, start, body_of, known, placed, takes, settings_fault, settings_in}
+use Rattle.settings.specs.Settings.{front_fault, bytes_fault, record_fault, after, last_or, ended, unless, walk, read_settings, version_record, one_record}
 use Rattle.settings.specs.Settings.{two_record, GoodSettings}
 use Rattle.settings.specs.laws.Read as R
 use Rattle.settings.specs.laws.Write.{fine, one_body, two_body}
@@ -95,12 +95,12 @@ taken_is newest v t = ⊎_elim (λ e. inl (eqb-true v 1 e)) (λ e. inr (eqb-true
 pub taken_small : (newest v : ℕ) → takes newest v ≡ true → (1 ≤ v) × (v < 65536)
 taken_small newest v t = ⊎_elim (λ e. omega arith) (λ e. omega arith) (taken_is newest v t)
 
-version_after : (v : ℕ) (rest : List ℕ) → v < 65536 → after start 0 (bytes16 v ++ rest) ≡ state v false no_settings
+version_after : (v : ℕ) (rest : List ℕ) → v < 65536 → after start 0 (bytes16 v ++ rest) ≡ state v None
 unfolding after
-version_after v rest h = sym (case_yes (eqb 0 0) _ _ _ refl (ap (λ (x : ℕ). state x false no_settings) (sym (version_read v rest h))))
+version_after v rest h = sym (case_yes (eqb 0 0) _ _ _ refl (ap (λ (x : ℕ). state x None) (sym (version_read v rest h))))
 
 pub version_walked : (newest v : ℕ) (rest : List ℕ) → takes newest v ≡ true →
-    read_settings newest (version_record v ++ rest) ≡ walk newest (state v false no_settings) 0 rest
+    read_settings newest (version_record v ++ rest) ≡ walk newest (state v None) 0 rest
 unfolding read_settings version_record walk bytes16 body_of ◌⇒◌∣◌
 version_walked newest v rest t =
     let h = (taken_small newest v t).1 in
@@ -143,25 +143,25 @@ none_of newest v kind body hv k hk l f =
     (sym (passes _ _ _ _ k (passes _ _ _ _ (placed_behind v kind hv hk) (passes _ _ _ _ (le-leb (body_of kind) (length body) l) refl))))
     (case_no (eqb kind 0) _ _ _ (ne_eqb kind 0 (λ e. omega arith)) f)
 
-counts : (s : State) (kind : ℕ) (body : List ℕ) → 1 ≤ kind → after s kind body ≡ state s.version true (settings_in kind body)
+counts : (s : State) (kind : ℕ) (body : List ℕ) → 1 ≤ kind → after s kind body ≡ state s.version (Some (settings_in kind body))
 unfolding after
 counts s kind body h = sym (case_no (eqb kind 0) _ _ _ (ne_eqb kind 0 (λ e. omega arith)) refl)
 
 -- behind a version, a record with its whole body and nothing to refuse is passed, and counts
 good_step :
-    (newest v kind : ℕ) (any : Bool) (last t : Settings) (body rest : List ℕ)
+    (newest v kind : ℕ) (last : Option Settings) (t : Settings) (body rest : List ℕ)
     → 1 ≤ v
     → known v kind ≡ true
     → 1 ≤ kind
     → length body ≡ body_of kind
     → settings_in kind (body ++ rest) ≡ t
     → 0 ≡ settings_fault t
-    → walk newest (state v any last) 0 (kind ∷ (body ++ rest)) ≡ walk newest (state v true t) 0 rest
+    → walk newest (state v last) 0 (kind ∷ (body ++ rest)) ≡ walk newest (state v (Some t)) 0 rest
 unfolding walk
-good_step newest v kind any last t body rest hv k hk l e f =
+good_step newest v kind last t body rest hv k hk l e f =
     R.goes_on _ _ (none_of newest v kind (body ++ rest) hv k hk (omega (arith, length-append body rest)) (f ∙ ap settings_fault (sym e)))
-    ∙ (R.walk_skip newest (after (state v any last) kind (body ++ rest)) (body_of kind) (body ++ rest)
-    ∙ ap₂ (λ (s : State) (bs : List ℕ). walk newest s 0 bs) (counts (state v any last) kind (body ++ rest) hk ∙ ap (state v true) e)
+    ∙ (R.walk_skip newest (after (state v last) kind (body ++ rest)) (body_of kind) (body ++ rest)
+    ∙ ap₂ (λ (s : State) (bs : List ℕ). walk newest s 0 bs) (counts (state v last) kind (body ++ rest) hk ∙ ap (λ (t : Settings). state v (Some t)) e)
     (drop_at body rest (body_of kind) l))
 
 -- its fields, as they stand
@@ -198,68 +198,68 @@ two_read luma chroma rest mode g =
     ∙ ap₂ (λ (v u : List ℕ). settings v u mode) (quant_back luma g.luma (good_set luma f.luma))
     (quant_back chroma g.chroma (good_set chroma f.chroma)))
 
-record_walked : (newest v : ℕ) (any : Bool) (last : Settings) (r : Setting) (rest : List ℕ) → 1 ≤ v → known v (kind_of r) ≡ true → GoodSettings (said_by r) →
-    walk newest (state v any last) 0 (record_of r ++ rest) ≡ walk newest (state v true (said_by r)) 0 rest
+record_walked : (newest v : ℕ) (last : Option Settings) (r : Setting) (rest : List ℕ) → 1 ≤ v → known v (kind_of r) ≡ true → GoodSettings (said_by r) →
+    walk newest (state v last) 0 (record_of r ++ rest) ≡ walk newest (state v (Some (said_by r))) 0 rest
 unfolding one_record two_record
-record_walked newest v any last (one q mode) rest h k g =
-    good_step newest v 1 any last (settings q q mode) (quant_bytes q ++ (mode ∷ [])) rest h k (omega arith)
+record_walked newest v last (one q mode) rest h k g =
+    good_step newest v 1 last (settings q q mode) (quant_bytes q ++ (mode ∷ [])) rest h k (omega arith)
     (one_body q mode g.luma ∙ R.body_1 1 refl) (one_read q rest mode g) g.fine
-record_walked newest v any last (two luma chroma mode) rest h k g =
-    good_step newest v 2 any last (settings luma chroma mode) (quant_bytes luma ++ (quant_bytes chroma ++ (mode ∷ []))) rest h k (omega arith)
+record_walked newest v last (two luma chroma mode) rest h k g =
+    good_step newest v 2 last (settings luma chroma mode) (quant_bytes luma ++ (quant_bytes chroma ++ (mode ∷ []))) rest h k (omega arith)
     (two_body luma chroma mode g.luma g.chroma ∙ R.body_2 2 (λ e. omega arith) (λ e. omega arith))
     (two_read luma chroma rest mode g) g.fine
 
 -- ---- all of them
 
 -- what good records make of what was said
-abbrev pub after_all : ℕ → Bool → Settings → List Setting → State
-after_all v any last [] = state v any last
-after_all v any last (r ∷ rs) = after_all v true (said_by r) rs
+abbrev pub after_all : ℕ → Option Settings → List Setting → State
+after_all v last [] = state v last
+after_all v last (r ∷ rs) = after_all v (Some (said_by r)) rs
 
-all_walked : (newest v : ℕ) (any : Bool) (last : Settings) (rs : List Setting) (rest : List ℕ) → 1 ≤ v → AllGood v rs →
-    walk newest (state v any last) 0 (records_of rs ++ rest) ≡ walk newest (after_all v any last rs) 0 rest
+all_walked : (newest v : ℕ) (last : Option Settings) (rs : List Setting) (rest : List ℕ) → 1 ≤ v → AllGood v rs →
+    walk newest (state v last) 0 (records_of rs ++ rest) ≡ walk newest (after_all v last rs) 0 rest
 unfolding records_of
-all_walked newest v any last [] rest h g = refl
-all_walked newest v any last (r ∷ rs) rest h g =
-    ap (walk newest (state v any last) 0) (append_assoc (record_of r) (records_of rs) rest)
-    ∙ (record_walked newest v any last r (records_of rs ++ rest) h g.0 g.1.0 ∙ all_walked newest v true (said_by r) rs rest h g.1.1)
+all_walked newest v last [] rest h g = refl
+all_walked newest v last (r ∷ rs) rest h g =
+    ap (walk newest (state v last) 0) (append_assoc (record_of r) (records_of rs) rest)
+    ∙ (record_walked newest v last r (records_of rs ++ rest) h g.0 g.1.0 ∙ all_walked newest v (Some (said_by r)) rs rest h g.1.1)
 
 pub store_walked : (newest v : ℕ) (rs : List Setting) (rest : List ℕ) → takes newest v ≡ true → AllGood v rs →
-    read_settings newest (store_of v rs ++ rest) ≡ walk newest (after_all v false no_settings rs) 0 rest
+    read_settings newest (store_of v rs ++ rest) ≡ walk newest (after_all v None rs) 0 rest
 store_walked newest v rs rest t g =
     ap (read_settings newest) (append_assoc (version_record v) (records_of rs) rest)
-    ∙ (version_walked newest v (records_of rs ++ rest) t ∙ all_walked newest v false no_settings rs rest (taken_small newest v t).0 g)
+    ∙ (version_walked newest v (records_of rs ++ rest) t ∙ all_walked newest v None rs rest (taken_small newest v t).0 g)
 
-last_said : (v : ℕ) (any : Bool) (last : Settings) (r : Setting) (rs : List Setting) → after_all v any last (r ∷ rs) ≡ state v true (said_by (last_of r rs))
-last_said v any last r [] = refl
-last_said v any last r (q ∷ rs) = last_said v true (said_by r) q rs
+last_said : (v : ℕ) (last : Option Settings) (r : Setting) (rs : List Setting) → after_all v last (r ∷ rs) ≡ state v (Some (said_by (last_of r rs)))
+last_said v last r [] = refl
+last_said v last r (q ∷ rs) = last_said v (Some (said_by r)) q rs
 
-version_stays : (v : ℕ) (any : Bool) (last : Settings) (rs : List Setting) → (after_all v any last rs).version ≡ v
-version_stays v any last [] = refl
-version_stays v any last (r ∷ rs) = version_stays v true (said_by r) rs
+version_stays : (v : ℕ) (last : Option Settings) (rs : List Setting) → (after_all v last rs).version ≡ v
+version_stays v last [] = refl
+version_stays v last (r ∷ rs) = version_stays v (Some (said_by r)) rs
 
 pub last_kept : (newest v : ℕ) (r : Setting) (rs : List Setting) → takes newest v ≡ true → AllGood v (r ∷ rs) →
     read_settings newest (store_of v (r ∷ rs)) ≡ Kept (said_by (last_of r rs))
-unfolding walk ended
+unfolding walk ended last_or
 last_kept newest v r rs t g =
     ap (read_settings newest) (sym (append-nil (store_of v (r ∷ rs))))
     ∙ (store_walked newest v (r ∷ rs) [] t g
-    ∙ (ap (λ (s : State). walk newest s 0 []) (last_said v false no_settings r rs)
-    ∙ sym (case_no (eqb v 0) _ _ _ (ne_eqb v 0 (λ e. omega (arith, (taken_small newest v t).0))) (case_yes true _ _ _ refl refl))))
+    ∙ (ap (λ (s : State). walk newest s 0 []) (last_said v None r rs)
+    ∙ sym (case_no (eqb v 0) _ _ _ (ne_eqb v 0 (λ e. omega (arith, (taken_small newest v t).0))) refl)))
 
 pub alone : (newest v : ℕ) → takes newest v ≡ true → read_settings newest (version_record v) ≡ Refused 15
-unfolding walk ended
+unfolding walk ended last_or
 alone newest v t =
     ap (read_settings newest) (sym (append-nil (version_record v)))
     ∙ (version_walked newest v [] t
-    ∙ sym (case_no (eqb v 0) _ _ _ (ne_eqb v 0 (λ e. omega (arith, (taken_small newest v t).0))) (case_no false _ _ _ refl refl)))
+    ∙ sym (case_no (eqb v 0) _ _ _ (ne_eqb v 0 (λ e. omega (arith, (taken_small newest v t).0))) refl))
 
 -- the first fault behind them
 pub fault_said : (newest v kind n : ℕ) (rs : List Setting) (rest : List ℕ) → takes newest v ≡ true → AllGood v rs → record_fault newest v kind rest ≡ suc n →
     read_settings newest (store_of v rs ++ (kind ∷ rest)) ≡ Refused (suc n)
 unfolding walk unless
 fault_said newest v kind n rs rest t g e =
-    store_walked newest v rs (kind ∷ rest) t g ∙ rw (version_stays v false no_settings rs, e)
+    store_walked newest v rs (kind ∷ rest) t g ∙ rw (version_stays v None rs, e)
 
 -- ---- bytes that are refused as they stand, behind a version
 

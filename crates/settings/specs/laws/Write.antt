@@ -1,6 +1,6 @@
 -- Laws of the writer: what holds where it refuses nothing, its bytes as they are put, and their number.
 -- Assumes nothing.
-use Rattle.std.specs.Prelude.{ℕ, ◌≤◌, ◌≡◌, refl, true, false, List, [], ◌∷◌, ◌++◌, length}
+use Rattle.std.specs.Prelude.{ℕ, ◌≤◌, ◌≡◌, refl, true, false, Ok, List, [], ◌∷◌, ◌++◌, length}
 use Rattle.std.proofs.Common.{ap, sym, ◌∙◌, append_assoc, arith, leb-true, length-append}
 use Rattle.whole.specs.laws.Row.{held, both, case_yes, case_no}
 use Rattle.wire.specs.Le.{bytes16, patch, written}
@@ -8,7 +8,6 @@ use Rattle.wire.specs.laws.Le.{patch_next, patch_front}
 use Rattle.wire.specs.Mode.{is_mode}
 use Rattle.wire.specs.Wrote.{Wrote}
 use Rattle.wire.specs.laws.Wrote.{done}
-use Rattle.wire.specs.declared.Writing.TheVariants.{Done}
 use Rattle.bands.specs.Bands.{is_good, QuantGood}
 use Rattle.bands.specs.laws.Band.{good_set}
 use Rattle.quants.specs.Quants.{quant_bytes, same}
@@ -112,14 +111,14 @@ two_put o w x y z luma chroma mode l k p e f r =
 
 module _ (s : Settings) (out out' : List ℕ) (fault : 0 ≡ write_fault s (length out)) (l : length s.quants.luma.v ≡ 10) where
   pub wrote_one : same s.quants ≡ true → out' ≡ written (version_record 1 ++ one_record s.quants.luma.v s.mode) out →
-      Wrote (write_fault s (length out)) (settings_of s) out out' (Done 10)
+      Wrote (write_fault s (length out)) (settings_of s) out out' (Ok 10)
   wrote_one e w =
       done _ 10 (settings_of s) out out' fault (one_long s.quants.luma.v s.mode l ∙ ap length (sym (of_one s e)))
       (w ∙ ap (λ (bytes : List ℕ). written bytes out) (sym (of_one s e)))
 
   pub wrote_two : same s.quants ≡ false → length s.quants.chroma.v ≡ 10 →
       out' ≡ written (version_record 2 ++ two_record s.quants.luma.v s.quants.chroma.v s.mode) out →
-      Wrote (write_fault s (length out)) (settings_of s) out out' (Done 15)
+      Wrote (write_fault s (length out)) (settings_of s) out out' (Ok 15)
   wrote_two e k w =
       done _ 15 (settings_of s) out out' fault (two_long s.quants.luma.v s.quants.chroma.v s.mode l k ∙ ap length (sym (of_two s e)))
       (w ∙ ap (λ (bytes : List ℕ). written bytes out) (sym (of_two s e)))

@@ -1,14 +1,17 @@
 -- All tiles listed: the check takes the list, and the short frame's writer keeps the full frame's promise.
 -- Assumes nothing.
-use Rattle.std.specs.Prelude.{ℕ, zero, suc, ◌+◌, ◌*◌, ◌<◌, ◌≡◌, refl, true, List, [], ℤ, length, get_or}
+use Rattle.std.specs.Prelude.{ℕ, zero, suc, ◌+◌, ◌*◌, ◌<◌, ◌≡◌, refl, true, List, [], ℤ, length, get_or, Result}
+use Rattle.wire.specs.declared.Refusal.{Refusal}
+use Rattle.short_write.specs.Answer.{handed, WroteShort}
+use Rattle.short_write.specs.laws.Answer.{wrote_common}
+use Rattle.frame_write.specs.laws.Numbers.{fault_few}
+use Rattle.plan.specs.declared.check.PlanRefusal.{PlanRefusal}
 use Rattle.std.proofs.Common.{ap, sym, ◌∙◌, subst, arith}
 use Rattle.std.proofs.Math.Path.{ap₂}
 use Rattle.std.proofs.Math.Nat.{zero-add}
 use Rattle.whole.specs.Row.{◌!◌⨾◌, ◌⨟◌}
 use Rattle.whole.specs.laws.Row.{held, passes, goes_on}
 use Rattle.wire.specs.Mode.{is_mode}
-use Rattle.wire.specs.Wrote.{Wrote}
-use Rattle.wire.specs.declared.Writing.{Writing}
 use Rattle.session.specs.Header.{size_good}
 use Rattle.quants.specs.Quants.{sets_of, chroma_index}
 use Rattle.quants.specs.declared.Quants.{Quants}
@@ -69,7 +72,7 @@ own_same w h mode q pixels list scratch = by (arg_fault_over w h mode q pixels l
 
 -- ---- the promise
 
-module _ (w h mode : ℕ) (q : Quants) (index : ℕ) (old new : List ℕ) (list list' scratch scratch' : List ℤ) (out out' : List ℕ) (r : Writing)
+module _ (w h mode : ℕ) (q : Quants) (index : ℕ) (old new : List ℕ) (list list' scratch scratch' : List ℤ) (out out' : List ℕ) (r : Result ℕ PlanRefusal)
     (same : length old ≡ length new) where
   own_is : own_fault w h mode q (length old) (length new) (length list) (length scratch) ≡ arg_fault_over w h mode q (length new) (length list) (length scratch)
   own_is =
@@ -86,14 +89,22 @@ module _ (w h mode : ℕ) (q : Quants) (index : ℕ) (old new : List ℕ) (list 
   faults_are = ap₂ ◌⨟◌ own_is later_is
 
   pub as_full : ShortWritten w h mode q index old new (all_tiles w h) list list' scratch scratch' out out' r →
-      FrameWrittenOver w h mode q index new list list' scratch scratch' out out' r
-  as_full x = record {
-    wrote = subst (λ (f : ℕ). Wrote f (frame_over index w h mode q new) out out' r) faults_are
-        (subst (λ (bytes : List ℕ). Wrote (short_fault w h mode q index old new (all_tiles w h) (length list) (length scratch) (length out)) bytes out out' r)
-        (all_frame new w h mode q index) x.wrote);
-    first = x.first ∙ ap (λ (f : ℕ). work_left f list) own_is;
-    second = x.second ∙ ap (λ (f : ℕ). work_left f scratch) own_is;
-  }
+      (answer : Result ℕ Refusal) × (r ≡ handed answer) × FrameWrittenOver w h mode q index new list list' scratch scratch' out out' answer
+  as_full x =
+      let s =
+      subst (λ (f : ℕ). WroteShort f (frame_over index w h mode q new) out out' r) faults_are
+      (subst
+      (λ (bytes : List ℕ). WroteShort (short_fault w h mode q index old new (all_tiles w h) (length list) (length scratch) (length out)) bytes out out' r)
+      (all_frame new w h mode q index) x.wrote) in
+      let k = wrote_common _ _ _ _ _ (fault_few w h mode q index new (length list) (length scratch) (length out)) s in (
+        k.0,
+        k.1,
+        record {
+          wrote = k.2;
+          first = x.first ∙ ap (λ (f : ℕ). work_left f list) own_is;
+          second = x.second ∙ ap (λ (f : ℕ). work_left f scratch) own_is;
+        },
+      )
 
 -- ---- no tile listed
 

@@ -1,10 +1,10 @@
 -- The short frame and a full frame of the new picture leave the same picture: in the channel both show the new one, and past it both keep what was there.
 -- Assumes nothing.
-use Rattle.std.specs.Prelude.{ℕ, zero, suc, ◌*◌, ◌/◌, ◌%◌, ◌≤◌, ◌<◌, ◌≡◌, refl, Bool, true, false, List, ltb, length, get_or}
+use Rattle.std.specs.Prelude.{ℕ, zero, suc, ◌*◌, ◌/◌, ◌%◌, ◌≤◌, ◌<◌, ◌≡◌, refl, Bool, true, false, List, ltb, length, get_or, Result}
+use Rattle.wire.specs.declared.Refusal.{Refusal}
+use Rattle.plan.specs.Answer.{plan_number}
 use Rattle.std.proofs.Common.{sym, ◌∙◌, subst, arith, div-add-mod', div-lt_iff_lt-mul, mod-lt, ltb-true, ltb-false, ext_get_or}
-use Rattle.wire.specs.Wrote.{writing_number}
 use Rattle.quants.specs.declared.Quants.{Quants}
-use Rattle.frame.specs.declared.call.FrameReading.{FrameReading}
 use Rattle.frame_readback.specs.Own.{ShownOver}
 use Rattle.frame_readback.specs.Request.{WriteFrameSets}
 use Rattle.frame_readback.specs.laws.OurFrames.{own_frame_over}
@@ -16,7 +16,7 @@ some_width i h zero l = absurd (omega arith)
 some_width i h (suc w) l = omega arith
 
 -- two pictures that show the same, and keep the same past the channel
-module _ (glass : ℕ) (p : List ℕ) (w h : ℕ) (q : Quants) (n : ℕ) (pic a b : List ℕ) (r s : FrameReading)
+module _ (glass : ℕ) (p : List ℕ) (w h : ℕ) (q : Quants) (n : ℕ) (pic a b : List ℕ) (r s : Result ℕ Refusal)
     (x : ShownOver glass p w h q pic a r) (y : ShortShown glass p w h q n pic b s) where
   in_channel : (i : ℕ) → i < h * w → get_or a i 0 ≡ get_or b i 0
   in_channel i l =
@@ -37,7 +37,7 @@ module _ (glass : ℕ) (p : List ℕ) (w h : ℕ) (q : Quants) (n : ℕ) (pic a 
 module _ (glass : ℕ) (either : glass ≤ 1) (c : WriteShort) where
   -- what a full frame leaves
   full_shown :
-      (f : WriteFrameSets) (pixels : List ℕ) → FullFrame c pixels f → (pic pic' : List ℕ) (r : FrameReading) →
+      (f : WriteFrameSets) (pixels : List ℕ) → FullFrame c pixels f → (pic pic' : List ℕ) (r : Result ℕ Refusal) →
       ReadOn glass c.width c.height c.mode (sent_full f) pic pic' r → ShownOver glass pixels c.width c.height c.quants pic pic' r
   full_shown f pixels o pic pic' r d =
       let e : ReadOn glass f.width f.height f.mode (sent_full f) pic pic' r = rw (o.width, o.height, o.mode) d in
@@ -47,12 +47,12 @@ module _ (glass : ℕ) (either : glass ≤ 1) (c : WriteShort) where
       rw (o.width, o.height, o.quants, o.picture) at x
 
   pub full_shows :
-      (f : WriteFrameSets) → FullFrame c c.old f → (pic pic' : List ℕ) (r : FrameReading) →
+      (f : WriteFrameSets) → FullFrame c c.old f → (pic pic' : List ℕ) (r : Result ℕ Refusal) →
       ReadOn glass c.width c.height c.mode (sent_full f) pic pic' r → Shows glass c.old c.width c.height c.quants pic'
   full_shows f o pic pic' r d = (full_shown f c.old o pic pic' r d).word
 
   pub as_the_full :
-      (f : WriteFrameSets) → writing_number c.answer ≡ 0 → FullFrame c c.new f → (pic a b : List ℕ) (r s : FrameReading) →
+      (f : WriteFrameSets) → plan_number c.answer ≡ 0 → FullFrame c c.new f → (pic a b : List ℕ) (r s : Result ℕ Refusal) →
       Shows glass c.old c.width c.height c.quants pic → ReadOn glass c.width c.height c.mode (sent_short c) pic a r →
       ReadOn glass c.width c.height c.mode (sent_full f) pic b s → a ≡ b
   as_the_full f e o pic a b r s shows d g =

@@ -1,7 +1,10 @@
 -- What request Eleven's page asks of calls is met: one black pixel that turns grey, its tile listed, sets that differ, in both modes, on either glass. The
 -- short frame is written, and so is the full one; a glass shows the old picture; and both frames are read on it.
 -- Assumes nothing.
-use Rattle.std.specs.Prelude.{ℕ, ◌≡◌, true, false, List, [], ◌∷◌, length}
+use Rattle.std.specs.Prelude.{ℕ, ◌≡◌, true, false, List, [], ◌∷◌, length, Result, Ok}
+use Rattle.wire.specs.declared.Refusal.{Refusal}
+use Rattle.plan.specs.Answer.{plan_number}
+use Rattle.short_write.specs.laws.Answer.{wrote_handed}
 use Rattle.std.proofs.Math.Path.{refl, sym}
 use Rattle.std.proofs.Common.{◌∙◌, le-leb}
 use native.Mathlib.Omega.{arith}
@@ -10,12 +13,9 @@ use Rattle.whole.specs.laws.Row.{passes, goes_on}
 use Rattle.wire.specs.Le.{written}
 use Rattle.wire.specs.Mode.{is_mode}
 use Rattle.wire.specs.laws.Mode.{is_1, is_4}
-use Rattle.wire.specs.Wrote.{writing_number}
 use Rattle.wire.specs.laws.Wrote.{done}
-use Rattle.wire.specs.declared.Writing.TheVariants.{Done}
 use Rattle.session.specs.Header.{record_of}
 use Rattle.quants.specs.Quants.{same}
-use Rattle.frame.specs.declared.call.FrameReading.{FrameReading}
 use Rattle.frame.specs.Frame.{call_fault, frame_number, frame_picture, frame_list, frame_reading}
 use Rattle.frame_pieces.specs.Parts.{pixels_good, cols_of}
 use Rattle.frame_write.specs.Picked.{frame_picked, send_fault_picked, all_tiles}
@@ -69,10 +69,10 @@ module _ (mode : ℕ) (good : is_mode mode ≡ true) (sendable : Sendable grey 1
     list' = zeros;
     scratch' = zeros;
     out' = written bytes bytes;
-    answer = Done (length bytes);
+    answer = Ok (length bytes);
     promise =
         record {
-          wrote = done _ _ _ _ _ fault_0 refl refl;
+          wrote = wrote_handed _ _ _ _ (Ok _) (done _ _ _ _ _ fault_0 refl refl);
           first = cleared _ _ _ own_0 refl;
           second = cleared _ _ _ own_0 refl;
         };
@@ -120,19 +120,18 @@ pub record MetShort (glass mode : ℕ) : Type 0 where
   pub full : WriteFrameSets
   pub in_mode : short.mode ≡ mode
   pub differ : same short.quants ≡ false
-  pub is_done : writing_number short.answer ≡ 0
+  pub is_done : plan_number short.answer ≡ 0
   pub as_full : FullFrame short short.new full
   pub picture : List ℕ
   pub shows : Shows glass short.old short.width short.height short.quants picture
   pub after_short : List ℕ
   pub after_full : List ℕ
-  pub short_answer : FrameReading
-  pub full_answer : FrameReading
+  pub short_answer : Result ℕ Refusal
+  pub full_answer : Result ℕ Refusal
   pub short_read : ReadOn glass short.width short.height short.mode (sent_short short) picture after_short short_answer
   pub full_read : ReadOn glass short.width short.height short.mode (sent_full full) picture after_full full_answer
 
 met : (glass mode : ℕ) → is_mode mode ≡ true → Sendable grey 1 1 mode (sets_by 6 7) → MetShort glass mode
-unfolding writing_number
 met glass mode good s = record {
   short = short mode good s;
   full = wrote_sets mode good s;

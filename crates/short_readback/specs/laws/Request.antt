@@ -2,13 +2,14 @@
 -- Assumes nothing.
 use Prim.Native.Nat.{ℕ, zero, suc, ◌+◌, ◌*◌, ◌≤◌}
 use Rattle.std.specs.Prelude.{◌≡◌, List, [], ◌∷◌, leb, length, get_or}
+use Rattle.plan.specs.Answer.{plan_number}
 use Rattle.std.proofs.Math.Path.{refl, sym, subst}
 use Rattle.std.proofs.Common.{◌∙◌, arith, le-leb}
 use Rattle.whole.specs.Row.{◌!◌⨾◌, ◌⇒◌∣◌, ◌⨟◌}
 use Rattle.whole.specs.laws.Row.{passes, stops, goes_on}
 use Rattle.whole.specs.Among.{among, Among}
 use Rattle.whole.specs.laws.Among.{numbers, said, each, among_then, among_all}
-use Rattle.wire.specs.Wrote.{writing_number, out_left}
+use Rattle.wire.specs.Wrote.{out_left}
 use Rattle.bits.specs.laws.Bytes.{Bytes}
 use Rattle.quants.specs.Quants.{quant_for, one_for}
 use Rattle.frame_pieces.specs.Parts.{tiles_no}
@@ -36,17 +37,17 @@ module _ (c : WriteShort) where
   abbrev send-fault : ℕ
   send-fault = send_fault_picked c.index c.width c.height c.mode c.quants c.new c.picks (length c.out)
 
-  number_is : writing_number c.answer ≡ (own_of c ⨟ (list_fault ⨟ send-fault))
+  number_is : plan_number c.answer ≡ (own_of c ⨟ (list_fault ⨟ send-fault))
   unfolding short_fault
   number_is = c.promise.wrote.number
 
   good : 0 ≡ own_of c → OwnGood c.width c.height c.mode c.quants c.old c.new (length c.list) (length c.scratch)
   good e = own_good c.width c.height c.mode c.quants c.old c.new (length c.list) (length c.scratch) e
 
-  own_first : (own_of c ≡ 0 → ⊥) → writing_number c.answer ≡ own_of c
+  own_first : (own_of c ≡ 0 → ⊥) → plan_number c.answer ≡ own_of c
   own_first f = number_is ∙ sym (stops _ _ _ f refl)
 
-  then_the_check : own_of c ≡ 0 → (check_of c ≡ 0 → ⊥) → writing_number c.answer ≡ check_of c
+  then_the_check : own_of c ≡ 0 → (check_of c ≡ 0 → ⊥) → plan_number c.answer ≡ check_of c
   then_the_check e f =
       let l = fault_of_list c.width c.height c.old c.new c.picks (good (sym e)).pictures list_fault refl in
       number_is ∙ (sym (goes_on _ _ _ e (stops _ _ _ (λ z. f (l ∙ z)) refl)) ∙ sym l)
@@ -77,7 +78,7 @@ module _ (c : WriteShort) where
         among_then _ _ (among_all _ (ShortNumbers.list_among c.old c.new c.width c.height c.picks) refl)
         (subst (Among most) (sym (only_room e)) room_among)
 
-    never_refuses : Among most (writing_number c.answer)
+    never_refuses : Among most (plan_number c.answer)
     unfolding ◌⨟◌ each among
     never_refuses = subst (Among most) (sym number_is) (by (own_of c) refl)
       where
@@ -114,7 +115,7 @@ module _ (c : WriteShort) where
           by zero g = subst (Among fewer) (sym (room_there e (sym g))) (said refl)
           by (suc f) g = subst (Among fewer) g (among_all fewer (ShortNumbers.list_among c.old c.new c.width c.height c.picks) refl)
 
-      always_room : Among fewer (writing_number c.answer)
+      always_room : Among fewer (plan_number c.answer)
       unfolding ◌⨟◌ each among
       always_room = subst (Among fewer) (sym number_is) (by (own_of c) refl)
         where

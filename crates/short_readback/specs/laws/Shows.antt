@@ -1,19 +1,20 @@
 -- A short frame on a glass that shows the old picture: listed tiles are drawn, and the others are the same in both pictures.
 -- Assumes nothing.
-use Rattle.std.specs.Prelude.{ℕ, ◌+◌, ◌*◌, ◌%◌, ◌≤◌, ◌<◌, ◌≡◌, Bool, true, false, ℤ, length, take}
+use Rattle.std.specs.Prelude.{ℕ, ◌+◌, ◌*◌, ◌%◌, ◌≤◌, ◌<◌, ◌≡◌, Bool, true, false, ℤ, length, take, Result}
+use Rattle.wire.specs.declared.Refusal.{Refusal}
+use Rattle.plan.specs.Answer.{plan_number}
+use Rattle.short_write.specs.Answer.{short_count}
 use Rattle.std.proofs.Math.Path.{refl, ap, subst}
 use Rattle.std.proofs.Common.{sym, ◌∙◌, arith}
 use mathlib.Core.List.{List}
 use Rattle.std.proofs.Math.ListN.{get_or}
 use Rattle.whole.specs.laws.Row.{both}
 use Rattle.wire.specs.Mode.{is_mode}
-use Rattle.wire.specs.Wrote.{writing_number, writing_length}
-use Rattle.wire.specs.laws.Wrote.{wrote_bytes}
+use Rattle.short_write.specs.laws.Answer.{wrote_short_bytes}
 use Rattle.session.specs.Header.{record_of, size_good}
 use Rattle.bands.specs.Bands.{summed, scaled_by}
 use Rattle.quants.specs.declared.Quants.{Quants}
 use Rattle.wave_back.specs.Tile.{tile_back}
-use Rattle.frame.specs.declared.call.FrameReading.{FrameReading}
 use Rattle.frame.specs.Frame.{FrameRead}
 use Rattle.frame_pieces.specs.Parts.{tiles_no}
 use Rattle.frame_write.specs.Encode.{list_of}
@@ -56,7 +57,7 @@ module _ (old new ks : List ℕ) (w h mode : ℕ) (q : Quants) (a : Acceptable w
       by true c = absurd (yes_not_no (sym (a.all k l (changed_is old new w h k c)) ∙ e))
       by false c = refl
 
-  module _ (glass : ℕ) (pic pic' : List ℕ) (r : FrameReading) (s : ShownPicked glass new w h q (length ks) (λ (i : ℕ). get_or ks i 0) pic pic' r)
+  module _ (glass : ℕ) (pic pic' : List ℕ) (r : Result ℕ Refusal) (s : ShownPicked glass new w h q (length ks) (λ (i : ℕ). get_or ks i 0) pic pic' r)
       (o : Shows glass old w h q pic) where
     word_new : (px py : ℕ) → px < w → py < h → (t : Bool) → is_listed (tile_no w px py) ks ≡ t →
         get_or pic' (py * w + px) 0 ≡ word_over glass new w h q (tile_no w px py) (64 * (py % 64) + px % 64)
@@ -78,7 +79,7 @@ module _ (old new ks : List ℕ) (w h mode : ℕ) (q : Quants) (a : Acceptable w
 
 -- ---- the calls
 
-module _ (c : WriteShort) (e : writing_number c.answer ≡ 0) where
+module _ (c : WriteShort) (e : plan_number c.answer ≡ 0) where
   -- what the writer's 0 gives: nothing of its own, nothing of the check's, nothing of the tiles'
   own_none : 0 ≡ own_of c
   unfolding short_fault
@@ -123,13 +124,13 @@ module _ (c : WriteShort) (e : writing_number c.answer ≡ 0) where
             tiles_none i (omega arith) (omega arith);
       }
 
-  pub bytes_are : take (writing_length c.answer) c.out' ≡ frame_picked c.index c.width c.height c.mode c.quants c.new c.picks
-  bytes_are = wrote_bytes _ _ c.out c.out' c.answer c.promise.wrote e
+  pub bytes_are : take (short_count c.answer) c.out' ≡ frame_picked c.index c.width c.height c.mode c.quants c.new c.picks
+  bytes_are = wrote_short_bytes _ _ c.out c.out' c.answer c.promise.wrote e
 
   pub leaves_showing :
-      (glass : ℕ) → glass ≤ 1 → (pic : List ℕ) (y cb cr tmp : List ℤ) (pic' : List ℕ) (y' cb' cr' tmp' : List ℤ) (answer : FrameReading)
+      (glass : ℕ) → glass ≤ 1 → (pic : List ℕ) (y cb cr tmp : List ℤ) (pic' : List ℕ) (y' cb' cr' tmp' : List ℤ) (answer : Result ℕ Refusal)
       → length y ≡ 4096 → length cb ≡ 4096 → length cr ≡ 4096 → length tmp ≡ 4096 → c.height * c.width ≤ length pic
-      → FrameRead glass (record_of glass 4 c.width c.height c.mode) (take (writing_length c.answer) c.out') pic y cb cr tmp pic' y' cb' cr'
+      → FrameRead glass (record_of glass 4 c.width c.height c.mode) (take (short_count c.answer) c.out') pic y cb cr tmp pic' y' cb' cr'
       tmp' answer
       → Shows glass c.old c.width c.height c.quants pic
       → ShortShown glass c.new c.width c.height c.quants (length c.picks) pic pic' answer

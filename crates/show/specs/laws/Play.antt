@@ -6,6 +6,7 @@ use Rattle.whole.specs.Row.{◌⇒◌∣◌}
 use Rattle.whole.specs.laws.Row.{fails, passes, case_yes, case_no}
 use Rattle.session.specs.declared.Session.{Session}
 use Rattle.collect.specs.Collect.{HandOver, state, said, collect_of}
+use Rattle.wire.specs.declared.Refusal.{Refusal}
 use Rattle.collect.specs.declared.Collector.{Collector}
 use Rattle.collect.specs.declared.Collected.{Collected}
 use Rattle.collect.specs.declared.Collected.TheVariants.{More, Header, Frame, Refused}
@@ -52,7 +53,7 @@ module _ (store : List ℕ) (a : Collected) where
   unfolding desk_part
   desk_more d e = ap (desk_part store d) (sym e)
 
-  pub desk_refused : (d : Desk) (k : ℕ) → a ≡ Refused k → d ≡ desk_part store d a
+  pub desk_refused : (d : Desk) (k : Refusal) → a ≡ Refused k → d ≡ desk_part store d a
   unfolding desk_part
   desk_refused d k e = ap (desk_part store d) (sym e)
 
@@ -76,9 +77,19 @@ module _ (store : List ℕ) (a : Collected) where
     unfolding drawn
     drawn_header k e = way (Header k) pic e refl
 
-    pub drawn_refused : (k : ℕ) → a ≡ Refused k → pic ≡ drawn word store s a pic
+    pub drawn_refused : (k : Refusal) → a ≡ Refused k → pic ≡ drawn word store s a pic
     unfolding drawn
     drawn_refused k e = way (Refused k) pic e refl
+
+    -- all but a frame
+    pub drawn_other : ((k : ℕ) → a ≡ Frame k → ⊥) → pic ≡ drawn word store s a pic
+    drawn_other n = other a refl
+      where
+        other : (b : Collected) → a ≡ b → pic ≡ drawn word store s a pic
+        other More e = drawn_more e
+        other (Header k) e = drawn_header k e
+        other (Frame k) e = absurd (n k e)
+        other (Refused k) e = drawn_refused k e
 
     pub drawn_frame : (k : ℕ) (m pic' : List ℕ) → a ≡ Frame k → m ≡ first_of store k → pic' ≡ frame_drawn word s m pic → pic' ≡ drawn word store s a pic
     unfolding drawn

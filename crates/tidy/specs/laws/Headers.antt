@@ -1,6 +1,6 @@
 -- Laws of the headers' calls: what a block that waits is, where it stands, what goes on, and the ways out.
 use Prim.Native.Nat.{ℕ, zero, suc, ◌+◌, ◌≤◌}
-use Rattle.std.specs.Prelude.{◌≡◌, Bool, List, [], ◌++◌, eqb, length, take, drop}
+use Rattle.std.specs.Prelude.{◌≡◌, Bool, List, [], ◌++◌, eqb, length, take, drop, Result, Ok, Err, is_ok}
 use Rattle.std.proofs.Math.Path.{refl, ap, ap₂}
 use Rattle.std.proofs.Common.{sym, ◌∙◌, true≢false, arith, length-append, length-drop, length-take-le, eqb-true, leb-true, eq-eqb, ne_eqb}
 use Rattle.std.proofs.Math.Bool.{true, false}
@@ -10,10 +10,12 @@ use Rattle.whole.specs.laws.Row.{passes, fails, held, case_yes, case_no}
 use Rattle.wire.specs.Le.{le16, patch}
 use Rattle.wire.specs.Wrote.{length_said, out_left}
 use Rattle.wire.specs.laws.Le.{patch_next, patch_none, patch_front}
-use Rattle.session.specs.Header.{record_of, header_number, header_reading, header_fault as panelFault}
+use Rattle.wire.specs.Refusal.{refusal_number, number_of}
+use Rattle.wire.specs.laws.Refusal.{number_pos}
+use Rattle.wire.specs.declared.Refusal.{Refusal}
+use Rattle.session.specs.Header.{record_of, header_reading, header_fault as panelFault}
 use Rattle.session.specs.laws.Header.{reading-number}
 use Rattle.session.specs.declared.Session.{Session}
-use Rattle.session.specs.declared.HeaderReading.{HeaderReading}
 use Rattle.tidy.specs.Headers.{kind_by, kind_of, is_sync, place_of, length_of, block_at, waiting_bytes, waits, held_on, passed_on, store_after, flag_of}
 use Rattle.tidy.specs.Headers.{waiting_by}
 use Rattle.tidy.specs.Headers.{waiting_after, header_fault, waiting_said, store_left, GaveOn}
@@ -87,11 +89,17 @@ kind_short b l =
     rw (ne_eqb (length b) 10 (λ e. omega arith), ne_eqb (length b) 12 (λ e. omega arith), ne_eqb (length b) 13 (λ e. omega arith))
     (none_of (eqb (le16 b 0) 0xCCC1) (eqb (le16 b 0) 0xCCC2) (eqb (le16 b 0) 0xCCC3))
 
+-- no refusal is 0
+pub judged_ok : {A : Type 0} (r : Result A Refusal) → is_ok r ≡ eqb (number_of r) 0
+judged_ok (Ok x) = refl
+judged_ok (Err e) = sym (ne_eqb _ 0 (number_pos e))
+
 -- the number that a session just opened answers says whether a block is a good sync
-pub sync_is : (s : Session) (b : List ℕ) (r : HeaderReading) (n : ℕ) → s ≡ record_of 0 0 0 0 0 → r ≡ header_reading s b → n ≡ header_number r →
-    eqb n 0 ≡ is_sync b
+pub sync_is : (s : Session) (b : List ℕ) (r : Result Session Refusal) (t : Bool) → s ≡ record_of 0 0 0 0 0 → r ≡ header_reading s b → t ≡ is_ok r →
+    t ≡ is_sync b
 unfolding is_sync
-sync_is s b r n e f g = ap (λ (k : ℕ). eqb k 0) (g ∙ (ap header_number f ∙ (reading-number s b ∙ ap (λ (z : Session). panelFault z b) e)))
+sync_is s b r t e f g =
+    g ∙ judged_ok r ∙ ap (λ (k : ℕ). eqb k 0) (ap number_of f ∙ (reading-number s b ∙ ap (λ (z : Session). panelFault z b) e))
 
 -- ---- what waits
 
@@ -204,13 +212,13 @@ header_good store w most room e =
     (eqb-true store 35 a.0, leb-true most room d.0)
 
 module _ (bytes : List ℕ) (next w : Waiting) (after store out : List ℕ) where
-  pub gave_refused : (f x : ℕ) → x ≡ f → (x ≡ 0 → ⊥) → GaveOn f bytes next w after store store out out (record { waiting = w; number = x; size = 0 })
+  pub gave_refused : (f : ℕ) (e : Refusal) → refusal_number e ≡ f → GaveOn f bytes next w after store store out out (record { waiting = w; answer = Err e })
   unfolding length_said waiting_said store_left out_left
-  gave_refused zero x e h = absurd (h e)
-  gave_refused (suc f) x e h = record { number = e; size = refl; waiting = refl; kept = refl; left = refl }
+  gave_refused zero e h = absurd (number_pos e h)
+  gave_refused (suc f) e h = record { number = h; size = refl; waiting = refl; kept = refl; left = refl }
 
   pub gave_done : (f n : ℕ) (r : Waiting) (store' out' : List ℕ) → 0 ≡ f → n ≡ length bytes → r ≡ next → store' ≡ after → out' ≡ patch out 0 bytes →
-      GaveOn f bytes next w after store store' out out' (record { waiting = r; number = 0; size = n })
+      GaveOn f bytes next w after store store' out out' (record { waiting = r; answer = Ok n })
   unfolding length_said waiting_said store_left out_left
   gave_done zero n r store' out' e l v k p = record { number = refl; size = l; waiting = v; kept = k; left = p ∙ patch_front out bytes }
   gave_done (suc f) n r store' out' e l v k p = absurd (omega arith)

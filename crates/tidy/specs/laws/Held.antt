@@ -1,8 +1,11 @@
 -- What waits, held in 38 bytes: the three numbers and the store make them (`held_is`), so a call that changes nothing leaves them as they were.
-use Rattle.std.specs.Prelude.{ℕ, zero, suc, ◌+◌, ◌-◌, ◌≤◌, ◌≡◌, refl, List, [], ◌∷◌, ◌++◌, length, take, drop, set}
+use Rattle.std.specs.Prelude.{ℕ, zero, suc, ◌+◌, ◌-◌, ◌≤◌, ◌≡◌, refl, List, [], ◌∷◌, ◌++◌, length, take, drop, set, Err}
 use Rattle.std.proofs.Common.{ap, ap₂, subst, ◌∙◌, append-nil, arith, eq-eqb, ne_eqb, length-drop, drop_of_length-le, drop_at, take_all, length-take-le}
 use Rattle.whole.specs.laws.Row.{passes, fails}
 use Rattle.wire.specs.Wrote.{length_said, out_left}
+use Rattle.wire.specs.Refusal.{refusal_number}
+use Rattle.wire.specs.laws.Refusal.{number_pos}
+use Rattle.wire.specs.declared.Refusal.{Refusal}
 use Rattle.tidy.specs.declared.headers.Waiting.{Waiting}
 use Rattle.tidy.specs.declared.headers.Gave.{Gave}
 use Rattle.tidy.specs.Headers.{none, waiting_bytes, passed_on, waiting_after, store_after, header_fault, waiting_said, store_left, GaveOn}
@@ -34,11 +37,10 @@ store_long h l = omega (arith, length-drop 3 h)
 
 -- ---- one law for each way out
 
-pub held_refused :
-    (F : ℕ) (bytes after h out : List ℕ) (x : ℕ) → x ≡ F → (x ≡ 0 → ⊥) → HeldGave F bytes after h h out out (record { number = x; size = 0 })
+pub held_refused : (F : ℕ) (bytes after h out : List ℕ) (e : Refusal) → refusal_number e ≡ F → HeldGave F bytes after h h out out (Err e)
 unfolding length_said store_left out_left
-held_refused zero bytes after h out x e n = absurd (n e)
-held_refused (suc f) bytes after h out x e n = record { number = e; size = refl; kept = refl; left = refl }
+held_refused zero bytes after h out e n = absurd (number_pos e n)
+held_refused (suc f) bytes after h out e n = record { number = n; size = refl; kept = refl; left = refl }
 
 pub not_38 : (h : List ℕ) (most room : ℕ) → (length h ≡ 38 → ⊥) → 2 ≡ held_fault h most room
 unfolding held_fault
@@ -59,7 +61,7 @@ module _ (h : List ℕ) (most : ℕ) (bytes : List ℕ) (next : Waiting) (after 
   pub held_gave :
       GaveOn (header_fault (length (store_in h)) (waiting_in h) most (length out)) bytes next (waiting_in h) after (store_in h) store' out out' g →
       h' ≡ held_of g.waiting store' →
-      HeldGave (held_fault h most (length out)) bytes (held_of next after) h h' out out' (record { number = g.number; size = g.size })
+      HeldGave (held_fault h most (length out)) bytes (held_of next after) h h' out out' g.answer
   held_gave p e =
       let q = subst (λ (F : ℕ). GaveOn F bytes next (waiting_in h) after (store_in h) store' out out' g) (is_38 h most (length out) l) p in
       record {
@@ -80,7 +82,7 @@ module _ (h store store' out out' h' : List ℕ) (w : Waiting) (g : Gave) (l : l
       store
       store' out out' g →
       HeldGave (held_fault h (35 + length block) (length out)) (passed_on (waiting_in h) (store_in h) block)
-      (held_of (waiting_after (waiting_in h) block) (store_after (waiting_in h) (store_in h) block)) h h' out out' (record { number = g.number; size = g.size })
+      (held_of (waiting_after (waiting_in h) block) (store_after (waiting_in h) (store_in h) block)) h h' out out' g.answer
   given_held block p =
       let q = subst (λ (x : List ℕ). GaveOn (header_fault (length x) w (35 + length block) (length out)) (passed_on w x block) (waiting_after w block) w
       (store_after w x block) x store' out out' g) es p in
@@ -92,7 +94,7 @@ module _ (h store store' out out' h' : List ℕ) (w : Waiting) (g : Gave) (l : l
   pub flushed_held :
       GaveOn (header_fault (length store) w 35 (length out)) (waiting_bytes w store) none w store store store' out out' g →
       HeldGave (held_fault h 35 (length out)) (waiting_bytes (waiting_in h) (store_in h)) (held_of none (store_in h)) h h' out out'
-      (record { number = g.number; size = g.size })
+      g.answer
   flushed_held p =
       let q = subst (λ (x : List ℕ). GaveOn (header_fault (length x) w 35 (length out)) (waiting_bytes w x) none w x x store' out out' g) es p in
       let r = subst (λ (v : Waiting). GaveOn (header_fault (length (store_in h)) v 35 (length out)) (waiting_bytes v (store_in h)) none v (store_in h)

@@ -1,6 +1,6 @@
 -- The frame passed on: whether a tidied one is tried, what is written where it is kept, and the call's ways out.
 use Prim.Native.Nat.{ℕ, zero, suc, ◌+◌, ◌-◌, ◌≤◌, ◌<◌}
-use Rattle.std.specs.Prelude.{◌≡◌, Bool, true, false, eqb, ℤ, pos, take, drop, replicate}
+use Rattle.std.specs.Prelude.{◌≡◌, Bool, true, false, eqb, ℤ, pos, take, drop, replicate, Ok, Err}
 use Rattle.std.proofs.Math.Path.{refl, ap}
 use Rattle.std.proofs.Common.{sym, ◌∙◌, true≢false, arith, take_at, drop-drop, eqb-true, eq-eqb, ne_eqb, le-leb}
 use mathlib.Core.List.{List, ◌++◌}
@@ -11,6 +11,9 @@ use Rattle.std.proofs.lemmas.Bool.{lt-leb}
 use Rattle.whole.specs.Row.{◌!◌⨾◌, ◌⇒◌∣◌}
 use Rattle.whole.specs.laws.Row.{passes, fails}
 use Rattle.wire.specs.Le.{patch}
+use Rattle.wire.specs.Refusal.{refusal_number}
+use Rattle.wire.specs.laws.Refusal.{number_pos}
+use Rattle.wire.specs.declared.Refusal.{Refusal}
 use Rattle.wire.specs.Wrote.{length_said, out_left}
 use Rattle.wire.specs.laws.Le.{patch_front}
 use Rattle.session.specs.Header.{ready}
@@ -141,11 +144,10 @@ module _ (sd : ℕ) (s : Session) (m out : List ℕ) (list : List ℤ) where
   refused_by zero x e h = absurd (h e)
   refused_by (suc f) x e h = (refl, (refl, (refl, refl)))
 
-  pub call_refused : (x : ℕ) → x ≡ tidy_fault sd (length list) (length m) (length out) → (x ≡ 0 → ⊥) →
-      FrameTidied sd s m list list out out (record { number = x; size = 0; cut = 0 })
-  call_refused x e h =
-      let k = refused_by (tidy_fault sd (length list) (length m) (length out)) x e h in
-      record { number = e; size = k.0; cut = k.1.0; left = k.1.1.0; work = k.1.1.1 }
+  pub call_refused : (e : Refusal) → refusal_number e ≡ tidy_fault sd (length list) (length m) (length out) → FrameTidied sd s m list list out out (Err e)
+  call_refused e h =
+      let k = refused_by (tidy_fault sd (length list) (length m) (length out)) (refusal_number e) h (number_pos e) in
+      record { number = h; size = k.0; cut = k.1.0; left = k.1.1.0; work = k.1.1.1 }
 
   done_by : (f n k : ℕ) (o : List ℕ) (l : List ℤ) → 0 ≡ f → n ≡ 0 + length (tidy_frame sd s m) → k ≡ codes_cut sd s m → o ≡ patch out 0
       (tidy_frame sd s m) → l ≡ replicate 4096 (pos 0) →
@@ -156,7 +158,7 @@ module _ (sd : ℕ) (s : Session) (m out : List ℕ) (list : List ℤ) where
 
   pub call_done : (p : Put) (out' : List ℕ) (list' : List ℤ) → 0 ≡ tidy_fault sd (length list) (length m) (length out) →
       Puts (tidy_frame sd s m) (codes_cut sd s m) 0 out out' p → list' ≡ replicate 4096 (pos 0) →
-      FrameTidied sd s m list list' out out' (record { number = 0; size = p.to; cut = p.cut })
+      FrameTidied sd s m list list' out out' (Ok (record { size = p.to; cut = p.cut }))
   call_done p out' list' e q w =
       let k = done_by (tidy_fault sd (length list) (length m) (length out)) p.to p.cut out' list' e q.behind q.counts q.left w in
       record { number = e; size = k.0; cut = k.1.0; left = k.1.1.0; work = k.1.1.1 }

@@ -1,5 +1,5 @@
 -- The page of promises, proved.
-use Rattle.std.specs.Prelude.{ℕ, zero, suc, ◌+◌, ◌≤◌, ◌≡◌, refl, Bool, true, false, eqb, ℤ, length}
+use Rattle.std.specs.Prelude.{ℕ, zero, suc, ◌+◌, ◌≤◌, ◌≡◌, refl, Bool, true, false, eqb, ℤ, length, Result}
 use Rattle.std.proofs.Math.Path.{ap, sym, subst}
 use Rattle.std.proofs.Common.{◌∙◌, true≢false, arith}
 use mathlib.Core.List.{List, [], ◌∷◌, ◌++◌, append-nil, flatten}
@@ -14,14 +14,15 @@ use Rattle.frame_blocks.specs.Tiles.{tile_front}
 use Rattle.frame_blocks.specs.laws.Tiles.{tile_goes_on}
 use Rattle.session.specs.Header.{ready}
 use Rattle.session.specs.declared.Session.{Session}
-use Rattle.tidy.specs.Tidy.{fault_for, layout_for, is_tidied, tidy_frame, frame_tidied, FrameTidied}
+use Rattle.tidy.specs.Tidy.{fault_for, layout_for, is_tidied, tidy_frame, frame_tidied, told_of, FrameTidied}
 use Rattle.tidy.specs.Put.{Laid}
 use Rattle.tidy.specs.Headers.{kind_of, is_sync, all_on, none, is_three, is_group, of_kind, blocks_on, GaveOn}
+use Rattle.wire.specs.Refusal.{number_of, count_of}
+use Rattle.wire.specs.declared.Refusal.{Refusal}
 use Rattle.tidy.specs.Held.{HeldGave}
 use Rattle.tidy.specs.declared.frames.Tidied.{Tidied}
 use Rattle.tidy.specs.declared.headers.Gave.{Gave}
 use Rattle.tidy.specs.declared.headers.Waiting.{Waiting}
-use Rattle.tidy.specs.declared.held.Passed.{Passed}
 use Rattle.tidy.specs.laws.Layout.{tiles_by, parts_by, parts_good, laid, any_code, front_alone}
 use Rattle.tidy.specs.laws.Mended.{Again, again}
 use Rattle.tidy.specs.laws.Sync.{sync_good}
@@ -151,20 +152,22 @@ module _ (sd : ℕ) (s : Session) (m : List ℕ) (hb : Bytes m) where
 -- ---- one answer
 
 one_tidied :
-    (sd : ℕ) (s : Session) (m : List ℕ) (list a b : List ℤ) (out x y : List ℕ) (r q : Tidied) → FrameTidied sd s m list a out x r →
-    FrameTidied sd s m list b out y q → (r.number ≡ q.number) × (r.size ≡ q.size) × (r.cut ≡ q.cut) × (a ≡ b) × (x ≡ y)
+    (sd : ℕ) (s : Session) (m : List ℕ) (list a b : List ℤ) (out x y : List ℕ) (r q : Result Tidied Refusal) → FrameTidied sd s m list a out x r →
+    FrameTidied sd s m list b out y q →
+    (number_of r ≡ number_of q) × ((told_of r).size ≡ (told_of q).size) × ((told_of r).cut ≡ (told_of q).cut) × (a ≡ b) × (x ≡ y)
 one_tidied sd s m list a b out x y r q f g =
     (f.number ∙ sym g.number, f.size ∙ sym g.size, f.cut ∙ sym g.cut, f.work ∙ sym g.work, f.left ∙ sym g.left)
 
 one_given :
     (fault : ℕ) (bytes : List ℕ) (next w : Waiting) (after store a b out x y : List ℕ) (r q : Gave) → GaveOn fault bytes next w after store a out x r →
-    GaveOn fault bytes next w after store b out y q → (r.number ≡ q.number) × (r.size ≡ q.size) × (r.waiting ≡ q.waiting) × (a ≡ b) × (x ≡ y)
+    GaveOn fault bytes next w after store b out y q →
+    (number_of r.answer ≡ number_of q.answer) × (count_of r.answer ≡ count_of q.answer) × (r.waiting ≡ q.waiting) × (a ≡ b) × (x ≡ y)
 one_given fault bytes next w after store a b out x y r q f g =
     (f.number ∙ sym g.number, f.size ∙ sym g.size, f.waiting ∙ sym g.waiting, f.kept ∙ sym g.kept, f.left ∙ sym g.left)
 
 one_held :
-    (fault : ℕ) (bytes after held a b out x y : List ℕ) (r q : Passed) → HeldGave fault bytes after held a out x r →
-    HeldGave fault bytes after held b out y q → (r.number ≡ q.number) × (r.size ≡ q.size) × (a ≡ b) × (x ≡ y)
+    (fault : ℕ) (bytes after held a b out x y : List ℕ) (r q : Result ℕ Refusal) → HeldGave fault bytes after held a out x r →
+    HeldGave fault bytes after held b out y q → (number_of r ≡ number_of q) × (count_of r ≡ count_of q) × (a ≡ b) × (x ≡ y)
 one_held fault bytes after held a b out x y r q f g =
     (f.number ∙ sym g.number, f.size ∙ sym g.size, f.kept ∙ sym g.kept, f.left ∙ sym g.left)
 

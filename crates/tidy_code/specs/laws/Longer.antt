@@ -1,7 +1,7 @@
 -- 4,097 places in a list of 4,096 and a number beside it: one law for each way of storing; while they are filled the component reader's own record holds
 -- (`Filling` of the crate code) at 4,097 places; and one law for each answer.
 use Prim.Native.Nat.{ℕ, zero, suc, ◌+◌, ◌*◌, ◌-◌, ◌≤◌, ◌<◌, min}
-use Rattle.std.specs.Prelude.{◌≡◌, refl, Bool, true, false, eqb, ℤ, pos, length, take, drop, get_or, replicate}
+use Rattle.std.specs.Prelude.{◌≡◌, refl, Bool, true, false, eqb, ℤ, pos, length, take, drop, get_or, replicate, Result, Ok, Err}
 use Rattle.std.proofs.Math.Path.{sym, ap}
 use Rattle.std.proofs.Common.{subst, ◌∙◌, length-append, take_all, take_at}
 use mathlib.Core.List.{List, [], ◌∷◌, ◌++◌, map}
@@ -22,15 +22,11 @@ use Rattle.code.specs.Fill.{Filling}
 use Rattle.code.specs.laws.Filling.{filling_start, filling_next, filling_bad}
 use Rattle.code.specs.laws.List.{taken}
 use Rattle.code.specs.declared.element.State.{State}
-use Rattle.code.specs.declared.element.Refusal.{Refusal}
+use Rattle.wire.specs.declared.Refusal.{Refusal}
 use Rattle.code.specs.declared.element.Element.{Element}
-use Rattle.code.specs.declared.element.Element.TheVariants.{Zeros, One, Two, Refused}
+use Rattle.code.specs.declared.element.Element.TheVariants.{Zeros, One, Two}
 use Rattle.tidy_code.specs.Sent.{means, unclear, longer_meant, is_meant, list_meant, Answers}
-use Rattle.tidy_code.specs.Longer.{with_last, Stored, PlacedAs, FilledAs}
-use Rattle.tidy_code.specs.declared.longer.Placed.{Placed}
-use Rattle.tidy_code.specs.declared.longer.Placed.TheVariants.{At, No}
-use Rattle.tidy_code.specs.declared.longer.Filled.{Filled}
-use Rattle.tidy_code.specs.declared.longer.Filled.TheVariants.{Whole, Bad}
+use Rattle.tidy_code.specs.Longer.{with_last, PlacedAs, FilledAs}
 
 -- ---- a value stored
 
@@ -52,30 +48,23 @@ all_long out last h = length-append out (unfold_z last ∷ []) ∙ omega (arith,
 -- ---- an element stored: one law for each way out
 
 module _ (all new : List ℤ) (i : ℕ) (e : Element) where
-  pub placed_no : (q : Refusal) → e ≡ Refused q → PlacedAs all i e new No
-  placed_no q h = rw h refl
+  pub placed_zeros : (z : ℕ) (t : State) (j l : ℕ) → e ≡ Zeros z t → j ≡ min 4097 (i + z) → with_last new l ≡ all → PlacedAs all i e new (j, t, l)
+  placed_zeros z t j l h p w = rw h (record { next = p; state = refl; stored = w })
 
-  pub placed_zeros : (z : ℕ) (t : State) (j l : ℕ) → e ≡ Zeros z t → j ≡ min 4097 (i + z) → with_last new l ≡ all → PlacedAs all i e new (At j t l)
-  placed_zeros z t j l h p w = rw h (record { last = l; next = ap (λ (k : ℕ). At k t l) p; all = w })
-
-  pub placed_one : (z v : ℕ) (t : State) (l : ℕ) → e ≡ One z v t → with_last new l ≡ set all (i + z) (unfold_z v) → PlacedAs all i e new (At (i + z + 1) t l)
-  placed_one z v t l h w = rw h (record { last = l; next = refl; all = w })
+  pub placed_one : (z v : ℕ) (t : State) (l : ℕ) → e ≡ One z v t → with_last new l ≡ set all (i + z) (unfold_z v) → PlacedAs all i e new (i + z + 1, t, l)
+  placed_one z v t l h w = rw h (record { next = refl; state = refl; stored = w })
 
   module _ (a b : ℕ) (t : State) (h : e ≡ Two a b t) (n : length all ≡ 4097) where
     pub placed_two :
         (mid : List ℤ) (k l : ℕ) → i + 1 < 4097 → with_last mid k ≡ set all i (unfold_z a) → with_last new l ≡ set (with_last mid k) (i + 1) (unfold_z b) →
-        PlacedAs all i e new (At (i + 2) t l)
+        PlacedAs all i e new (i + 2, t, l)
     unfolding ◌⇒◌∣◌
     placed_two mid k l s p w =
-        let m : i + 2 ≡ min 4097 (i + 2) = omega arith in
-        rw (h, n, lt-ltb (i + 1) 4097 s)
-        (record { last = l; next = ap (λ (j : ℕ). At j t l) m; all = w ∙ ap (λ (o : List ℤ). set o (i + 1) (unfold_z b)) p })
+        rw h (record { next = omega arith; state = refl; stored = rw (n, lt-ltb (i + 1) 4097 s) (w ∙ ap (λ (o : List ℤ). set o (i + 1) (unfold_z b)) p) })
 
-    pub placed_lone : (l : ℕ) → 4097 ≤ i + 1 → with_last new l ≡ set all i (unfold_z a) → PlacedAs all i e new (At 4097 t l)
+    pub placed_lone : (l : ℕ) → 4097 ≤ i + 1 → with_last new l ≡ set all i (unfold_z a) → PlacedAs all i e new (4097, t, l)
     unfolding ◌⇒◌∣◌
-    placed_lone l s w =
-        let m : 4097 ≡ min 4097 (i + 2) = omega arith in
-        rw (h, n, le-ltb (i + 1) 4097 s) (record { last = l; next = ap (λ (j : ℕ). At j t l) m; all = w })
+    placed_lone l s w = rw h (record { next = omega arith; state = refl; stored = rw (n, le-ltb (i + 1) 4097 s) w })
 
 -- ---- the loop
 
@@ -92,15 +81,6 @@ walk_none : (rlgr3 : Bool) (B : List Bool) (f kp krp at : ℕ) (done : List ℕ)
 unfolding walk
 walk_none rlgr3 B zero kp krp at done = refl
 walk_none rlgr3 B (suc f) kp krp at done = refl
-
-at_j : {j k : ℕ} {s t : State} {l m : ℕ} → At j s l ≡ At k t m → j ≡ k
-at_j e = cc
-
-at_s : {j k : ℕ} {s t : State} {l m : ℕ} → At j s l ≡ At k t m → s ≡ t
-at_s e = cc
-
-at_l : {j k : ℕ} {s t : State} {l m : ℕ} → At j s l ≡ At k t m → l ≡ m
-at_l e = cc
 
 module _ (rlgr3 : Bool) (B : List Bool) where
   pub longer_start : (out : List ℤ) → length out ≡ 4096 → out ≡ replicate 4096 (pos 0) → Filling rlgr3 4097 B (with_last out 0) (state_at 0 8 8) 0
@@ -121,43 +101,23 @@ module _ (rlgr3 : Bool) (B : List Bool) where
         sym e ∙ walk_none rlgr3 B w.f c.kp c.krp c.at (map fold_z (take i (with_last out last)))
         ∙ ap (λ (x : List ℕ). whole x c.at) (ap (map fold_z) t ∙ fold_last out last)
 
-    module _ (h : i < 4097) (e : Element) (q : e ≡ elem_of rlgr3 c.kp c.krp (4097 - i) c.at B) (new : List ℤ) (r : Placed)
-        (p : PlacedAs (with_last out last) i e new r) where
-      pub longer_next : (j : ℕ) (t : State) (l : ℕ) → r ≡ At j t l → Filling rlgr3 4097 B (with_last new l) t j × (i < j)
-      longer_next j t l g = go e q p
-        where
-          on :
-              (all : List ℤ) (k : ℕ) (s : State) → Stored all new k s r → Filling rlgr3 4097 B all s k × (i < k) →
-              Filling rlgr3 4097 B (with_last new l) t j × (i < j)
-          on all k s d f =
-              let x = sym g ∙ d.next in
-              rw (at_j x, at_s x, at_l x, d.all) f
+    module _ (h : i < 4097) where
+      pub longer_next :
+          (e : Element) → Ok e ≡ elem_of rlgr3 c.kp c.krp (4097 - i) c.at B → (new : List ℤ) (r : ℕ × State × ℕ) →
+          PlacedAs (with_last out last) i e new r → Filling rlgr3 4097 B (with_last new r.2) r.1 r.0 × (i < r.0)
+      longer_next e q new r p = rw (p.stored, p.state, p.next) (filling_next rlgr3 4097 B (with_last out last) c i w h e q)
 
-          go : (e : Element) → e ≡ elem_of rlgr3 c.kp c.krp (4097 - i) c.at B → PlacedAs (with_last out last) i e new r →
-              Filling rlgr3 4097 B (with_last new l) t j × (i < j)
-          go (Refused k) q p = let z : ◌≡◌ {A = ℕ} 0 1 = cc in absurd (omega arith)
-          go (Zeros z s) q p = on _ _ s p (filling_next rlgr3 4097 B (with_last out last) c i w h (Zeros z s) q (min 4097 (i + z)) s refl)
-          go (One z v s) q p = on _ _ s p (filling_next rlgr3 4097 B (with_last out last) c i w h (One z v s) q (i + z + 1) s refl)
-          go (Two a b s) q p = on _ _ s p (filling_next rlgr3 4097 B (with_last out last) c i w h (Two a b s) q (min 4097 (i + 2)) s refl)
-
-      pub longer_bad : r ≡ No → (k : Refusal) × (read_list rlgr3 4097 B ≡ bad k)
-      longer_bad g = go e q p
-        where
-          go : (e : Element) → e ≡ elem_of rlgr3 c.kp c.krp (4097 - i) c.at B → PlacedAs (with_last out last) i e new r →
-              (k : Refusal) × (read_list rlgr3 4097 B ≡ bad k)
-          go (Refused k) q p = (k, filling_bad rlgr3 4097 B (with_last out last) c i w h (Refused k) q k refl)
-          go (Zeros z s) q p = let n = p.next in let z : ◌≡◌ {A = ℕ} 0 1 = cc in absurd (omega arith)
-          go (One z v s) q p = let n = p.next in let z : ◌≡◌ {A = ℕ} 0 1 = cc in absurd (omega arith)
-          go (Two a b s) q p = let n = p.next in let z : ◌≡◌ {A = ℕ} 0 1 = cc in absurd (omega arith)
+      pub longer_bad : (k : Refusal) → Err k ≡ elem_of rlgr3 c.kp c.krp (4097 - i) c.at B → read_list rlgr3 4097 B ≡ bad k
+      longer_bad k q = filling_bad rlgr3 4097 B (with_last out last) c i w h k q
 
 -- what filling said, by its answer
 
-module _ (w : Walked) (after : List ℤ) (r : Filled) (f : FilledAs w after r) where
-  pub filled_whole : (at last : ℕ) → r ≡ Whole at last → w ≡ whole (map fold_z after ++ (last ∷ [])) at
+module _ (w : Walked) (after : List ℤ) (r : Result (ℕ × ℕ) Refusal) (f : FilledAs w after r) where
+  pub filled_whole : (at last : ℕ) → r ≡ Ok (at, last) → w ≡ whole (map fold_z after ++ (last ∷ [])) at
   filled_whole at last e = rw e at f
 
-  pub filled_bad : r ≡ Bad → (q : Refusal) × (w ≡ bad q)
-  filled_bad e = rw e at f
+  pub filled_bad : (q : Refusal) → r ≡ Err q → w ≡ bad q
+  filled_bad q e = rw e at f
 
 -- ---- the answer
 

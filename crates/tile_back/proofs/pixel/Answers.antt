@@ -4,10 +4,10 @@ use Rattle.tile_back.specs.laws.Word.{plane_near, word_there}
 use Rattle.tile_back.proofs.pixel.Goals as goal
 
 pub word-requires : goal.word-requires
-word-requires c =
+word-requires g c =
     let i = c.args.i in
     (plane_near _ i c.requires.1, plane_near _ i c.requires.2, plane_near _ i c.requires.3)
 
 pub returns : goal.returns
-returns c =
-    c.word.ensures ∙ word_there 0 _ _ _ c.args.i c.requires.1 c.requires.2 c.requires.3
+returns g c =
+    c.word.ensures ∙ word_there _ _ _ _ c.args.i c.requires.1 c.requires.2 c.requires.3

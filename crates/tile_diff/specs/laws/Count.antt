@@ -1,8 +1,10 @@
 -- Laws on the counts of a row: what the functions of `count` do, step by step.
-use Rattle.std.specs.Prelude.{ℕ, zero, suc, ◌+◌, ◌*◌, ◌-◌, ◌/◌, ◌≤◌, ◌<◌, ◌≡◌, refl, Bool, true, false, List, length, get_or, set, ltb}
+use Rattle.std.specs.Prelude.{ℕ, zero, suc, ◌+◌, ◌*◌, ◌-◌, ◌/◌, ◌≤◌, ◌<◌, ◌≡◌, refl, Bool, true, false, List, length, get_or, set, ltb, min, Some, None}
 use Rattle.std.proofs.Common.{ap, sym, ◌∙◌, arith, add-one, mul-le-mul, length-set, lt-ltb, le-ltb}
 use Rattle.std.proofs.Math.ListN.{get_or-eq_default}
+use Rattle.std.proofs.Math.Decide.{dec_lt}
 use Rattle.std.proofs.Math.Seq.{set_out}
+use Rattle.std.proofs.lemmas.List.{set-get_or}
 use Rattle.wire.specs.Le.{le16}
 use Rattle.whole.specs.Row.{◌!◌⨾◌, ◌⇒◌∣◌}
 use Rattle.whole.specs.laws.Row.{passes, fails, case_yes, case_no, ne_is, eq_is}
@@ -11,7 +13,6 @@ use Rattle.tile_diff.specs.Tiles.{words_of, not_same, line_of}
 use Rattle.tile_diff.specs.Counts.{one_more, counted_if, columns_counted, next_of, next_tile}
 use Rattle.tile_diff.specs.laws.Words.{word_at}
 use Rattle.tile_diff.specs.declared.count.Line.{Line}
-use Rattle.tile_diff.specs.declared.count.Next.TheVariants.{Tile, End}
 
 -- numbers of tiles are small
 pub small_product : {a b : ℕ} → a ≤ 1024 → b ≤ 1024 → a * b ≤ 1048576
@@ -44,6 +45,16 @@ pub more_out : (cs : List ℕ) (k : ℕ) → length cs ≤ k → cs ≡ one_more
 more_out cs k h =
     let z : get_or cs k 0 ≡ 0 = get_or-eq_default cs 0 h in
     sym (set_out cs k (get_or cs k 0 + 1) h) ∙ more_in cs k (omega arith)
+
+-- the count held at the largest
+pub more_held : (cs : List ℕ) (k : ℕ) → get_or cs k 0 ≤ 4294967295 → set cs k (min (get_or cs k 0 + 1) 4294967295) ≡ one_more k cs
+more_held cs k l = by (dec_lt (get_or cs k 0) 4294967295)
+  where
+    by : Dec (get_or cs k 0 < 4294967295) → set cs k (min (get_or cs k 0 + 1) 4294967295) ≡ one_more k cs
+    by (yes h) = let e : min (get_or cs k 0 + 1) 4294967295 ≡ get_or cs k 0 + 1 = omega arith in rw e (more_in cs k h)
+    by (no h) =
+        let e : min (get_or cs k 0 + 1) 4294967295 ≡ get_or cs k 0 = omega arith in
+        rw e (set-get_or cs k 0 ∙ more_full cs k (omega arith))
 
 pub more_length : (k : ℕ) (cs : List ℕ) → length (one_more k cs) ≡ length cs
 unfolding one_more ◌!◌⨾◌
@@ -98,12 +109,12 @@ columns_done ps qs w y x to cs e f = f ∙ ap (λ (n : ℕ). columns_counted ps 
 
 -- ---- the next tile
 
-pub next_none : (cs : List ℕ) (columns m k : ℕ) → m ≡ 0 → End ≡ next_of cs columns m k
+pub next_none : (cs : List ℕ) (columns m k : ℕ) → m ≡ 0 → None ≡ next_of cs columns m k
 unfolding next_of
 next_none cs columns m k e = rw e
 
 -- the tile at k differs
-pub next_here : (cs : List ℕ) (columns all k : ℕ) → k < all → 0 < get_or cs k 0 → Tile k (line_of columns k (get_or cs k 0)) ≡ next_of cs columns (all - k) k
+pub next_here : (cs : List ℕ) (columns all k : ℕ) → k < all → 0 < get_or cs k 0 → Some (k, line_of columns k (get_or cs k 0)) ≡ next_of cs columns (all - k) k
 unfolding next_of
 next_here cs columns all k h p =
     let e : all - k ≡ suc (all - (k + 1)) = omega arith in
@@ -121,9 +132,9 @@ pub next_found :
     → 0 < n
     → n ≡ get_or cs k 0
     → l ≡ line_of columns k n
-    → Tile k l ≡ next_of cs columns (all - k) k
+    → Some (k, l) ≡ next_of cs columns (all - k) k
 next_found cs columns all k h p e f =
-    ap (λ (l : Line). Tile k l) (f ∙ ap (line_of columns k) e) ∙ next_here cs columns all k h (rw e at p)
+    ap (λ (l : Line). Some (k, l)) (f ∙ ap (line_of columns k) e) ∙ next_here cs columns all k h (rw e at p)
 
 -- the walk of `next_tile` from its first tile on
 pub next_from :

@@ -2,7 +2,7 @@
 use Prim.Native.Nat.{ℕ, zero, suc, ◌+◌, ◌*◌, ◌-◌, ◌/◌, ◌%◌, ◌≤◌, ◌<◌}
 use Rattle.std.proofs.Math.Path.{◌≡◌, refl}
 use Rattle.std.proofs.Common.{ap, sym, subst, ◌∙◌, ⊎_elim, div-add-mod'}
-use Rattle.std.specs.Prelude.{◌≢◌, Bool, get_or, ltb}
+use Rattle.std.specs.Prelude.{◌≢◌, Bool, get_or, ltb, Option, Some, None}
 use Rattle.std.proofs.Math.Bool.{true, false}
 use mathlib.Core.List.Memᴰ
 use mathlib.Core.List.{List, [], ◌∷◌, Memᴰ}
@@ -16,8 +16,6 @@ use Rattle.tile_diff.specs.Tiles.{line_of, lines_of}
 use Rattle.tile_diff.specs.Counts.{next_of, next_tile}
 use Rattle.tile_diff.specs.Request.{Asked, none, more, is_of, times_in, RowByRow, end, next}
 use Rattle.tile_diff.specs.declared.count.Line.{Line}
-use Rattle.tile_diff.specs.declared.count.Next.{Next}
-use Rattle.tile_diff.specs.declared.count.Next.TheVariants.{Tile, End}
 
 -- lines depend on the counts of their tiles only
 pub lines_same : (f g : ℕ → ℕ) (c m k : ℕ) → ((j : ℕ) → j < k + m → f j ≡ g j) → lines_of f c m k ≡ lines_of g c m k
@@ -134,20 +132,26 @@ rising f c (suc m) k = rising_more c k (f k) (lines_of f c m (k + 1)) (ltb 0 (f 
 
 -- ---- asked for one after the other
 
+-- a tile is told with its line
+told : {k j : ℕ} {a b : Line} → ◌≡◌ {A = Option (ℕ × Line)} (Some (k, a)) (Some (j, b)) → (k ≡ j) × (a ≡ b)
+told {k} {j} {a} {b} e =
+    let both : ◌≡◌ {A = ℕ × Line} (k, a) (j, b) = cc in
+    (ap (λ (t : ℕ × Line). t.0) both, ap (λ (t : ℕ × Line). t.1) both)
+
 module _ (cs : List ℕ) (c : ℕ) where
   abbrev count : ℕ → ℕ
   count k = get_or cs k 0
 
   end_more :
-      (k : ℕ) (ls : List Line) (x : Next) (t : Bool)
-      → (x ≡ End → ls ≡ [])
-      → (t ⇒ Tile k (line_of c k (count k)) ∣ x) ≡ End
+      (k : ℕ) (ls : List Line) (x : Option (ℕ × Line)) (t : Bool)
+      → (x ≡ None → ls ≡ [])
+      → (t ⇒ Some (k, line_of c k (count k)) ∣ x) ≡ None
       → (t ⇒ line_of c k (count k) ∷ ls ∣ ls) ≡ []
   unfolding ◌⇒◌∣◌
   end_more k ls x true r e = let z : ◌≡◌ {A = ℕ} 0 1 = cc in absurd (omega arith)
   end_more k ls x false r e = r e
 
-  pub end_lines : (m k : ℕ) → next_of cs c m k ≡ End → lines_of count c m k ≡ []
+  pub end_lines : (m k : ℕ) → next_of cs c m k ≡ None → lines_of count c m k ≡ []
   unfolding next_of lines_of
   end_lines zero k e = refl
   end_lines (suc m) k e = end_more k (lines_of count c m (k + 1)) (next_of cs c m (k + 1)) (ltb 0 (count k)) (end_lines m (k + 1)) e
@@ -157,19 +161,18 @@ module _ (cs : List ℕ) (c : ℕ) where
   Found all ls j l = (ls ≡ l ∷ lines_of count c (all - (j + 1)) (j + 1))
 
   found_more :
-      (all k j : ℕ) (l : Line) (ls : List Line) (x : Next) (t : Bool)
+      (all k j : ℕ) (l : Line) (ls : List Line) (x : Option (ℕ × Line)) (t : Bool)
       → ls ≡ lines_of count c (all - (k + 1)) (k + 1)
-      → (x ≡ Tile j l → Found all ls j l)
-      → (t ⇒ Tile k (line_of c k (count k)) ∣ x) ≡ Tile j l
+      → (x ≡ Some (j, l) → Found all ls j l)
+      → (t ⇒ Some (k, line_of c k (count k)) ∣ x) ≡ Some (j, l)
       → Found all (t ⇒ line_of c k (count k) ∷ ls ∣ ls) j l
   unfolding ◌⇒◌∣◌
   found_more all k j l ls x true s r e =
-      let q : k ≡ j = cc in
-      let p : line_of c k (count k) ≡ l = cc in
-      rw (p, s, q)
+      let t = told e in
+      rw (t.1, s, t.0)
   found_more all k j l ls x false s r e = r e
 
-  pub found_lines : (all m k j : ℕ) (l : Line) → k + m ≡ all → next_of cs c m k ≡ Tile j l → Found all (lines_of count c m k) j l
+  pub found_lines : (all m k j : ℕ) (l : Line) → k + m ≡ all → next_of cs c m k ≡ Some (j, l) → Found all (lines_of count c m k) j l
   unfolding next_of lines_of
   found_lines all zero k j l s e = let z : ◌≡◌ {A = ℕ} 0 1 = cc in absurd (omega arith)
   found_lines all (suc m) k j l s e =
@@ -179,29 +182,33 @@ module _ (cs : List ℕ) (c : ℕ) where
 
   -- a tile that is found lies below the end
   below_more :
-      (all k j : ℕ) (l : Line) (x : Next) (t : Bool)
+      (all k j : ℕ) (l : Line) (x : Option (ℕ × Line)) (t : Bool)
       → k < all
-      → (x ≡ Tile j l → j < all)
-      → (t ⇒ Tile k (line_of c k (count k)) ∣ x) ≡ Tile j l
+      → (x ≡ Some (j, l) → j < all)
+      → (t ⇒ Some (k, line_of c k (count k)) ∣ x) ≡ Some (j, l)
       → j < all
   unfolding ◌⇒◌∣◌
-  below_more all k j l x true h r e = let q : k ≡ j = cc in omega arith
+  below_more all k j l x true h r e = let q = (told e).0 in omega (arith, q)
   below_more all k j l x false h r e = r e
 
-  pub found_below : (all m k j : ℕ) (l : Line) → k + m ≡ all → next_of cs c m k ≡ Tile j l → j < all
+  pub found_below : (all m k j : ℕ) (l : Line) → k + m ≡ all → next_of cs c m k ≡ Some (j, l) → j < all
   unfolding next_of
   found_below all zero k j l s e = let z : ◌≡◌ {A = ℕ} 0 1 = cc in absurd (omega arith)
   found_below all (suc m) k j l s e =
       below_more all k j l (next_of cs c m (k + 1)) (ltb 0 (count k)) (omega arith) (found_below all m (k + 1) j l (omega arith)) e
 
 -- and not before the tile that was asked from
-pub found_from : (cs : List ℕ) (c m k j : ℕ) (l : Line) → next_of cs c m k ≡ Tile j l → k ≤ j
+pub found_from : (cs : List ℕ) (c m k j : ℕ) (l : Line) → next_of cs c m k ≡ Some (j, l) → k ≤ j
 unfolding next_of ◌⇒◌∣◌
 found_from cs c zero k j l e = let z : ◌≡◌ {A = ℕ} 0 1 = cc in absurd (omega arith)
 found_from cs c (suc m) k j l e = by (ltb 0 (get_or cs k 0)) (found_from cs c m (k + 1) j l) e
   where
-    by : (t : Bool) → (next_of cs c m (k + 1) ≡ Tile j l → k + 1 ≤ j) → (t ⇒ Tile k (line_of c k (get_or cs k 0)) ∣ next_of cs c m (k + 1)) ≡ Tile j l → k ≤ j
-    by true r e = let q : k ≡ j = cc in omega arith
+    by :
+        (t : Bool)
+        → (next_of cs c m (k + 1) ≡ Some (j, l) → k + 1 ≤ j)
+        → (t ⇒ Some (k, line_of c k (get_or cs k 0)) ∣ next_of cs c m (k + 1)) ≡ Some (j, l)
+        → k ≤ j
+    by true r e = let q = (told e).0 in omega (arith, q)
     by false r e = omega (arith, r e)
 
 pub asked_lines :

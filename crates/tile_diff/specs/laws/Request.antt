@@ -2,7 +2,7 @@
 use Prim.Native.Nat.{ℕ, zero, suc, ◌+◌, ◌*◌, ◌-◌, ◌/◌, ◌%◌, ◌≤◌, ◌<◌}
 use Rattle.std.proofs.Math.Path.{◌≡◌, refl, sym, subst⁻¹}
 use Rattle.std.proofs.Common.{ap, ◌∙◌, ⊎_elim, mod-lt, div-lt_iff_lt-mul, mul_comm, div-add-mod', length-drop}
-use Rattle.std.specs.Prelude.{◌⊎◌, Bool, length, take, drop, leb, ltb}
+use Rattle.std.specs.Prelude.{◌⊎◌, Bool, length, take, drop, leb, ltb, Option, Some, None}
 use Rattle.std.proofs.Math.Bool.{true, false}
 use mathlib.Core.List.{List, [], ◌∷◌, Memᴰ}
 use native.Mathlib.Omega.{arith}
@@ -27,8 +27,6 @@ use Rattle.tile_diff.specs.laws.Cases.{cases}
 use Rattle.tile_diff.specs.laws.Picture.{counts, row_at, row_places, places_count, count_differs, many_none}
 use Rattle.tile_diff.specs.laws.Listed.{lines_same, lines_none, times_once, shown_only, rising, asked_lines, found_from}
 use Rattle.tile_diff.specs.declared.count.Line.{Line}
-use Rattle.tile_diff.specs.declared.count.Next.{Next}
-use Rattle.tile_diff.specs.declared.count.Next.TheVariants.{Tile, End}
 use Rattle.tile_diff.specs.declared.pic.Pic.{Pic}
 use Rattle.tile_diff.specs.declared.pic.Verdict.TheVariants.{Bad, Size, Tiles}
 
@@ -305,9 +303,9 @@ module _ (cs : List ℕ) (w h : ℕ) where
       record { ls = []; asked = none (sym (next_none cs (tiles_over w) (tiles_over w * tiles_over h - k) k e)) }
   ask (suc n) k l = by (next_tile cs w h k) refl (λ j m. ask n (j + 1) m)
     where
-      by : (x : Next) → next_tile cs w h k ≡ x → ((j : ℕ) → tiles_over w * tiles_over h - (j + 1) ≤ n → Answers cs w h (j + 1)) → Answers cs w h k
-      by End e r = record { ls = []; asked = none e }
-      by (Tile j m) e r =
+      by : (x : Option (ℕ × Line)) → next_tile cs w h k ≡ x → ((j : ℕ) → tiles_over w * tiles_over h - (j + 1) ≤ n → Answers cs w h (j + 1)) → Answers cs w h k
+      by None e r = record { ls = []; asked = none e }
+      by (Some (j, m)) e r =
           let f : k ≤ j = found_from cs (tiles_over w) (tiles_over w * tiles_over h - k) k j m e in
           let i = r j (omega arith) in
           record { ls = m ∷ i.ls; asked = more e i.asked }

@@ -7,36 +7,28 @@ use Rattle.tile_forth.specs.laws.TileForth.{Loaded, loaded_none, loaded_list, lo
 use Rattle.tile_forth.proofs.load.Goals as goal
 
 pub loop-j-init : goal.loop-j-init
-loop-j-init c = (omega arith, loaded_none _ _ c.requires.7)
+loop-j-init c = loaded_none _ _ c.requires.7
 
 pub load_row-requires : goal.load_row-requires
 load_row-requires c =
     let loop = c.loop-j in
     let p = c.requires in
-    record { le_w = (p.0, p.1, p.2, p.3, p.4, p.5, p.6); j_bound = (c.loop-j-test.true, loop.invariant.1) }
-
-pub overflow_add-j : goal.overflow_add-j
-overflow_add-j c = omega (arith, c.loop-j-test.true)
-
-pub loop-j-smaller : goal.loop-j-smaller
-loop-j-smaller c =
-    let loop-test = c.loop-j-test in
-    omega (arith, loop-test.true)
+    record { le_w = (p.0, p.1, p.2, p.3, p.4, p.5, p.6); j_bound = (c.loop-j-test.true, loop.invariant) }
 
 pub loop-j-preserved : goal.loop-j-preserved
 loop-j-preserved c =
     let loop-test = c.loop-j-test in
-    (omega (arith, loop-test.true), c.load_row.ensures)
+    c.load_row.ensures
 
 pub shape_of-work : goal.shape_of-work
 shape_of-work c =
     let pre = c.requires in
-    c.loop-j.invariant.1.len ∙ sym pre.7
+    c.loop-j.invariant.len ∙ sym pre.7
 
 pub returns : goal.returns
 returns c =
     let a = c.args in
     let l = c.loop-j in
-    let n : 64 * l.j ≡ 4096 = omega (arith, c.loop-j-test.false, l.invariant.0) in
-    let d = subst (λ (i : ℕ). Loaded (sample_at a.pixels.now a.w a.h a.tx a.ty a.c) i l.work) n l.invariant.1 in
+    let n : 64 * l.j ≡ 4096 = omega (arith, c.loop-j-test.false) in
+    let d = subst (λ (i : ℕ). Loaded (sample_at a.pixels.now a.w a.h a.tx a.ty a.c) i l.work) n l.invariant in
     (loaded_list _ l.work d, loaded_near _ l.work d)

@@ -8,15 +8,6 @@ use Rattle.tile_forth.specs.TileForth.{sample_at}
 use Rattle.tile_forth.specs.laws.TileForth.{Loaded, loaded_more, edge_in, pixel_in, row_sample}
 use Rattle.tile_forth.proofs.load_row.Goals as goal
 
-pub overflow_mul-ty : goal.overflow_mul-ty
-overflow_mul-ty c = omega arith
-
-pub overflow_add-ty : goal.overflow_add-ty
-overflow_add-ty c = omega arith
-
-pub last_or-requires : goal.last_or-requires
-last_or-requires c = omega arith
-
 pub overflow_mul-from : goal.overflow_mul-from
 overflow_mul-from c =
     let args = c.args in
@@ -38,19 +29,7 @@ loop-x-init c =
     let pre = c.requires in
     let a = c.args in
     let e : 64 * a.j ≡ 64 * a.j + 0 = omega arith in
-    (omega arith, subst (λ (i : ℕ). Loaded (sample_at a.pixels.now a.w a.h a.tx a.ty a.c) i a.work.now) e pre.j_bound.1)
-
-pub overflow_mul-tx : goal.overflow_mul-tx
-overflow_mul-tx c = omega arith
-
-pub overflow_add-tx : goal.overflow_add-tx
-overflow_add-tx c = omega arith
-
-pub overflow_mul-tx-in-loop-x : goal.overflow_mul-tx-in-loop-x
-overflow_mul-tx-in-loop-x c = omega arith
-
-pub overflow_add-tx-in-loop-x : goal.overflow_add-tx-in-loop-x
-overflow_add-tx-in-loop-x c = omega arith
+    subst (λ (i : ℕ). Loaded (sample_at a.pixels.now a.w a.h a.tx a.ty a.c) i a.work.now) e pre.j_bound.1
 
 pub column-requires : goal.column-requires
 column-requires c = (c.requires.le_w.0, omega (arith, c.loop-x-test.true))
@@ -107,13 +86,7 @@ bounds-work-j c =
     let loop-test = c.loop-x-test in
     let loop = c.loop-x in
     let pre = c.requires in
-    omega (arith, pre.j_bound.0, loop.invariant.1.len, loop-test.true)
-
-pub overflow_add-x : goal.overflow_add-x
-overflow_add-x c = omega arith
-
-pub loop-x-smaller : goal.loop-x-smaller
-loop-x-smaller c = omega arith
+    omega (arith, pre.j_bound.0, loop.invariant.len, loop-test.true)
 
 pub loop-x-preserved : goal.loop-x-preserved
 loop-x-preserved c =
@@ -128,17 +101,17 @@ loop-x-preserved c =
     let s = row_sample a.pixels.now a.w a.h a.tx a.ty a.c a.j l.x
     (3 * (last_or.result * a.w) + 3 * c.column.result) loop-test.true (cc (last_or.ensures, c.column.ensures)) in
     let m = loaded_more f (64 * a.j + l.x) l.work _ (omega (arith, pre.j_bound.0, loop-test.true)) (b ∙ (c.bytes_at.ensures.0 ∙ s))
-    (subst (Near 16384) (sym b) c.bytes_at.ensures.1) l.invariant.1 in
-    (omega (arith, loop-test.true), rw (← e) m)
+    (subst (Near 16384) (sym b) c.bytes_at.ensures.1) l.invariant in
+    rw (← e) m
 
 pub shape_of-work : goal.shape_of-work
 shape_of-work c =
     let pre = c.requires in
-    c.loop-x.invariant.1.len ∙ sym pre.j_bound.1.len
+    c.loop-x.invariant.len ∙ sym pre.j_bound.1.len
 
 pub returns : goal.returns
 returns c =
     let a = c.args in
     let l = c.loop-x in
-    let e : 64 * a.j + l.x ≡ 64 * (a.j + 1) = omega (arith, c.loop-x-test.false, l.invariant.0) in
-    subst (λ (i : ℕ). Loaded (sample_at a.pixels.now a.w a.h a.tx a.ty a.c) i l.work) e l.invariant.1
+    let e : 64 * a.j + l.x ≡ 64 * (a.j + 1) = omega (arith, c.loop-x-test.false) in
+    subst (λ (i : ℕ). Loaded (sample_at a.pixels.now a.w a.h a.tx a.ty a.c) i l.work) e l.invariant

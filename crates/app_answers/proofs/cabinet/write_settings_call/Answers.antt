@@ -4,4 +4,4 @@ use Rattle.app_answers.proofs.cabinet.write_settings_call.Goals as goal
 
 pub returns : goal.returns
 returns c =
-    settings_said _ _ _ _ _ _ c.fill_bytes.ensures c.write_settings-w.ensures c.writing_length-n.ensures
+    settings_said _ _ _ _ _ _ (c.fill.ensures.after (λ y e. e)) c.write_settings-w.ensures c.count_of-n.ensures

@@ -4,4 +4,4 @@ use Rattle.app_answers.proofs.capabilities.write_ack_cap_call.Goals as goal
 
 pub returns : goal.returns
 returns c =
-    ack_cap_made _ c.args.out.now _ _ _ c.fill_bytes.ensures c.write_ack_cap-w.ensures
+    ack_cap_made _ c.args.out.now _ _ _ (c.fill.ensures.after (λ y e. e)) c.write_ack_cap-w.ensures

@@ -4,4 +4,4 @@ use Rattle.app_answers.proofs.writers.component_call.Goals as goal
 
 pub returns : goal.returns
 returns c =
-    component_made _ _ c.args.list.now _ _ _ c.fill_list.ensures c.read_component-r.ensures
+    component_made _ _ c.args.list.now _ _ _ (c.fill.ensures.after (λ y e. e)) c.read_component-r.ensures

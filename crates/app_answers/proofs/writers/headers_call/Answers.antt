@@ -4,4 +4,4 @@ use Rattle.app_answers.proofs.writers.headers_call.Goals as goal
 
 pub returns : goal.returns
 returns c =
-    headers_said _ _ _ _ _ _ _ _ c.fill_bytes.ensures c.write_headers-w.ensures c.writing_length-n.ensures
+    headers_said _ _ _ _ _ _ _ _ (c.fill.ensures.after (λ y e. e)) c.write_headers-w.ensures c.count_of-n.ensures

@@ -8,5 +8,5 @@ returns-then-scratch-two c = pair_not _ _ _ _ c.if-scratch-two.true
 
 pub returns : goal.returns
 returns c =
-    short_sent _ _ _ _ _ _ _ _ _ _ _ _ _ _ c.if-scratch-two.false (search rules) c.fill_bytes.ensures c.write_frame_short-w.ensures
-    c.writing_length-n.ensures
+    short_sent _ _ _ _ _ _ _ _ _ _ _ _ _ _ c.if-scratch-two.false (search rules) (c.fill.ensures.after (λ y e. e)) c.write_frame_short-w.ensures
+    c.count_of-n.ensures

@@ -4,4 +4,4 @@ use Rattle.app_answers.proofs.writers.writer_call.Goals as goal
 
 pub returns : goal.returns
 returns c =
-    component_said _ _ _ _ _ _ _ c.fill_bytes.ensures c.write_component-w.ensures c.writing_length-n.ensures
+    component_said _ _ _ _ _ _ _ (c.fill.ensures.after (λ y e. e)) c.write_component-w.ensures c.count_of-n.ensures

@@ -1,7 +1,8 @@
 -- The definition, with one frame more.
+use Rattle.std.proofs.Common.{refl}
 use Rattle.app_calls.specs.Given.{frame_desk}
 use Rattle.app_calls.proofs.given.after_frame.Goals as goal
 
 pub returns : goal.returns
 unfolding frame_desk
-returns c = rw c.wrapping_add_u64.ensures.value
+returns c = refl

@@ -1,41 +1,17 @@
--- What is still to be given comes to all that is given (`scene_given`); the measure is the turns that are left.
-use Rattle.std.proofs.Common.{sym, refl, ◌∙◌, arith, rules}
+-- What is still to be given comes to all that is given (`scene_given`).
+use Rattle.std.proofs.Common.{◌≡◌, ◌+◌, ◌-◌, length, sym, ◌∙◌, arith}
 use Rattle.app_calls.specs.laws.Given.{none_left, at-end, one_more, given_is}
 use Rattle.app_calls.proofs.given.give.Goals as goal
 
-pub loop-turns-init : goal.loop-turns-init
-loop-turns-init c = (refl, refl, refl)
+pub loop-preserved : goal.loop-preserved
+loop-preserved c =
+    let n = length c.args.bytes.now in
+    let k : n - (c.loop.counter + 1) ≡ n - c.loop.counter - 1 = omega arith in
+    rw k (c.loop.invariant ∙ one_more _ _ (n - c.loop.counter) _ _ (omega arith) (omega arith) c.step-e.ensures)
 
-pub overflow_sub-turns : goal.overflow_sub-turns
-overflow_sub-turns c = omega arith
+pub returns-then-bytes-e : goal.returns-then-bytes-e
+returns-then-bytes-e c =
+    at-end _ _ _ _ c.if-bytes-e.true ∙ (sym c.loop.invariant ∙ given_is _ _ _ _ _ _ c.start-e.ensures)
 
-pub loop-turns-smaller : goal.loop-turns-smaller
-loop-turns-smaller c = omega arith
-
-pub loop-turns-preserved : goal.loop-turns-preserved
-loop-turns-preserved c = (
-  search rules,
-  search rules,
-  c.loop-turns.invariant.2
-      ∙ one_more _ _ _ _ _ c.loop-turns-test.true
-      c.if-e-bytes.true c.step-e.ensures,
-)
-
-pub shape_of-store-else-e-bytes : goal.shape_of-store-else-e-bytes
-shape_of-store-else-e-bytes c = c.loop-turns.invariant.0
-
-pub shape_of-picture-else-e-bytes : goal.shape_of-picture-else-e-bytes
-shape_of-picture-else-e-bytes c = c.loop-turns.invariant.1
-
-pub returns-else-e-bytes : goal.returns-else-e-bytes
-returns-else-e-bytes c =
-    at-end _ _ _ _ c.if-e-bytes.false ∙ (sym c.loop-turns.invariant.2 ∙ given_is _ _ _ _ _ _ c.start-e.ensures)
-
-pub shape_of-store-after-loop-turns : goal.shape_of-store-after-loop-turns
-shape_of-store-after-loop-turns c = c.loop-turns.invariant.0
-
-pub shape_of-picture-after-loop-turns : goal.shape_of-picture-after-loop-turns
-shape_of-picture-after-loop-turns c = c.loop-turns.invariant.1
-
-pub returns-after-loop-turns : goal.returns-after-loop-turns
-returns-after-loop-turns c = none_left _ _ _ _ c.loop-turns-test.false ∙ (sym c.loop-turns.invariant.2 ∙ given_is _ _ _ _ _ _ c.start-e.ensures)
+pub returns : goal.returns
+returns c = none_left _ _ (length c.args.bytes.now - c.loop.counter) _ (omega arith) ∙ (sym c.loop.invariant ∙ given_is _ _ _ _ _ _ c.start-e.ensures)

@@ -1,15 +1,13 @@
--- The bytes are copied behind what is there (`put_copy`).
+-- The bytes come back as the text in the part lent, behind what is there (`patched`, `put_copy`).
+use Rattle.std.proofs.Common.{length, refl, ap, sym, ◌∙◌}
+use Rattle.std.proofs.Math.Seq.{take-length}
+use Rattle.wire.specs.Le.{patch}
+use Rattle.wire.specs.laws.Le.{patched}
 use Rattle.app_compare.specs.laws.Text.{put_copy}
-use native.Mathlib.Omega.{arith}
 use Rattle.app_compare.proofs.text.put.Goals as goal
-
-pub copy-requires : goal.copy-requires
-copy-requires c =
-    (c.requires, omega arith)
-
-pub overflow_add-result : goal.overflow_add-result
-overflow_add-result c = omega arith
 
 pub returns : goal.returns
 returns c =
-    put_copy _ _ c.args.text.now c.args.at c.requires c.copy.ensures
+    let a = c.args in
+    let whole = patched a.out.now _ _ a.at (length a.text.now) c.copy_from_slice.ensures.after refl in
+    put_copy _ _ a.text.now a.at c.requires (whole ∙ ap (patch a.out.now a.at) (sym (take-length a.text.now)))

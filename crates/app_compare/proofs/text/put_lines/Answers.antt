@@ -10,28 +10,23 @@ loop-j-init c =
 
 pub put_line-at-requires : goal.put_line-at-requires
 put_line-at-requires c =
-    (lining_next c.loop-j.invariant (sym c.next_tile.ensures ∙ c.in-Tile.is)).room
+    (lining_next c.loop-j.invariant (sym c.next_tile.ensures ∙ c.in-Some.is)).room
 
 pub overflow_add-t : goal.overflow_add-t
 overflow_add-t c =
-    let m = lining_next c.loop-j.invariant (sym c.next_tile.ensures ∙ c.in-Tile.is) in omega (arith, m.few)
+    let m = lining_next c.loop-j.invariant (sym c.next_tile.ensures ∙ c.in-Some.is) in omega (arith, m.few)
 
 pub overflow_add-k : goal.overflow_add-k
 overflow_add-k c =
-    let m = lining_next c.loop-j.invariant (sym c.next_tile.ensures ∙ c.in-Tile.is) in omega (arith, m.below, c.loop-j.invariant.few)
+    let m = lining_next c.loop-j.invariant (sym c.next_tile.ensures ∙ c.in-Some.is) in omega (arith, m.below, c.loop-j.invariant.few)
 
 pub loop-j-smaller : goal.loop-j-smaller
 loop-j-smaller c =
-    (lining_next c.loop-j.invariant (sym c.next_tile.ensures ∙ c.in-Tile.is)).less
+    (lining_next c.loop-j.invariant (sym c.next_tile.ensures ∙ c.in-Some.is)).less
 
 pub loop-j-preserved : goal.loop-j-preserved
 loop-j-preserved c =
-    lining_more c.loop-j.invariant (sym c.next_tile.ensures ∙ c.in-Tile.is) c.put_line-at.ensures.0 c.put_line-at.ensures.1
+    lining_more c.loop-j.invariant (sym c.next_tile.ensures ∙ c.in-Some.is) c.put_line-at.ensures.0 c.put_line-at.ensures.1
 
-pub shape_of-out-in-End : goal.shape_of-out-in-End
-shape_of-out-in-End c =
-    c.loop-j.invariant.len ∙ sym c.requires.1
-
-pub returns-in-End : goal.returns-in-End
-returns-in-End c =
-    lining_all c.loop-j.invariant (sym c.next_tile.ensures ∙ c.in-End.is)
+pub returns : goal.returns
+returns c = lining_all c.loop-j.invariant (sym c.next_tile.ensures ∙ c.in_default.is)

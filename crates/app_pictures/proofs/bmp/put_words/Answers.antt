@@ -1,38 +1,30 @@
--- What is passed is written as bytes (`word_next`); the measure is what is left.
-use Rattle.std.proofs.Common.{refl, arith, rules, le-leb}
-use borrow.Author.Tests.{lt-leb}
-use Rattle.wire.specs.Le.{bytes16}
+-- What is passed is written word by word (`word_next`).
+use Rattle.std.proofs.Common.{length, refl, arith, le-leb}
+use Rattle.std.proofs.lemmas.Bool.{lt-leb}
 use Rattle.whole.specs.laws.Row.{fails, passes}
 use Rattle.app_pictures.specs.Bmp.{put_words}
-use Rattle.app_pictures.specs.laws.Bmp.{words_none, words_all, word_next, each16}
+use Rattle.app_pictures.specs.laws.Bmp.{words_none, words_all, word_next, word_fits}
 use Rattle.app_pictures.proofs.bmp.put_words.Goals as goal
 
-pub returns-then-out-words : goal.returns-then-out-words
+pub returns-then-out-size : goal.returns-then-out-size
 unfolding put_words
-returns-then-out-words c = fails _ _ _ _ (lt-leb _ _ c.if-out-words.true) refl
+returns-then-out-size g c = fails _ _ _ _ (rw (← c.size-size.ensures.0) (lt-leb _ _ c.if-out-size.true)) refl
 
 pub loop-i-init : goal.loop-i-init
-loop-i-init c = (omega arith, refl, words_none 2 bytes16 each16 c.args.words.now _)
+loop-i-init g c = words_none g.W.Word.size g.W.Word.bytes g.met.W.Word.each_bytes c.args.words.now _
 
-pub overflow_mul-i : goal.overflow_mul-i
-overflow_mul-i c = omega arith
-
-pub put16_at-requires : goal.put16_at-requires
-put16_at-requires c = omega arith
-
-pub overflow_add-i : goal.overflow_add-i
-overflow_add-i c = omega arith
-
-pub loop-i-smaller : goal.loop-i-smaller
-loop-i-smaller c = omega arith
+pub put_bytes-requires : goal.put_bytes-requires
+put_bytes-requires g c =
+    let room = word_fits c.size-size.result c.loop-i.i (length c.args.words.now) (length c.args.out.now) (omega arith) (omega arith) c.if-out-size.false in
+    rw (← c.size-size.ensures.0) (omega (arith, room))
 
 pub loop-i-preserved : goal.loop-i-preserved
-loop-i-preserved c =
-    (omega arith, search rules, word_next 2 bytes16 each16 _ _ _ _ _ _ c.put16_at.ensures c.loop-i.invariant.2 c.wide.ensures c.loop-i-test.true)
-
-pub shape_of-out : goal.shape_of-out
-shape_of-out c = c.loop-i.invariant.1
+loop-i-preserved g c =
+    word_next g.W.Word.size g.W.Word.bytes g.met.W.Word.each_bytes _ _ _ _ c.loop-i.i _ _ (rw c.size-size.ensures.0 at c.put_bytes.ensures)
+    c.loop-i.invariant c.index-words-i.is (omega arith)
 
 pub returns : goal.returns
 unfolding put_words
-returns c = passes _ _ _ _ (le-leb _ _ c.if-out-words.false) (words_all 2 bytes16 each16 _ _ _ _ c.loop-i-test.false c.loop-i.invariant.2)
+returns g c =
+    passes _ _ _ _ (rw (← c.size-size.ensures.0) (le-leb _ _ c.if-out-size.false))
+    (words_all g.W.Word.size g.W.Word.bytes g.met.W.Word.each_bytes _ _ _ _ c.loop-i-test.false c.loop-i.invariant)

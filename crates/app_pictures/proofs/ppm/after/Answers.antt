@@ -1,24 +1,24 @@
--- Each return is one row of `after_of`.
+-- Each arm is one row of `after_of`.
 use Rattle.whole.specs.laws.Row.{rows}
 use Rattle.app_pictures.specs.Ppm.{after_of}
 use Rattle.app_pictures.proofs.ppm.after.Goals as goal
 
-pub returns-then-b-eq10 : goal.returns-then-b-eq10
+pub returns-in-Comment : goal.returns-in-Comment
 unfolding after_of
-returns-then-b-eq10 c = search rows
+returns-in-Comment c = rw c.in-Comment.is (search rows)
 
-pub returns-then-state-eq2 : goal.returns-then-state-eq2
+pub returns-in-Comment-2 : goal.returns-in-Comment-2
 unfolding after_of
-returns-then-state-eq2 c = search rows
+returns-in-Comment-2 c = rw c.in-Comment.is (search rows)
 
-pub returns-then-is_blank : goal.returns-then-is_blank
+pub returns-in-Blank : goal.returns-in-Blank
 unfolding after_of
-returns-then-is_blank c = search rows
+returns-in-Blank c = rw c.in-Blank.is (search rows)
 
-pub returns-then-b-eq35 : goal.returns-then-b-eq35
+pub returns-in-Blank-2 : goal.returns-in-Blank-2
 unfolding after_of
-returns-then-b-eq35 c = search rows
+returns-in-Blank-2 c = rw c.in-Blank.is (search rows)
 
-pub returns : goal.returns
+pub returns-in-Blank-3 : goal.returns-in-Blank-3
 unfolding after_of
-returns c = search rows
+returns-in-Blank-3 c = rw c.in-Blank.is (search rows)

@@ -1,9 +1,15 @@
--- One law for each kind of head.
-use Rattle.app_pictures.specs.laws.Ppm.{picture_good, picture_refused}
+-- The head, and then what `sized` says of it.
+use Rattle.std.proofs.Common.{sym, refl}
+use Rattle.std.proofs.lemmas.Result.{err_from_is_err_and}
+use Rattle.app_pictures.specs.Ppm.{picture_of}
 use Rattle.app_pictures.proofs.ppm.read_picture.Goals as goal
 
-pub returns-in-Good : goal.returns-in-Good
-returns-in-Good c = picture_good _ _ _ _ _ _ c.read_head-h.ensures c.in-Good.is c.sized.ensures
+pub returns-in_err-read_head : goal.returns-in_err-read_head
+unfolding picture_of
+returns-in_err-read_head c =
+    let p = err_from_is_err_and c.from_residual.result c.from_residual.ensures.1 in
+    rw (p.1, p.2, sym c.in_err-read_head.ensures) refl
 
-pub returns-in-Refused : goal.returns-in-Refused
-returns-in-Refused c = picture_refused _ _ _ c.read_head-h.ensures c.in-Refused.is
+pub returns : goal.returns
+unfolding picture_of
+returns c = rw (sym c.in_ok-read_head.ensures) c.sized.ensures

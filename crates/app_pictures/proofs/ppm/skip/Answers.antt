@@ -8,9 +8,9 @@ pub loop-at-init : goal.loop-at-init
 unfolding skip_at
 loop-at-init c = refl
 
-pub returns-then-state-eq0 : goal.returns-then-state-eq0
-returns-then-state-eq0 c =
-    skip_end _ _ _ _ c.loop-at-test.true c.after-state.ensures c.if-state-eq0.true ∙ sym c.loop-at.invariant
+pub returns-in-None : goal.returns-in-None
+returns-in-None c =
+    skip_end _ _ _ c.loop-at-test.true (sym c.in-None.is ∙ c.after.ensures) ∙ sym c.loop-at.invariant
 
 pub overflow_add-at : goal.overflow_add-at
 overflow_add-at c = omega arith
@@ -20,7 +20,7 @@ loop-at-smaller c = omega arith
 
 pub loop-at-preserved : goal.loop-at-preserved
 loop-at-preserved c =
-    c.loop-at.invariant ∙ skip_on _ _ _ _ c.loop-at-test.true c.after-state.ensures c.if-state-eq0.false
+    c.loop-at.invariant ∙ skip_on _ _ _ _ c.loop-at-test.true (sym c.in-Some.is ∙ c.after.ensures)
 
 pub returns : goal.returns
 returns c = skip_none _ _ _ c.loop-at-test.false ∙ sym c.loop-at.invariant

@@ -1,18 +1,17 @@
 -- The stream refused (`both_none`), or the change behind it (`both_is`).
 use borrow.Author.Rules.{rules}
 use native.Mathlib.Omega.{arith}
-use mathlib.Core.Path.{ap}
-use Rattle.app_send.specs.declared.both.Both.{Both}
+use Rattle.std.proofs.lemmas.Result.{err_from_is_err_and}
 use Rattle.app_send.specs.laws.Both.{both_none, both_is}
 use Rattle.app_send.proofs.both.make.Goals as goal
 
-pub returns-then-m-ne0 : goal.returns-then-m-ne0
-returns-then-m-ne0 c =
-    both_none _ _ _ _ _ _ c.make-m.result _ c.make-m.ensures c.if-m-ne0.true (ap (λ (b : Both). b.made) c.nothing.ensures)
+pub returns-in_err-size : goal.returns-in_err-size
+returns-in_err-size c =
+    let p = err_from_is_err_and c.from_residual.result c.from_residual.ensures.1 in
+    rw (p.1, p.2) (both_none _ _ _ _ _ _ _ c.in_err-size.ensures)
 
 pub change-requires : goal.change-requires
-change-requires c = omega (arith, c.make-m.ensures.fits)
+change-requires c = omega (arith, c.in_ok-size.ensures.fits)
 
 pub returns : goal.returns
-returns c =
-    both_is _ _ _ _ _ _ _ c.make-m.result _ _ c.make-m.ensures c.if-m-ne0.false (search rules) c.next.ensures c.change.ensures
+returns c = both_is _ _ _ _ _ _ _ _ _ _ c.in_ok-size.ensures (search rules) c.next.ensures c.change.ensures

@@ -11,6 +11,6 @@ pub returns-then-s : goal.returns-then-s
 unfolding goes
 returns-then-s c = search rows
 
-pub returns : goal.returns
+pub returns-else-s : goal.returns-else-s
 unfolding goes
-returns c = search rows
+returns-else-s c = search rows

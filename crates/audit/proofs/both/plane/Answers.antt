@@ -23,16 +23,11 @@ returns-then-tmp-ne4096 c = λ z. absurd (omega arith)
 pub returns-then-not-is_good : goal.returns-then-not-is_good
 returns-then-not-is_good c = λ z. absurd (omega arith)
 
-pub component_fault-n-requires : goal.component_fault-n-requires
-component_fault-n-requires c =
-    let if1 = c.if-ours-ne4096 in
-    (if1.false, set (goal.at.component_fault-n-requires c).Else-not-is_good)
+pub component_fault-requires : goal.component_fault-requires
+component_fault-requires c = (c.if-ours-ne4096.false, set (goal.at.component_fault-requires c).Else-not-is_good)
 
-pub samples-m-requires : goal.samples-m-requires
-samples-m-requires c =
-    let if3 = c.if-tmp-ne4096 in
-    let if2 = c.if-plain-ne4096 in
-    (if2.false, if3.false, set ((goal.at.samples-m-requires c).Else-not-is_good))
+pub samples-requires : goal.samples-requires
+samples-requires c = (c.if-plain-ne4096.false, c.if-tmp-ne4096.false, set (goal.at.samples-requires c).Else-not-is_good)
 
 pub returns-then-n-m : goal.returns-then-n-m
 returns-then-n-m c = λ z. absurd (omega arith)
@@ -40,26 +35,23 @@ returns-then-n-m c = λ z. absurd (omega arith)
 pub returns-then-n-ne0 : goal.returns-then-n-ne0
 returns-then-n-ne0 c = λ z. absurd (c.if-n-ne0.true z)
 
-pub samples-requires : goal.samples-requires
-samples-requires c =
-    let if6 = c.if-n-ne0 in
-    let samples = c.samples-m in
-    let f = c.component_fault-n in
-    let if3 = c.if-tmp-ne4096 in
-    let if1 = c.if-ours-ne4096 in
-    (f.auto.work ∙ if1.false, samples.auto.tmp ∙ if3.false, set ((goal.at.samples-requires c).Else-not-is_good), sym if6.false ∙ f.ensures.number)
+pub samples-requires-2 : goal.samples-requires-2
+samples-requires-2 c =
+    let f = c.component_fault in (
+      f.auto.work ∙ c.if-ours-ne4096.false,
+      c.samples.auto.tmp ∙ c.if-tmp-ne4096.false,
+      set (goal.at.samples-requires-2 c).Else-not-is_good,
+      sym c.if-n-ne0.false ∙ (c.number_of-n.ensures ∙ f.ensures.number),
+    )
 
-pub returns-then-same_lists : goal.returns-then-same_lists
-returns-then-same_lists c =
-    let samples2 = c.samples in
-    let if6 = c.if-n-ne0 in
-    let p = c.samples-m in
-    let f = c.component_fault-n in
+pub returns-then-eq : goal.returns-then-eq
+returns-then-eq c =
+    let p = c.samples in
     let a = c.args in
-    let z = sym if6.false ∙ f.ensures.number in
+    let z = sym c.if-n-ne0.false ∙ (c.number_of-n.ensures ∙ c.component_fault.ensures.number) in
     λ y. (
-      ours_plane a.mode a.q.v a.code.now z _ samples2.ensures,
-      plain_plane a.mode a.q.v a.code.now z a.plain.now p.new.work p.result p.ensures,
+      ours_plane a.mode a.q.v a.code.now z _ c.samples-2.ensures,
+      plain_plane a.mode a.q.v a.code.now z a.plain.now p.new.work _ p.ensures,
     )
 
 pub returns : goal.returns

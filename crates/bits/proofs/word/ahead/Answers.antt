@@ -13,8 +13,8 @@ returns-then-s-lt8 c =
 
 pub returns : goal.returns
 returns c =
-    let m = c.least-j.ensures in
+    let m = c.min-j.ensures in
     let b : Bytes c.args.s.now = λ i. omega (arith, c.type_inv.s i) in
-    let far : c.least-j.result + 8 < length c.args.s.now → c.args.at ≤ 8 * c.least-j.result + 7 = λ h. omega (arith, h, m) in
-    let e = ahead_long c.args.s.now c.args.at c.least-j.result _ b c.requires.1 (omega (arith, m)) (omega (arith, m, c.if-s-lt8.false)) far in
+    let far : c.min-j.result + 8 < length c.args.s.now → c.args.at ≤ 8 * c.min-j.result + 7 = λ h. omega (arith, h, m) in
+    let e = ahead_long c.args.s.now c.args.at c.min-j.result _ b c.requires.1 (omega (arith, m)) (omega (arith, m, c.if-s-lt8.false)) far in
     (e (rw (c.four.ensures.0, c.four-2.ensures.0)), high_small _)

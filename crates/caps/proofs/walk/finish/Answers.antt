@@ -1,17 +1,14 @@
 -- `caps::walk::finish` meets its contract: a row for each way out.
 -- Assumes nothing.
-use Rattle.whole.specs.laws.Row.{rows}
-use Rattle.caps.specs.Step.{finish_of}
+use mathlib.Core.Path.{refl, sym}
+use Rattle.whole.specs.laws.Row.{passes, fails}
+use Rattle.caps.specs.Step.{ends}
 use Rattle.caps.proofs.walk.finish.Goals as goal
 
-pub returns-then-s-ne0 : goal.returns-then-s-ne0
-unfolding finish_of
-returns-then-s-ne0 c = search rows
-
-pub returns-then-s-m : goal.returns-then-s-m
-unfolding finish_of
-returns-then-s-m c = search rows
+pub returns-then-not-is_empty : goal.returns-then-not-is_empty
+unfolding ends
+returns-then-not-is_empty c = fails _ _ _ _ (sym c.if-not-is_empty.ensures) refl
 
 pub returns : goal.returns
-unfolding finish_of
-returns c = search rows
+unfolding ends
+returns c = passes _ _ _ _ (sym c.if-not-is_empty.ensures) refl

@@ -4,17 +4,17 @@ use Rattle.whole.specs.laws.Row.{rows}
 use Rattle.caps.specs.Caps.{caps_fault}
 use Rattle.caps.proofs.write.caps_fault.Goals as goal
 
-pub returns-then-n-gt2 : goal.returns-then-n-gt2
+pub returns-then-c-gt2 : goal.returns-then-c-gt2
 unfolding caps_fault
-returns-then-n-gt2 c = search rows
+returns-then-c-gt2 c = search rows
 
-pub returns-then-room-n : goal.returns-then-room-n
+pub returns-then-room-c : goal.returns-then-room-c
 unfolding caps_fault
-returns-then-room-n c = search rows
+returns-then-room-c c = search rows
 
-pub returns-then-modes_good : goal.returns-then-modes_good
+pub returns-then-not-modes_good : goal.returns-then-not-modes_good
 unfolding caps_fault
-returns-then-modes_good c = search rows
+returns-then-not-modes_good c = search rows
 
 pub returns : goal.returns
 unfolding caps_fault

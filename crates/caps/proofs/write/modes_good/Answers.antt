@@ -4,17 +4,17 @@ use Rattle.whole.specs.laws.Row.{rows}
 use Rattle.caps.specs.Caps.{modes_good}
 use Rattle.caps.proofs.write.modes_good.Goals as goal
 
-pub returns-then-n-eq0 : goal.returns-then-n-eq0
+pub returns-then-s-eq0 : goal.returns-then-s-eq0
 unfolding modes_good
-returns-then-n-eq0 c = search rows
+returns-then-s-eq0 c = search rows
 
-pub returns-then-n-eq1 : goal.returns-then-n-eq1
+pub returns-then-s-eq1 : goal.returns-then-s-eq1
 unfolding modes_good
-returns-then-n-eq1 c = search rows
+returns-then-s-eq1 c = search rows
 
-pub returns-then-is_mode : goal.returns-then-is_mode
+pub returns-then-not-is_mode : goal.returns-then-not-is_mode
 unfolding modes_good
-returns-then-is_mode c = search rows
+returns-then-not-is_mode c = search rows
 
 pub returns : goal.returns
 unfolding modes_good

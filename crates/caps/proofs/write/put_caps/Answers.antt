@@ -11,4 +11,4 @@ pub returns : goal.returns
 unfolding bytes16 bytes32 caps_of block_of capset_of
 returns c =
     let w2 = patch_next _ _ _ _ _ _ _ c.put_front.ensures c.put_capset.ensures refl (omega arith) in
-    patch_next _ _ _ _ _ _ _ w2 c.put_entries.ensures refl (omega arith) ∙ patch_front _ _
+    patch_next _ _ _ _ _ _ _ w2 (rw c.entries_in.ensures at c.put_entries.ensures) refl (omega arith) ∙ patch_front _ _

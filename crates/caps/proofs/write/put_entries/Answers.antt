@@ -4,13 +4,13 @@ use native.Mathlib.Omega.{arith}
 use Rattle.caps.specs.laws.Write.{none_put, one_put, two_put}
 use Rattle.caps.proofs.write.put_entries.Goals as goal
 
-pub returns-then-n-eq0 : goal.returns-then-n-eq0
-returns-then-n-eq0 c = none_put _ _ _ _ c.if-n-eq0.true
+pub returns-then-s-eq0 : goal.returns-then-s-eq0
+returns-then-s-eq0 c = none_put _ _ _ _ c.if-s-eq0.true
 
-pub returns-then-n-eq1 : goal.returns-then-n-eq1
-returns-then-n-eq1 c =
-    one_put _ _ _ _ c.if-n-eq0.false _ c.put_entry.ensures c.if-n-eq1.true
+pub returns-then-s-eq1 : goal.returns-then-s-eq1
+returns-then-s-eq1 c =
+    one_put _ _ _ _ c.if-s-eq0.false _ c.put_entry.ensures c.if-s-eq1.true
 
 pub returns : goal.returns
 returns c =
-    two_put _ _ _ _ c.if-n-eq0.false _ c.put_entry.ensures c.if-n-eq1.false _ c.put_entry-2.ensures (omega arith)
+    two_put _ _ _ _ c.if-s-eq0.false _ c.put_entry.ensures c.if-s-eq1.false _ c.put_entry-2.ensures (omega arith)

@@ -1,19 +1,19 @@
 -- `caps::write::write_ack` meets its contract: refused, or written.
 -- Assumes nothing.
-use mathlib.Core.Path.{refl, sym, ◌∙◌}
+use mathlib.Core.Path.{refl}
 use Rattle.wire.specs.Le.{bytes16, bytes32}
+use Rattle.wire.specs.laws.Refusal.{handed_on}
 use Rattle.wire.specs.laws.Wrote.{refused, done}
 use Rattle.caps.specs.Ack.{ack_of}
 use Rattle.caps.specs.laws.Write.{ack_writable}
 use Rattle.caps.proofs.write.write_ack.Goals as goal
 
-pub returns-then-number-ne0 : goal.returns-then-number-ne0
-returns-then-number-ne0 c = refused _ _ _ _ c.ack_fault-number.ensures c.if-number-ne0.true
+pub returns-in_err-ack_fault : goal.returns-in_err-ack_fault
+returns-in_err-ack_fault c = rw (handed_on _ _ c.from_residual.ensures.1) (refused _ _ _ _ c.in_err-ack_fault.ensures)
 
 pub put_ack-requires : goal.put_ack-requires
-put_ack-requires c = (ack_writable _ _ (sym c.if-number-ne0.false ∙ c.ack_fault-number.ensures)).1
+put_ack-requires c = (ack_writable _ _ c.in_ok-ack_fault.ensures).1
 
 pub returns : goal.returns
 unfolding bytes16 bytes32 ack_of
-returns c =
-    done _ _ _ _ _ (sym c.if-number-ne0.false ∙ c.ack_fault-number.ensures) refl c.put_ack.ensures
+returns c = done _ _ _ _ _ c.in_ok-ack_fault.ensures refl c.put_ack.ensures

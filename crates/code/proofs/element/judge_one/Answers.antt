@@ -9,4 +9,4 @@ returns-then-g-gt65534 c = let a = c.args in sym (one_wide a.c.kp a.c.krp _ a.g 
 pub returns : goal.returns
 returns c =
     let a = c.args in
-    sym (one_ok a.c.kp a.c.krp _ a.g a.next _ _ refl c.if-g-gt65534.false c.kp_one-kq.ensures c.kr_after-kr.ensures)
+    sym (one_ok a.c.kp a.c.krp _ a.g a.next _ _ refl c.if-g-gt65534.false c.kp_one-kp.ensures c.kr_after-krp.ensures)

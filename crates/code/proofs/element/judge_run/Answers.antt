@@ -14,5 +14,5 @@ pub returns : goal.returns
 returns c =
     sym
     (let a = c.args in
-    run_one a.c.kp a.c.krp a.left a.z a.sign a.g a.next _ _ (omega arith) (omega arith) c.less-kq.ensures
-    c.kr_after-kr.ensures)
+    run_one a.c.kp a.c.krp a.left a.z a.sign a.g a.next _ _ (omega arith) (omega arith) c.less-kp.ensures
+    c.kr_after-krp.ensures)

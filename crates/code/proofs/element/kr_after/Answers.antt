@@ -16,14 +16,8 @@ returns-else-v-eq1 c =
     let a = c.args in
     omega (arith, c.less.ensures, kr_none a.krp (a.g / 2 ^ (a.krp / 8)) (omega (arith, c.if-v-lt2.true, c.if-v-eq1.false)))
 
-pub returns-then-krp-v : goal.returns-then-krp-v
+pub returns-else-v-lt2 : goal.returns-else-v-lt2
 unfolding kr_after
-returns-then-krp-v c =
+returns-else-v-lt2 c =
     let a = c.args in
-    omega (arith, kr_more a.krp (a.g / 2 ^ (a.krp / 8)) (omega (arith, c.if-v-lt2.false)))
-
-pub returns-else-krp-v : goal.returns-else-krp-v
-unfolding kr_after
-returns-else-krp-v c =
-    let a = c.args in
-    omega (arith, kr_more a.krp (a.g / 2 ^ (a.krp / 8)) (omega (arith, c.if-v-lt2.false)))
+    omega (arith, c.min.ensures, kr_more a.krp (a.g / 2 ^ (a.krp / 8)) (omega (arith, c.if-v-lt2.false)))

@@ -1,7 +1,7 @@
 -- One law for each kind of element; that its values have a place and fit is said by `Fine` (`fine_one`, `fine_two`).
 use native.Mathlib.Omega.{arith}
 use lib.ListN.{length-set}
-use Rattle.code.specs.laws.Place.{fine_one, fine_two, place_no, place_zeros, place_one, place_lone, place_two}
+use Rattle.code.specs.laws.Place.{fine_one, fine_two, place_zeros, place_one, place_lone, place_two}
 use Rattle.code.proofs.read.place.Goals as goal
 
 pub returns-then-list-i : goal.returns-then-list-i
@@ -40,10 +40,6 @@ returns-then-list-i-lt2 c =
 pub unfolded-requires-in-Two-2 : goal.unfolded-requires-in-Two-2
 unfolded-requires-in-Two-2 c =
     (fine_two _ _ _ _ _ _ c.in-Two.is c.requires.2).1 (omega (arith, simp length-set at c.if-list-i-lt2.false))
-
-pub returns-in-Refused : goal.returns-in-Refused
-returns-in-Refused c =
-    place_no c.args.list.now c.args.i c.args.e _ c.in-Refused.is
 
 pub returns-else-list-i : goal.returns-else-list-i
 returns-else-list-i c = place_zeros c.args.list.now _ _ _ _ _ c.in-Zeros.is (omega arith)

@@ -4,26 +4,19 @@ use mathlib.Core.Bool.{false}
 use mathlib.Core.Path.{sym, ◌∙◌}
 use lib.ListN.{length}
 use Rattle.bits.specs.Bits.{num_bits}
-use Rattle.code.specs.laws.Quick.{first_fine, first_inside, first_turns}
+use Rattle.code.specs.laws.Quick.{first_storable, first_turns}
 use Rattle.code.specs.laws.Steps.{elem_low_one}
 use Rattle.code.proofs.read.quick_single.Goals as goal
 
-pub place-requires : goal.place-requires
-place-requires c =
+pub keep-requires : goal.keep-requires
+keep-requires c =
     let a = c.args in
     let q = elem_low_one a.c.kp a.c.krp (length a.list.now - a.i) 0 (num_bits 57 a.w) c.requires.1 in
-    first_fine false a.w a.list.now a.c a.i c.requires.0 _ (c.single_in-e.ensures ∙ sym q)
-
-pub onward-requires : goal.onward-requires
-onward-requires c =
-    let a = c.args in
-    let q = elem_low_one a.c.kp a.c.krp (length a.list.now - a.i) 0 (num_bits 57 a.w) c.requires.1 in
-    first_inside false a.w a.list.now a.c a.i c.requires.0 _ (c.single_in-e.ensures ∙ sym q) _ c.place.ensures.0
+    first_storable false a.w a.list.now a.c a.i c.requires.0 _ (c.single_in.ensures ∙ sym q)
 
 pub returns : goal.returns
 returns c =
-    let p = c.place in
+    let k = c.keep in
     let a = c.args in
     let q = elem_low_one a.c.kp a.c.krp (length a.list.now - a.i) 0 (num_bits 57 a.w) c.requires.1 in
-    first_turns false a.w a.list.now a.c a.i c.requires.0 _ (c.single_in-e.ensures ∙ sym q) _ p.ensures.0 _ _ p.ensures.1
-    c.onward.ensures
+    first_turns false a.w a.list.now a.c a.i c.requires.0 _ (c.single_in.ensures ∙ sym q) k.new.list k.result k.ensures

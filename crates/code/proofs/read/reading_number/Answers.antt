@@ -1,5 +1,5 @@
 -- Each way of the match is a row of `reading_number`.
-use mathlib.Core.Path.{ap, sym}
+use mathlib.Core.Path.{ap, sym, ◌∙◌}
 use Rattle.code.specs.Read.{reading_number}
 use Rattle.code.proofs.read.reading_number.Goals as goal
 
@@ -13,4 +13,4 @@ returns-in-Tail c = sym (ap reading_number c.in-Tail.is)
 
 pub returns-in-Refused : goal.returns-in-Refused
 unfolding reading_number
-returns-in-Refused c = sym (ap reading_number c.in-Refused.is)
+returns-in-Refused c = c.number.ensures ∙ sym (ap reading_number c.in-Refused.is)

@@ -3,7 +3,6 @@ use mathlib.Core.Path.{◌≡◌, ◌∙◌}
 use native.Mathlib.Omega.{arith}
 use lib.ListN.{length}
 use Rattle.bits.specs.Bits.{bits_of}
-use Rattle.code.specs.laws.Filling.{filling_end}
 use Rattle.code.specs.laws.Quick.{filling_long, quick_next, quick_same}
 use Rattle.code.proofs.read.rush.Goals as goal
 
@@ -21,18 +20,18 @@ quick_turn-requires c =
       filling_long a.rlgr3 (length a.list.now) (bits_of a.s.now) l.list l.c l.i l.invariant.0,
     )
 
-pub shape_of-list-in-Not : goal.shape_of-list-in-Not
-shape_of-list-in-Not c =
+pub shape_of-list-in-None : goal.shape_of-list-in-None
+shape_of-list-in-None c =
     c.quick_turn.auto.list ∙ c.loop-i.invariant.0.clear.len
 
-pub returns-in-Not : goal.returns-in-Not
-returns-in-Not c =
+pub returns-in-None : goal.returns-in-None
+returns-in-None c =
     let l = c.loop-i in
     let a = c.args in
     let t = c.quick_turn in
     let same =
     quick_same a.rlgr3 (bits_of a.s.now) l.list l.c l.i (length a.list.now) t.new.list t.result l.invariant.0 t.ensures in
-    (same c.in-Not.is, l.invariant.1, c.loop-i-test.true)
+    (same c.in-None.is, l.invariant.1)
 
 pub loop-i-smaller : goal.loop-i-smaller
 loop-i-smaller c =
@@ -42,7 +41,7 @@ loop-i-smaller c =
     let r =
     quick_next a.rlgr3 (bits_of a.s.now) l.list l.c l.i (length a.list.now) t.new.list t.result l.invariant.0
     t.ensures in
-    omega (arith, (r _ _ c.in-At.is).1, c.loop-i-test.true)
+    omega (arith, (r _ _ c.in-Some.is).1, c.loop-i-test.true)
 
 pub loop-i-preserved : goal.loop-i-preserved
 loop-i-preserved c =
@@ -51,14 +50,11 @@ loop-i-preserved c =
     let t = c.quick_turn in
     let r =
     quick_next a.rlgr3 (bits_of a.s.now) l.list l.c l.i (length a.list.now) t.new.list t.result l.invariant.0
-    t.ensures _ _ c.in-At.is in
+    t.ensures _ _ c.in-Some.is in
     (r.0, omega (arith, r.1, l.invariant.1))
 
 pub shape_of-list : goal.shape_of-list
 shape_of-list c = c.loop-i.invariant.0.clear.len
 
 pub returns : goal.returns
-returns c =
-    let l = c.loop-i in
-    let a = c.args in
-    filling_end a.rlgr3 (length a.list.now) (bits_of a.s.now) l.list l.c l.i c.loop-i-test.false l.invariant.0
+returns c = c.loop-i.invariant

@@ -2,8 +2,6 @@
 use Prim.Native.Nat.{◌-◌, ◌/◌, ◌%◌}
 use native.Mathlib.Omega.{arith}
 use lib.ListN.{length}
-use Rattle.bits.specs.Bits.{gr_bits}
-use Rattle.bits.specs.Pen.{PutWide}
 use Rattle.bits.specs.laws.Gr.{gr_len}
 use Rattle.bits.specs.laws.Pen.{put_more, ready_after}
 use Rattle.code.specs.Code.{run_bits}
@@ -31,28 +29,6 @@ put-q-requires c =
       (head_fits (a.kp / 8) a.z a.v (omega (arith, c.requires.1)) c.requires.3).1,
     )
 
-pub put-requires : goal.put-requires
-put-requires c =
-    let a = c.args in
-    let h = c.put-q in
-    let w = head_put (a.kp / 8) a.z a.v (omega (arith, c.requires.1)) c.requires.3 _ _ a.p h.result h.ensures in
-    let b = head_bits (a.kp / 8) a.z (a.v % 2) in (
-      ready_after a.out.now h.new.out a.p h.result (length (run_bits a.kp a.krp a.z a.v)) _ b c.requires.0.room w
-          (omega (arith, run_length a.kp a.krp a.z a.v, head_length (a.kp / 8) a.z (a.v % 2))),
-      omega (arith, c.requires.2, c.if-u-lt22.true),
-      c.gr_word.ensures.1,
-    )
-
-pub returns-then-u-lt22 : goal.returns-then-u-lt22
-returns-then-u-lt22 c =
-    let a = c.args in
-    let h = c.put-q in
-    let g = c.put in
-    let w = head_put (a.kp / 8) a.z a.v (omega (arith, c.requires.1)) c.requires.3 _ _ a.p h.result h.ensures in
-    let u = c.gr_word in
-    let t : PutWide h.new.out h.result g.new.out g.result (gr_bits (a.krp / 8) ((a.v - 1) / 2)) = rw (← u.ensures.0) g.ensures in
-    rw (← run_parts a.kp a.krp a.z a.v) (put_more a.out.now h.new.out g.new.out a.p h.result g.result _ _ w t)
-
 pub put_gr-requires : goal.put_gr-requires
 put_gr-requires c =
     let a = c.args in
@@ -61,7 +37,7 @@ put_gr-requires c =
     let b = head_bits (a.kp / 8) a.z (a.v % 2) in (
       ready_after a.out.now h.new.out a.p h.result (length (run_bits a.kp a.krp a.z a.v)) (gr_len (a.krp / 8) ((a.v - 1) / 2)) b
           c.requires.0.room w (omega (arith, run_length a.kp a.krp a.z a.v, head_length (a.kp / 8) a.z (a.v % 2))),
-      omega (arith, c.requires.2),
+      c.requires.2,
     )
 
 pub returns : goal.returns

@@ -27,9 +27,9 @@ put-requires c =
     let l = map fold_z a.xs.now in
     let q = shift_one (a.s.kp / 8) (omega (arith, w.kps)) in
     let z = c.zeros_from-z in
-    let r = c.run_end in
+    let r = c.clipped in
     let e = next_full l a.s a.rlgr3 c.requires.1 _ z.result r.result q z.ensures (rw (length-map a.xs.now fold_z) r.ensures)
-    c.if-run_end-i.true in
+    c.if-clipped-i.true in
     (room_of a.rlgr3 a.xs.now _ a.s w _ e _ (is-full a.s.kp a.s.krp _ refl) 1 refl, omega arith, omega arith)
 
 pub overflow_add-result : goal.overflow_add-result
@@ -38,25 +38,25 @@ overflow_add-result c =
     let f : 2 ^ (c.args.s.kp / 8) ≤ 1024 = pow_mono {j = 10} (omega (arith, w.kps)) in
     omega (arith, w.there, w.few, f, shift_one (c.args.s.kp / 8) (omega (arith, w.kps)))
 
-pub returns-then-run_end-i : goal.returns-then-run_end-i
-returns-then-run_end-i c =
+pub returns-then-clipped-i : goal.returns-then-clipped-i
+returns-then-clipped-i c =
     let a = c.args in
     let w = c.requires.0 in
     let l = map fold_z a.xs.now in
     let q = shift_one (a.s.kp / 8) (omega (arith, w.kps)) in
     let z = c.zeros_from-z in
-    let r = c.run_end in
+    let r = c.clipped in
     let e = next_full l a.s a.rlgr3 c.requires.1 _ z.result r.result q z.ensures (rw (length-map a.xs.now fold_z) r.ensures)
-    c.if-run_end-i.true in
+    c.if-clipped-i.true in
     onward_full a.rlgr3 l a.out.now a.s _ _ e c.put.ensures (rw q) c.more.ensures refl
 
 pub overflow_add-i-2 : goal.overflow_add-i-2
 overflow_add-i-2 c =
     let w = c.requires.0 in
-    omega (arith, w.few, c.run_end.ensures, c.if-run_end-i.false)
+    omega (arith, w.few, c.clipped.ensures, c.if-clipped-i.false)
 
 pub folded_at-v-requires : goal.folded_at-v-requires
-folded_at-v-requires c = let w = c.requires.0 in (omega (arith, c.run_end.ensures, c.if-run_end-i.false), w.range)
+folded_at-v-requires c = let w = c.requires.0 in (omega (arith, c.clipped.ensures, c.if-clipped-i.false), w.range)
 
 pub put_run-requires : goal.put_run-requires
 put_run-requires c =
@@ -66,26 +66,26 @@ put_run-requires c =
     let z = c.zeros_from-z in
     let v = c.folded_at-v in
     let q = shift_one (a.s.kp / 8) (omega (arith, w.kps)) in
-    let r = c.run_end in
+    let r = c.clipped in
     let n : r.result ≡ min (length l) (a.s.i + 1 * 2 ^ (a.s.kp / 8) % 2 ^ 64) = rw (length-map a.xs.now fold_z) r.ensures in
-    let h : a.s.i + z.result < r.result = omega (arith, c.if-run_end-i.false) in
+    let h : a.s.i + z.result < r.result = omega (arith, c.if-clipped-i.false) in
     let e = next_run l a.s a.rlgr3 c.requires.1 _ z.result r.result q z.ensures n h v.result v.ensures in (
       room_of a.rlgr3 a.xs.now _ a.s w _ e _ (is_run a.s.kp a.s.krp _ z.result v.result refl) _ refl,
       w.kps,
       w.krs,
-      omega (arith, q, r.ensures, c.if-run_end-i.false),
+      omega (arith, q, r.ensures, c.if-clipped-i.false),
       next_some l a.s a.rlgr3 c.requires.1 _ z.result r.result q z.ensures n h v.result v.ensures,
     )
 
 pub overflow_add-result-2 : goal.overflow_add-result-2
 overflow_add-result-2 c =
     let w = c.requires.0 in
-    omega (arith, w.few, c.run_end.ensures, c.if-run_end-i.false)
+    omega (arith, w.few, c.clipped.ensures, c.if-clipped-i.false)
 
 pub overflow_add-result-3 : goal.overflow_add-result-3
 overflow_add-result-3 c =
     let w = c.requires.0 in
-    omega (arith, w.few, c.run_end.ensures, c.if-run_end-i.false)
+    omega (arith, w.few, c.clipped.ensures, c.if-clipped-i.false)
 
 pub overflow_sub-v : goal.overflow_sub-v
 overflow_sub-v c =
@@ -95,10 +95,10 @@ overflow_sub-v c =
     let z = c.zeros_from-z in
     let v = c.folded_at-v in
     let q = shift_one (a.s.kp / 8) (omega (arith, w.kps)) in
-    let r = c.run_end in
+    let r = c.clipped in
     let n : r.result ≡ min (length l) (a.s.i + 1 * 2 ^ (a.s.kp / 8) % 2 ^ 64) = rw (length-map a.xs.now fold_z) r.ensures in
     next_some l a.s a.rlgr3 c.requires.1 _ z.result r.result q z.ensures n
-    (omega (arith, c.if-run_end-i.false)) v.result v.ensures
+    (omega (arith, c.if-clipped-i.false)) v.result v.ensures
 
 pub returns : goal.returns
 returns c =
@@ -108,9 +108,9 @@ returns c =
     let z = c.zeros_from-z in
     let v = c.folded_at-v in
     let q = shift_one (a.s.kp / 8) (omega (arith, w.kps)) in
-    let r = c.run_end in
+    let r = c.clipped in
     let n : r.result ≡ min (length l) (a.s.i + 1 * 2 ^ (a.s.kp / 8) % 2 ^ 64) = rw (length-map a.xs.now fold_z) r.ensures in
-    let h : a.s.i + z.result < r.result = omega (arith, c.if-run_end-i.false) in
+    let h : a.s.i + z.result < r.result = omega (arith, c.if-clipped-i.false) in
     let e = next_run l a.s a.rlgr3 c.requires.1 _ z.result r.result q z.ensures n h v.result v.ensures in
     onward_run a.rlgr3 l a.out.now a.s _ _ z.result v.result e
     c.put_run.ensures (omega arith) c.less.ensures c.kr_after.ensures

@@ -8,8 +8,8 @@ use Rattle.code_write.specs.laws.Item.{is_single}
 use Rattle.code_write.specs.laws.Writing.{room_of, next_single, onward_single}
 use Rattle.code_write.proofs.put.single_turn.Goals as goal
 
-pub put_single-requires : goal.put_single-requires
-put_single-requires c =
+pub put_gr-requires : goal.put_gr-requires
+put_gr-requires c =
     let a = c.args in
     let w = c.requires.0 in
     let v = c.folded_at-v in
@@ -22,4 +22,4 @@ returns c =
     let v = c.folded_at-v in
     let e = next_single (map fold_z a.xs.now) a.s v.result c.requires.1 v.ensures in
     onward_single false (map fold_z a.xs.now) a.out.now a.s _ _ v.result e
-    c.put_single.ensures refl c.kp_one.ensures c.kr_after.ensures
+    c.put_gr.ensures refl c.kp_one.ensures c.kr_after.ensures

@@ -1,33 +1,35 @@
 -- `call::judge_frame` meets its contract: a law of specs/laws/Frame for each of the three ways out.
-use mathlib.Core.Path.{refl, sym, ◌∙◌}
+use mathlib.Core.Path.{refl}
+use Rattle.wire.specs.laws.Refusal.{number_pos, handed_on}
 use Rattle.session.specs.laws.Header.{ready_good}
 use Rattle.frame_draw.specs.laws.Show.{lists_kept}
 use Rattle.frame.specs.laws.Frame.{CallGood, call_good, judged_early, judged_refused, judged_fine}
 use Rattle.frame.proofs.call.judge_frame.Goals as goal
-use Rattle.frame.proofs.call.judge_frame.Goals.{Else-early-ne0}
+use Rattle.frame.proofs.call.judge_frame.Goals.{In_ok-call_judge}
 
 -- the record and the lists, once they are judged
 good :
-    (c : Else-early-ne0) →
+    (c : In_ok-call_judge) →
     let a = c.args in
     CallGood a.word a.s a.p a.ys.now a.cbs.now a.crs.now a.tmp.now
-good c = call_good _ _ _ _ _ _ _ (sym c.if-early-ne0.false ∙ c.call_judge-early.ensures)
+good c = call_good _ _ _ _ _ _ _ c.in_ok-call_judge.ensures
 
-pub returns-then-early-ne0 : goal.returns-then-early-ne0
-returns-then-early-ne0 c = judged_early _ _ _ _ _ _ _ _ _ c.call_judge-early.ensures c.if-early-ne0.true
+pub returns-in_err-call_judge : goal.returns-in_err-call_judge
+returns-in_err-call_judge c =
+    rw (handed_on _ _ c.from_residual.ensures.1) (judged_early _ _ _ _ _ _ _ _ _ c.in_err-call_judge.ensures (number_pos _))
 
-pub message_fault-fault-requires : goal.message_fault-fault-requires
-message_fault-fault-requires c =
-    let g = good (goal.at.message_fault-fault-requires c).Else-early-ne0 in ((ready_good c.args.s g.is-ready).right, g.lists.tmp_len)
+pub message_fault-requires : goal.message_fault-requires
+message_fault-requires c =
+    let g = good (goal.at.message_fault-requires c).In_ok-call_judge in ((ready_good c.args.s g.is-ready).right, g.lists.tmp_len)
 
 pub clear_all-requires : goal.clear_all-requires
 clear_all-requires c =
-    lists_kept _ _ _ _ _ _ _ _ (good (goal.at.clear_all-requires c).Else-early-ne0).lists refl refl refl c.message_fault-fault.auto.work
+    lists_kept _ _ _ _ _ _ _ _ (good (goal.at.clear_all-requires c).In_ok-call_judge).lists refl refl refl c.message_fault.auto.work
 
-pub returns-then-fault-ne0 : goal.returns-then-fault-ne0
-returns-then-fault-ne0 c =
-    judged_refused _ _ _ _ _ _ _ _ _ c.call_judge-early.ensures c.if-early-ne0.false _ _ _ _ _ c.message_fault-fault.ensures c.clear_all.ensures
+pub returns-in-Err : goal.returns-in-Err
+returns-in-Err c =
+    judged_refused _ _ _ _ _ _ _ _ 0 c.in_ok-call_judge.ensures refl _ _ _ _ _ c.in-Err.ensures c.clear_all.ensures
 
 pub returns : goal.returns
 returns c =
-    judged_fine _ _ _ _ _ _ _ _ _ c.call_judge-early.ensures c.if-early-ne0.false _ _ _ _ _ c.message_fault-fault.ensures c.if-fault-ne0.false
+    judged_fine _ _ _ _ _ _ _ _ 0 c.in_ok-call_judge.ensures refl _ _ _ _ 0 c.in_default.ensures refl

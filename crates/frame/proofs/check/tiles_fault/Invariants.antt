@@ -8,9 +8,6 @@ use Rattle.frame.proofs.check.tiles_fault.Given as goal
 
 abbrev pub invariant-loop-i : goal.invariant-loop-i
 invariant-loop-i l =
-    (l.i ≤ l.n) × (l.at ≤ length l.d) × (length l.work ≡ length l.initial.work) ×
+    (l.at ≤ length l.d) × (length l.work ≡ length l.initial.work) ×
     (tiles_fault (in_set l.s.mode l.m l.sp) l.s.width l.s.height l.q l.d l.n 0 ≡ tiles_fault (in_set l.s.mode l.m l.sp) l.s.width l.s.height l.q l.d
     (l.n - l.i) l.at)
-
-abbrev pub decreases-loop-i : goal.decreases-loop-i
-decreases-loop-i l = l.n - l.i

@@ -11,9 +11,9 @@ pub returns-then-room-size : goal.returns-then-room-size
 unfolding block_judge
 returns-then-room-size c = search rows depth 14 fits 20000
 
-pub returns-then-fits : goal.returns-then-fits
+pub returns-then-not-fits : goal.returns-then-not-fits
 unfolding block_judge
-returns-then-fits c = search rows depth 14 fits 20000
+returns-then-not-fits c = search rows depth 14 fits 20000
 
 pub returns : goal.returns
 unfolding block_judge

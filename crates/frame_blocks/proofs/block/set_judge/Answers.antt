@@ -23,9 +23,9 @@ pub returns-then-size-q : goal.returns-then-size-q
 unfolding set_judge
 returns-then-size-q c = search rows depth 14 fits 20000
 
-pub returns-then-is_props : goal.returns-then-is_props
+pub returns-then-not-is_props : goal.returns-then-not-is_props
 unfolding set_judge
-returns-then-is_props c = search rows depth 14 fits 20000
+returns-then-not-is_props c = search rows depth 14 fits 20000
 
 pub returns : goal.returns
 unfolding set_judge

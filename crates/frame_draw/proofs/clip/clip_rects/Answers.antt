@@ -19,12 +19,6 @@ clip_of-requires c = (omega arith, omega arith)
 pub put_clip-requires : goal.put_clip-requires
 put_clip-requires c = let l = c.loop-k.invariant.1 in (omega arith, c.clip_of.ensures.1)
 
-pub overflow_add-k : goal.overflow_add-k
-overflow_add-k c = omega arith
-
-pub loop-k-smaller : goal.loop-k-smaller
-loop-k-smaller c = omega arith
-
 pub loop-k-preserved : goal.loop-k-preserved
 loop-k-preserved c =
     let of = c.clip_of.ensures in
@@ -34,8 +28,5 @@ loop-k-preserved c =
       clips_next _ _ _ _ c.loop-k.k _ _ _ c.part_of-part.ensures of.0 (omega arith) c.put_clip.ensures c.loop-k.invariant.2,
     )
 
-pub shape_of-clips : goal.shape_of-clips
-shape_of-clips c = c.loop-k.invariant.1
-
 pub returns : goal.returns
-returns c = clips_all _ _ _ _ _ _ c.loop-k.invariant.0 c.loop-k-test.false c.loop-k.invariant.2
+returns c = clips_all _ _ _ _ _ _ c.loop-k.invariant.0 (omega arith) c.loop-k.invariant.2

@@ -1,5 +1,5 @@
 -- `clip::clip_rects` meets its contract. Invariant: the first k rectangles are kept.
-use Prim.Native.Nat.{◌≤◌, ◌-◌}
+use Prim.Native.Nat.{◌≤◌}
 use mathlib.Core.Path.{◌≡◌}
 use lib.ListN.{length}
 use Rattle.frame_draw.specs.Clips.{Clips}
@@ -7,6 +7,3 @@ use Rattle.frame_draw.proofs.clip.clip_rects.Given as goal
 
 abbrev pub invariant-loop-k : goal.invariant-loop-k
 invariant-loop-k l = (l.k ≤ l.n) × (length l.clips ≡ length l.initial.clips) × Clips l.rects l.k l.w l.tx l.clips
-
-abbrev pub decreases-loop-k : goal.decreases-loop-k
-decreases-loop-k l = l.n - l.k

@@ -28,17 +28,11 @@ returns-then-rect_covers c =
     let here = some_yes _ _ c.loop-k.k c.loop-k-test.true (sym c.rect_covers.ensures ∙ c.if-rect_covers.true) in
     asked_none _ _ _ _ _ _ _ _ c.last_of-right.ensures c.last_of-bottom.ensures (c.loop-k.invariant.1 ∙ sym here)
 
-pub overflow_add-k : goal.overflow_add-k
-overflow_add-k c = omega arith
-
-pub loop-k-smaller : goal.loop-k-smaller
-loop-k-smaller c = omega arith
-
 pub loop-k-preserved : goal.loop-k-preserved
 loop-k-preserved c =
     (omega arith, c.loop-k.invariant.1 ∙ some_more _ _ c.loop-k.k c.loop-k-test.true (sym c.rect_covers.ensures ∙ c.if-rect_covers.false))
 
 pub returns : goal.returns
 returns c =
-    let none = some_none _ _ c.loop-k.k c.loop-k-test.false in
+    let none = some_none _ _ c.loop-k.k (omega arith) in
     asked_all _ _ _ _ _ _ _ _ c.last_of-right.ensures c.last_of-bottom.ensures (c.loop-k.invariant.1 ∙ sym none)

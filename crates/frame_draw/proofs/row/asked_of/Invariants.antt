@@ -9,6 +9,3 @@ abbrev pub invariant-loop-k : goal.invariant-loop-k
 invariant-loop-k l =
     let on = covers l.rects (64 * l.tx) (64 * l.ty) l.right l.bottom in
     (l.k ≤ l.n) × (some on l.n 0 ≡ some on (l.n - l.k) l.k)
-
-abbrev pub decreases-loop-k : goal.decreases-loop-k
-decreases-loop-k l = l.n - l.k

@@ -30,12 +30,6 @@ pub clip_mask-m-requires : goal.clip_mask-m-requires
 clip_mask-m-requires c =
     clip_room _ _ _ _ _ c.requires.1 _ c.rectangles-test.true
 
-pub overflow_add-k : goal.overflow_add-k
-overflow_add-k c = omega arith
-
-pub rectangles-smaller : goal.rectangles-smaller
-rectangles-smaller c = omega arith
-
 pub rectangles-preserved : goal.rectangles-preserved
 rectangles-preserved c =
     let g = c.rectangles.invariant in
@@ -50,7 +44,7 @@ rectangles-preserved c =
 
 pub returns-after-rectangles : goal.returns-after-rectangles
 returns-after-rectangles c =
-    let all = masked_all _ _ _ _ _ _ _ c.rectangles.invariant.0 c.rectangles-test.false c.rectangles.invariant.1 in
+    let all = masked_all _ _ _ _ _ _ _ c.rectangles.invariant.0 (omega arith) c.rectangles.invariant.1 in
     row_masked _ _ _ _ _ _ (not_none _ c.if-n-eq0.false) all
 
 pub returns-then-m-full : goal.returns-then-m-full

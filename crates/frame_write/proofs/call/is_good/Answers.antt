@@ -1,13 +1,12 @@
--- `is_good` meets its contract: each return is read off the row of `good_sets`. Assumes nothing.
-use mathlib.Core.Path.{refl, sym, ◌∙◌}
-use Rattle.whole.specs.laws.Row.{passes, fails}
+-- The second set is asked where the first is good: the two ways through `good_sets`.
+use Rattle.whole.specs.laws.Row.{rows}
 use Rattle.frame_write.specs.Sets.{good_sets}
 use Rattle.frame_write.proofs.call.is_good.Goals as goal
 
 pub returns-then-is_good : goal.returns-then-is_good
 unfolding good_sets
-returns-then-is_good c = passes _ _ _ _ (sym c.is_good.ensures ∙ c.if-is_good.true) c.is_good-then-is_good.ensures
+returns-then-is_good c = search rows
 
-pub returns : goal.returns
+pub returns-else-is_good : goal.returns-else-is_good
 unfolding good_sets
-returns c = fails _ _ _ _ (sym c.is_good.ensures ∙ c.if-is_good.false) refl
+returns-else-is_good c = search rows

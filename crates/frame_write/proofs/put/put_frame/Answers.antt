@@ -1,5 +1,5 @@
 -- `put_frame` meets its contract: front, tiles, end and the tileset's lengths make the frame (`frame_put`). Assumes nothing.
-use mathlib.Core.Path.{◌≡◌, ◌∙◌}
+use mathlib.Core.Path.{◌≡◌}
 use native.Mathlib.Omega.{arith}
 use lib.ListN.{length}
 use Rattle.quants.specs.Quants.{sets_of}
@@ -11,40 +11,6 @@ use Rattle.frame_write.proofs.put.put_frame.Goals.{Start}
 
 ten : (s : Start) → (length s.args.job.quants.luma.v ≡ 10) × (length s.args.job.quants.chroma.v ≡ 10)
 ten s = search rules
-
-pub overflow_mul-from : goal.overflow_mul-from
-overflow_mul-from c = omega (arith, c.chroma_index.ensures.1)
-
-pub overflow_add-from : goal.overflow_add-from
-overflow_add-from c = omega (arith, c.chroma_index.ensures.1)
-
-pub put_front-requires : goal.put_front-requires
-put_front-requires c =
-    let g = c.requires.0.picture in
-    (omega (arith, c.requires.3), g.luma, g.chroma, c.requires.0.small)
-
-pub put_tiles-e-requires : goal.put_tiles-e-requires
-put_tiles-e-requires c =
-    let i = c.chroma_index in
-    (c.requires.0, c.requires.1, c.requires.2, omega (arith, c.requires.3, c.put_front.auto.out, i.ensures.0))
-
-pub close_frame-requires : goal.close_frame-requires
-close_frame-requires c =
-    let i = c.chroma_index in (
-      omega arith,
-      omega (arith, c.put_tiles-e.ensures.1),
-      omega (arith, c.requires.3, c.put_front.auto.out, c.put_tiles-e.auto.out, c.put_tiles-e.ensures.1, i.ensures.0),
-    )
-
-pub shape_of-out : goal.shape_of-out
-shape_of-out c =
-    c.close_frame.auto.out ∙ (c.put_tiles-e.auto.out ∙ c.put_front.auto.out)
-
-pub shape_of-list : goal.shape_of-list
-shape_of-list c = c.put_tiles-e.auto.list
-
-pub shape_of-scratch : goal.shape_of-scratch
-shape_of-scratch c = c.put_tiles-e.auto.scratch
 
 pub returns : goal.returns
 returns c =

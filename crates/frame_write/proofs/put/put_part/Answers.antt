@@ -14,9 +14,6 @@ use Rattle.frame_write.specs.Job.{list_in}
 use Rattle.frame_write.specs.laws.Encode.{part_range}
 use Rattle.frame_write.proofs.put.put_part.Goals as goal
 
-pub load_part-requires : goal.load_part-requires
-load_part-requires c = (c.requires.0, c.requires.1)
-
 pub put_component-requires : goal.put_component-requires
 unfolding tile_part
 put_component-requires c =

@@ -8,9 +8,6 @@ use Rattle.frame_write.specs.laws.FrameWrite.{still_good}
 use Rattle.frame_write.specs.laws.Put.{tile_fine, tile_stands}
 use Rattle.frame_write.proofs.put.put_tile.Goals as goal
 
-pub cols_of-cols-requires : goal.cols_of-cols-requires
-cols_of-cols-requires c = c.requires.0.picture.wider
-
 pub nonzero_rem-k : goal.nonzero_rem-k
 nonzero_rem-k c =
     omega (arith, c.cols_of-cols.ensures.0, some_cols c.args.job.width c.requires.0.picture.wide)
@@ -59,40 +56,12 @@ put_part-e-requires c =
       omega (arith, t, c.requires.3, c.put_head.auto.out, x.auto.out, x.ensures.1, y.auto.out, y.ensures.1),
     )
 
-pub overflow_sub-e : goal.overflow_sub-e
-overflow_sub-e c =
-    omega (arith, c.put_part-b.ensures.1, c.put_part-c.ensures.1, c.put_part-e.ensures.1)
-
-pub overflow_sub-b : goal.overflow_sub-b
-overflow_sub-b c =
-    omega (arith, c.put_part-b.ensures.1, c.put_part-c.ensures.1, c.put_part-e.ensures.1)
-
-pub overflow_sub-c : goal.overflow_sub-c
-overflow_sub-c c =
-    omega (arith, c.put_part-b.ensures.1, c.put_part-c.ensures.1, c.put_part-e.ensures.1)
-
-pub overflow_sub-e-2 : goal.overflow_sub-e-2
-overflow_sub-e-2 c =
-    omega (arith, c.put_part-b.ensures.1, c.put_part-c.ensures.1, c.put_part-e.ensures.1)
-
 pub fill_tile-requires : goal.fill_tile-requires
 fill_tile-requires c =
     let a = c.args in
     let j = c.args.job in
     let t = tile_long a.pixels.now j.width j.height j.mode j.quants a.k in
     omega (arith, t, c.requires.3, c.put_head.auto.out, c.put_part-b.auto.out, c.put_part-c.auto.out, c.put_part-e.auto.out)
-
-pub shape_of-out : goal.shape_of-out
-shape_of-out c =
-    c.fill_tile.auto.out ∙ (c.put_part-e.auto.out ∙ (c.put_part-c.auto.out ∙ (c.put_part-b.auto.out ∙ c.put_head.auto.out)))
-
-pub shape_of-list : goal.shape_of-list
-shape_of-list c =
-    c.put_part-e.auto.list ∙ (c.put_part-c.auto.list ∙ c.put_part-b.auto.list)
-
-pub shape_of-scratch : goal.shape_of-scratch
-shape_of-scratch c =
-    c.put_part-e.auto.scratch ∙ (c.put_part-c.auto.scratch ∙ c.put_part-b.auto.scratch)
 
 pub returns : goal.returns
 returns c =

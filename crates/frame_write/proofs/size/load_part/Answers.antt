@@ -10,9 +10,6 @@ use Rattle.frame_write.specs.Encode.{list_of}
 use Rattle.frame_write.specs.laws.Encode.{place_good, for_good}
 use Rattle.frame_write.proofs.size.load_part.Goals as goal
 
-pub cols_of-cols-requires : goal.cols_of-cols-requires
-cols_of-cols-requires c = c.requires.0.picture.wider
-
 pub nonzero_rem-k : goal.nonzero_rem-k
 nonzero_rem-k c =
     omega (arith, c.cols_of-cols.ensures.0, some_cols c.args.job.width c.requires.0.picture.wide)

@@ -1,72 +1,42 @@
--- `tile_size` meets its contract: the first refusal of three (`first-of`, `second-of`, `third_of`), or the three sizes together (`tile_sized`).
--- Each size is at most 65,535, so no sum is too big. Assumes nothing.
-use mathlib.Core.Path.{refl, ◌∙◌}
+-- The first refusal of three (`first-of`, `second-of`, `third_of`), or the three sizes together (`tile_sized`): each is at most 65,535, so no sum is too big.
+use mathlib.Core.Path.{refl}
 use native.Mathlib.Omega.{arith}
+use Rattle.wire.specs.laws.Refusal.{handed_on}
 use Rattle.frame_write.specs.Encode.{tile_part}
 use Rattle.frame_write.specs.Sets.{tile_refusal_over}
 use Rattle.frame_write.specs.laws.Encode.{part_sized, first-of, second-of, third_of, tile_sized}
-use Rattle.frame_write.specs.laws.FrameWrite.{still_good}
 use Rattle.frame_write.proofs.size.tile_size.Goals as goal
 
-pub part_size-a-requires : goal.part_size-a-requires
-part_size-a-requires c = c.requires
-
-pub returns-then-a-ne0 : goal.returns-then-a-ne0
+pub returns-in_err-a : goal.returns-in_err-a
 unfolding tile_refusal_over
-returns-then-a-ne0 c = let r = c.part_size-a in first-of _ _ _ _ 0 0 _ r.result r.ensures c.if-a-ne0.true
+returns-in_err-a c =
+    rw (handed_on _ _ c.from_residual.ensures.1) (first-of _ _ _ _ _ c.in_err-a.ensures.number)
 
-pub part_size-b-requires : goal.part_size-b-requires
-part_size-b-requires c =
-    (still_good c.requires.0 c.part_size-a.auto.list c.part_size-a.auto.scratch, c.requires.1)
-
-pub returns-then-b-ne0 : goal.returns-then-b-ne0
+pub returns-in_err-b : goal.returns-in_err-b
 unfolding tile_refusal_over
-returns-then-b-ne0 c =
-    let r = c.part_size-a in
-    let s = c.part_size-b in
-    second-of _ _ _ _ _ 0 _ r.result r.ensures c.if-a-ne0.false s.result s.ensures c.if-b-ne0.true
+returns-in_err-b c =
+    rw (handed_on _ _ c.from_residual-in_err-b.ensures.1) (second-of _ _ _ _ _ c.in_ok-a.ensures.number c.in_err-b.ensures.number)
 
-pub part_size-c-requires : goal.part_size-c-requires
-part_size-c-requires c =
-    (still_good c.requires.0 (c.part_size-b.auto.list ∙ c.part_size-a.auto.list) (c.part_size-b.auto.scratch ∙ c.part_size-a.auto.scratch), c.requires.1)
-
-pub returns-then-c-ne0 : goal.returns-then-c-ne0
+pub returns-in_err-c : goal.returns-in_err-c
 unfolding tile_refusal_over
-returns-then-c-ne0 c =
-    let r = c.part_size-a in
-    let s = c.part_size-b in
-    let t = c.part_size-c in
-    third_of _ _ _ _ _ _ _ r.result r.ensures c.if-a-ne0.false s.result s.ensures c.if-b-ne0.false t.result t.ensures c.if-c-ne0.true
+returns-in_err-c c =
+    rw (handed_on _ _ c.from_residual-in_err-c.ensures.1) (third_of _ _ _ _ _ c.in_ok-a.ensures.number c.in_ok-b.ensures.number c.in_err-c.ensures.number)
 
 pub overflow_add-result : goal.overflow_add-result
 unfolding tile_part
-overflow_add-result c =
-    let r = c.part_size-a in
-    omega (arith, part_sized _ _ _ r.result r.ensures c.if-a-ne0.false)
+overflow_add-result c = omega (arith, part_sized _ _ _ _ c.in_ok-a.ensures)
 
 pub overflow_add-result-2 : goal.overflow_add-result-2
 unfolding tile_part
-overflow_add-result-2 c =
-    let r = c.part_size-a in
-    let s = c.part_size-b in
-    omega (arith, part_sized _ _ _ r.result r.ensures c.if-a-ne0.false, part_sized _ _ _ s.result s.ensures c.if-b-ne0.false)
+overflow_add-result-2 c = omega (arith, part_sized _ _ _ _ c.in_ok-a.ensures, part_sized _ _ _ _ c.in_ok-b.ensures)
 
 pub overflow_add-result-3 : goal.overflow_add-result-3
 unfolding tile_part
 overflow_add-result-3 c =
-    let r = c.part_size-a in
-    let s = c.part_size-b in
-    let t = c.part_size-c in
-    let a = part_sized _ _ _ r.result r.ensures c.if-a-ne0.false in
-    let b = part_sized _ _ _ s.result s.ensures c.if-b-ne0.false in
-    omega (arith, a, b, part_sized _ _ _ t.result t.ensures c.if-c-ne0.false)
+    omega (arith, part_sized _ _ _ _ c.in_ok-a.ensures, part_sized _ _ _ _ c.in_ok-b.ensures, part_sized _ _ _ _ c.in_ok-c.ensures)
 
 pub returns : goal.returns
 returns c =
     let a = c.args in
     let j = c.args.job in
-    let r = c.part_size-a in
-    let s = c.part_size-b in
-    let t = c.part_size-c in
-    tile_sized a.pixels.now j.width j.height j.mode j.quants a.k r.result s.result t.result
-    r.ensures c.if-a-ne0.false s.ensures c.if-b-ne0.false t.ensures c.if-c-ne0.false _ refl
+    tile_sized a.pixels.now j.width j.height j.mode j.quants a.k _ _ _ _ c.in_ok-a.ensures c.in_ok-b.ensures c.in_ok-c.ensures refl

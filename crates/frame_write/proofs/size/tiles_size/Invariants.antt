@@ -1,16 +1,7 @@
--- `tiles_size` meets its contract. The invariant `Sizing`: what is left to refuse is what is left of all, and the bytes so far with those to come
--- are all; a tile has at most 196,624. Assumes nothing.
-use Prim.Native.Nat.{◌-◌, ◌≤◌}
-use mathlib.Core.Path.{◌≡◌}
-use lib.ListN.{length}
+-- `Sizing`: what is left to refuse is what is left of all, and the bytes so far with those to come are all; a tile has at most 196,624.
 use Rattle.frame_write.specs.Job.{tile_sent, stop_sent}
 use Rattle.frame_write.specs.laws.Encode.{Sizing}
 use Rattle.frame_write.proofs.size.tiles_size.Given as goal
 
 abbrev pub invariant-loop-i : goal.invariant-loop-i
-invariant-loop-i l =
-    (l.i ≤ l.n) × (length l.list ≡ length l.initial.list) × (length l.scratch ≡ length l.initial.scratch) × Sizing (tile_sent l.job l.pixels l.picks)
-    (stop_sent l.job l.pixels l.picks) l.n l.i l.total
-
-abbrev pub decreases-loop-i : goal.decreases-loop-i
-decreases-loop-i l = l.n - l.i
+invariant-loop-i l = Sizing (tile_sent l.job l.pixels l.picks) (stop_sent l.job l.pixels l.picks) l.n l.i l.total

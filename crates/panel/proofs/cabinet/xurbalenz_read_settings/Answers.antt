@@ -1,14 +1,16 @@
--- `panel::cabinet::xurbalenz_read_settings` meets its contract: the number and the settings are those of `read_settings`. Assumes nothing.
-use mathlib.Core.Path.{ap}
-use Rattle.settings.specs.declared.read.Reading.{Reading}
+-- The number and the settings are those of `read_settings`.
+use Rattle.std.proofs.Common.{ap, ◌∙◌}
+use Rattle.settings.specs.declared.Settings.{Settings}
+use Rattle.settings.specs.Settings.{store_number, given}
 use Rattle.panel.proofs.cabinet.xurbalenz_read_settings.Goals as goal
 
 pub returns : goal.returns
 returns c =
     let e = c.read_settings-answer.ensures in
+    let s = c.given-s.ensures ∙ ap given e in
     record {
-      said = ap (λ (r : Reading). r.number) e;
-      luma_is = ap (λ (r : Reading). r.settings.quants.luma.v) e;
-      chroma_is = ap (λ (r : Reading). r.settings.quants.chroma.v) e;
-      mode_is = ap (λ (r : Reading). r.settings.mode) e;
+      said = c.number_of.ensures ∙ ap store_number e;
+      luma_is = ap (λ (t : Settings). t.quants.luma.v) s;
+      chroma_is = ap (λ (t : Settings). t.quants.chroma.v) s;
+      mode_is = ap (λ (t : Settings). t.mode) s;
     }

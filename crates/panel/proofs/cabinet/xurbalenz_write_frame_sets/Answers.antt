@@ -4,4 +4,4 @@ use Rattle.panel.proofs.cabinet.xurbalenz_write_frame_sets.Goals as goal
 
 pub returns : goal.returns
 returns c =
-    over_call _ _ _ _ _ _ _ _ _ _ _ _ _ _ _ c.write_frame_sets-w.ensures c.writing_length.ensures c.writing_number.ensures
+    over_call _ _ _ _ _ _ _ _ _ _ _ _ _ _ _ c.write_frame_sets-w.ensures c.count_of.ensures c.number_of.ensures

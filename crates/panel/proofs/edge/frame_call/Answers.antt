@@ -3,5 +3,4 @@ use Rattle.panel.specs.laws.Edge.{frame-call}
 use Rattle.panel.proofs.edge.frame_call.Goals as goal
 
 pub returns : goal.returns
-returns c =
-    frame-call _ _ _ _ _ _ _ _ _ _ _ _ _ _ _ _ c.read_frame-f.ensures c.frame_tiles.ensures c.frame_number.ensures
+returns g c = frame-call _ _ _ _ _ _ _ _ _ _ _ _ _ _ _ _ c.read_frame-f.ensures c.count_of.ensures c.number_of.ensures

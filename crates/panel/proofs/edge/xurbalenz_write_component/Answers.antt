@@ -4,4 +4,4 @@ use Rattle.panel.proofs.edge.xurbalenz_write_component.Goals as goal
 
 pub returns : goal.returns
 returns c =
-    write_call _ _ _ _ _ _ _ c.write_component-w.ensures c.writing_length.ensures c.writing_number.ensures
+    write_call _ _ _ _ _ _ _ c.write_component-w.ensures c.count_of.ensures c.number_of.ensures

@@ -4,4 +4,4 @@ use Rattle.panel.proofs.short.xurbalenz_write_frame_short.Goals as goal
 
 pub returns : goal.returns
 returns c =
-    short_write_call _ _ _ _ _ _ _ _ _ _ _ _ _ _ _ _ _ _ c.write_frame_short-w.ensures c.writing_length.ensures c.writing_number.ensures
+    short_write_call _ _ _ _ _ _ _ _ _ _ _ _ _ _ _ _ _ _ c.write_frame_short-w.ensures c.count_of.ensures c.number_of.ensures

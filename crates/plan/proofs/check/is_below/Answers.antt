@@ -1,35 +1,22 @@
 -- Each turn keeps it, and at the end it is what is promised.
-use native.Mathlib.Omega.{arith}
-use borrow.Author.Tests.{lt-ltb, le-ltb}
+use Rattle.std.proofs.Common.{arith, lt-ltb, le-ltb}
 use Rattle.plan.specs.Plan.{below}
 use Rattle.plan.specs.laws.All.{all_none, all_more, all_fails, all_fewer}
 use Rattle.plan.proofs.check.is_below.Goals as goal
 
-pub loop-i-init : goal.loop-i-init
-loop-i-init c = (omega arith, all_none _)
+pub loop-k-init : goal.loop-k-init
+loop-k-init c = (omega arith, all_none _)
 
-pub offset_bounds-picks-i : goal.offset_bounds-picks-i
-offset_bounds-picks-i c = omega arith
+pub overflow_cast-k : goal.overflow_cast-k
+overflow_cast-k c = omega (arith, c.type_inv.picks c.loop-k.k-index)
 
-pub bounds-picks-i : goal.bounds-picks-i
-bounds-picks-i c = omega arith
-
-pub overflow_cast-picks : goal.overflow_cast-picks
-overflow_cast-picks c = omega (arith, c.type_inv.picks c.loop-i.i)
-
-pub returns-then-n-picks : goal.returns-then-n-picks
+pub returns-then-n-k : goal.returns-then-n-k
 unfolding below
-returns-then-n-picks c = all_fails _ _ c.loop-i.i c.loop-i-test.true (le-ltb _ _ c.if-n-picks.true)
+returns-then-n-k c = all_fails _ _ c.loop-k.k-index c.loop-k-test.true (le-ltb _ _ c.if-n-k.true)
 
-pub overflow_add-i : goal.overflow_add-i
-overflow_add-i c = omega arith
-
-pub loop-i-smaller : goal.loop-i-smaller
-loop-i-smaller c = omega arith
-
-pub loop-i-preserved : goal.loop-i-preserved
-loop-i-preserved c = (omega arith, all_more _ c.loop-i.i c.loop-i.invariant.1 (lt-ltb _ _ c.if-n-picks.false))
+pub loop-k-preserved : goal.loop-k-preserved
+loop-k-preserved c = (omega arith, all_more _ c.loop-k.k-index c.loop-k.invariant.1 (lt-ltb _ _ c.if-n-k.false))
 
 pub returns : goal.returns
 unfolding below
-returns c = all_fewer _ _ c.loop-i.i c.loop-i-test.false c.loop-i.invariant.1
+returns c = all_fewer _ _ c.loop-k.k-index c.loop-k-test.false c.loop-k.invariant.1

@@ -25,12 +25,6 @@ returns-then-is_changed c =
     cover_fails _ _ _ _ _ r l.finger l.k l.invariant.1 (omega (arith, tiles-no.ensures.0)) (sym is_at.ensures ∙ if1.false)
     (sym is-changed.ensures ∙ c.if-is_changed.true)
 
-pub overflow_add-k : goal.overflow_add-k
-overflow_add-k c = omega (arith, c.tiles_no-n.ensures.1)
-
-pub loop-k-smaller : goal.loop-k-smaller
-loop-k-smaller c = omega arith
-
 pub loop-k-preserved : goal.loop-k-preserved
 loop-k-preserved c =
     let l = c.loop-k in

@@ -1,10 +1,7 @@
 -- `is_covering` meets its contract. Invariant: the tiles below k are listed where they differ, and the finger stands at the first number that is not below k.
-use Prim.Native.Nat.{◌-◌, ◌≤◌}
+use Prim.Native.Nat.{◌≤◌}
 use Rattle.plan.specs.laws.Cover.{Covering}
 use Rattle.plan.proofs.check.is_covering.Given as goal
 
 abbrev pub invariant-loop-k : goal.invariant-loop-k
 invariant-loop-k l = (l.k ≤ l.n) × Covering l.old l.new l.w l.h l.picks l.finger l.k
-
-abbrev pub decreases-loop-k : goal.decreases-loop-k
-decreases-loop-k l = l.n - l.k

@@ -17,12 +17,6 @@ overflow_add-count c =
     let tiles-no = c.tiles_no-n in
     omega (arith, l.invariant.1, tiles-no.ensures.1, those_few (changed_tile s.old.now s.new.now s.w s.h) l.k)
 
-pub overflow_add-k : goal.overflow_add-k
-overflow_add-k c = omega (arith, c.tiles_no-n.ensures.1)
-
-pub loop-k-smaller : goal.loop-k-smaller
-loop-k-smaller c = omega arith
-
 pub loop-k-preserved : goal.loop-k-preserved
 loop-k-preserved c =
     let s = c.args in

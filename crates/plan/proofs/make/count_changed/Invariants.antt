@@ -1,5 +1,5 @@
 -- `count_changed` meets its contract. Invariant: of the tiles below k so many differ.
-use Prim.Native.Nat.{◌-◌, ◌≤◌}
+use Prim.Native.Nat.{◌≤◌}
 use mathlib.Core.Path.{◌≡◌}
 use lib.ListN.{length}
 use Rattle.plan.specs.Plan.{those, changed_tile}
@@ -7,6 +7,3 @@ use Rattle.plan.proofs.make.count_changed.Given as goal
 
 abbrev pub invariant-loop-k : goal.invariant-loop-k
 invariant-loop-k l = (l.k ≤ l.n) × (l.count ≡ length (those (changed_tile l.old l.new l.w l.h) l.k))
-
-abbrev pub decreases-loop-k : goal.decreases-loop-k
-decreases-loop-k l = l.n - l.k

@@ -33,12 +33,6 @@ bounds-out-i c = room_here (goal.at.bounds-out-i c).Then-is_changed
 pub overflow_add-i : goal.overflow_add-i
 overflow_add-i c = omega (arith, room_here (goal.at.overflow_add-i c).Then-is_changed)
 
-pub overflow_add-k : goal.overflow_add-k
-overflow_add-k c = omega (arith, c.tiles_no-n.ensures.1)
-
-pub loop-k-smaller : goal.loop-k-smaller
-loop-k-smaller c = omega arith
-
 pub loop-k-preserved : goal.loop-k-preserved
 loop-k-preserved c =
     let l = c.loop-k in
@@ -60,13 +54,10 @@ loop-k-preserved c =
       ],
     )
 
-pub shape_of-out : goal.shape_of-out
-shape_of-out c = c.loop-k.invariant.1.long
-
 pub returns : goal.returns
 returns c =
     let l = c.loop-k in
     let s = c.args in
     let tiles-no = c.tiles_no-n in
     listing_done s.old.now s.new.now s.w s.h _ tiles-no.ensures.0 s.out.now l.out l.i l.k l.invariant.1 l.invariant.0
-    c.loop-k-test.false
+    (omega arith)

@@ -50,12 +50,6 @@ returns-then-not-same_run c =
     let same-run2 = c.same_run-in-loop-r in
     all_fails _ _ l.r c.loop-r-test.true (sym same-run2.ensures ∙ c.if-not-same_run.true)
 
-pub overflow_add-r : goal.overflow_add-r
-overflow_add-r c = omega arith
-
-pub loop-r-smaller : goal.loop-r-smaller
-loop-r-smaller c = omega arith
-
 pub loop-r-preserved : goal.loop-r-preserved
 loop-r-preserved c =
     let l = c.loop-r in
@@ -66,4 +60,4 @@ pub returns : goal.returns
 unfolding same_rows
 returns c =
     let l = c.loop-r in
-    all_fewer _ _ l.r c.loop-r-test.false l.invariant.1
+    all_fewer _ _ l.r (omega arith) l.invariant.1

@@ -1,5 +1,5 @@
 -- `same_rows` meets its contract. Rows with nothing between them are one run; else, invariant: the first r rows are the same.
-use Prim.Native.Nat.{◌+◌, ◌*◌, ◌-◌, ◌≤◌}
+use Prim.Native.Nat.{◌+◌, ◌*◌, ◌≤◌}
 use mathlib.Core.Path.{◌≡◌}
 use mathlib.Core.Bool.{true}
 use Rattle.plan.specs.Plan.{all_below}
@@ -8,6 +8,3 @@ use Rattle.plan.proofs.same.same_rows.Given as goal
 
 abbrev pub invariant-loop-r : goal.invariant-loop-r
 invariant-loop-r l = (l.r ≤ l.rows) × (true ≡ all_below (λ q. same_run l.a l.b (l.at + q * l.step) l.n) l.r)
-
-abbrev pub decreases-loop-r : goal.decreases-loop-r
-decreases-loop-r l = l.rows - l.r

@@ -21,12 +21,6 @@ overflow_add-at-in-loop-i c = omega arith
 pub bounds-b-at : goal.bounds-b-at
 bounds-b-at c = omega arith
 
-pub overflow_add-i : goal.overflow_add-i
-overflow_add-i c = omega arith
-
-pub loop-i-smaller : goal.loop-i-smaller
-loop-i-smaller c = omega arith
-
 pub loop-i-preserved : goal.loop-i-preserved
 loop-i-preserved c =
     let l = c.loop-i in (

@@ -1,8 +1,5 @@
--- The definition itself: no columns over no width.
-use Rattle.std.proofs.Common.{refl}
-use Rattle.session.specs.Header.{tiles_over}
+-- A session that is opened, and a collector that is reset.
 use Rattle.replay.proofs.records.fresh.Goals as goal
 
 pub returns : goal.returns
-unfolding tiles_over
-returns c = refl
+returns c = rw (c.reset.ensures, c.«open».ensures)

@@ -1,9 +1,5 @@
--- What the loop keeps, and what falls with each turn.
-
+-- Fewer places are left after each element.
 use Rattle.sample.proofs.code_stages.before_refusal.Given as goal
 
-abbrev pub invariant-loop-left : goal.invariant-loop-left
-invariant-loop-left l = Unit {0}
-
-abbrev pub decreases-loop-left : goal.decreases-loop-left
-decreases-loop-left l = l.left
+abbrev pub decreases-loop-e : goal.decreases-loop-e
+decreases-loop-e l = l.left

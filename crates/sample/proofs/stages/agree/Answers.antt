@@ -11,21 +11,9 @@ use Rattle.sample.proofs.stages.agree.Goals as goal
 pub loop-i-init : goal.loop-i-init
 loop-i-init c = (omega arith, zero-add _)
 
-pub offset_bounds-got-i : goal.offset_bounds-got-i
-offset_bounds-got-i c = omega arith
-
-pub bounds-got-i : goal.bounds-got-i
-bounds-got-i c = c.loop-i-test.true
-
 pub overflow_add-same : goal.overflow_add-same
 overflow_add-same c =
     omega (arith, c.loop-i.invariant.0, one_most _ _ c.one-same.ensures, c.loop-i-test.true)
-
-pub overflow_add-i : goal.overflow_add-i
-overflow_add-i c = omega (arith, c.loop-i-test.true)
-
-pub loop-i-smaller : goal.loop-i-smaller
-loop-i-smaller c = omega (arith, c.loop-i-test.true)
 
 pub loop-i-preserved : goal.loop-i-preserved
 loop-i-preserved c = (

@@ -1,16 +1,10 @@
--- One law for each way of the match: `drawn_more`, `drawn_header`, `drawn_frame`, `drawn_refused`.
-use Rattle.show.specs.laws.Play.{drawn_more, drawn_header, drawn_frame, drawn_refused}
+-- One law for each way of the match: `drawn_frame`, and that nothing else is drawn (`drawn_more`, `drawn_header`, `drawn_refused`).
+use Rattle.show.specs.laws.Play.{drawn_frame, drawn_other}
 use Rattle.show.proofs.drawing.draw.Goals as goal
 
-pub returns-in-More : goal.returns-in-More
-returns-in-More c = drawn_more _ _ 0 _ _ c.in-More.is
-
-pub returns-in-Header : goal.returns-in-Header
-returns-in-Header c = drawn_header _ _ 0 _ _ _ c.in-Header.is
-
 pub returns-in-Frame : goal.returns-in-Frame
-returns-in-Frame c =
-    drawn_frame _ _ 0 _ _ _ _ _ c.in-Frame.is c.first.ensures c.frame.ensures
+returns-in-Frame g c =
+    drawn_frame _ _ g.W.GlassWord.GLASS _ _ _ _ _ c.in-Frame.is c.first.ensures c.frame.ensures
 
-pub returns-in-Refused : goal.returns-in-Refused
-returns-in-Refused c = drawn_refused _ _ 0 _ _ _ c.in-Refused.is
+pub returns-in_default : goal.returns-in_default
+returns-in_default g c = drawn_other _ _ g.W.GlassWord.GLASS _ _ c.in_default.not-Frame

@@ -4,4 +4,4 @@ use Rattle.show.proofs.playing.renewed.Goals as goal
 
 pub returns : goal.returns
 unfolding anew_desk
-returns c = rw (c.wrapping_add_usize.ensures.value, c.behind.ensures, c.reset.ensures)
+returns c = rw (c.behind.ensures, c.reset.ensures)

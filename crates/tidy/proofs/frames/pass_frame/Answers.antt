@@ -6,6 +6,8 @@ use Rattle.session.specs.laws.Header.{ready_good}
 use Rattle.tidy.specs.Tidy.{fault_for}
 use Rattle.tidy.specs.laws.Put.{frame_shorter}
 use Rattle.tidy.specs.laws.Pass.{due_not, due_ready, due_laid, tested_yes, tested_no, front_there, pass_kept, pass_back, pass_tidied}
+use Rattle.std.proofs.lemmas.Bool.{eqb-true, eqb-false}
+use Rattle.tidy.specs.laws.Headers.{judged_ok}
 use Rattle.tidy.proofs.frames.pass_frame.Goals as goal
 
 pub put_frame-p-requires : goal.put_frame-p-requires
@@ -32,21 +34,21 @@ message_fault-requires c =
       c.put_frame-p.auto.list ∙ (c.is_due.auto.list ∙ c.requires.0),
     )
 
-pub shape_of-list-then-message_fault-eq0 : goal.shape_of-list-then-message_fault-eq0
-shape_of-list-then-message_fault-eq0 c =
+pub shape_of-list-then-is_ok : goal.shape_of-list-then-is_ok
+shape_of-list-then-is_ok c =
     c.message_fault.auto.work ∙ (c.put_frame-p.auto.list ∙ c.is_due.auto.list)
 
-pub shape_of-out-then-message_fault-eq0 : goal.shape_of-out-then-message_fault-eq0
-shape_of-out-then-message_fault-eq0 c =
+pub shape_of-out-then-is_ok : goal.shape_of-out-then-is_ok
+shape_of-out-then-is_ok c =
     c.put_frame-p.auto.out
 
-pub returns-then-message_fault-eq0 : goal.returns-then-message_fault-eq0
+pub returns-then-is_ok : goal.returns-then-is_ok
 unfolding fault_for
-returns-then-message_fault-eq0 c =
+returns-then-is_ok c =
     let a = c.args in
     let p = c.put_frame-p.ensures in
-    let t = tested_yes a.sender a.s a.m.now (sym c.is_due.ensures ∙ c.if-is_due.true) c.message_fault.result _ c.message_fault.ensures
-    (front_there _ a.out.now _ c.put_frame-p.result.to p.left p.behind) (omega arith) in
+    let t = tested_yes a.sender a.s a.m.now (sym c.is_due.ensures ∙ c.if-is_due.true) _ _ c.message_fault.ensures
+    (front_there _ a.out.now _ c.put_frame-p.result.to p.left p.behind) (eqb-true _ 0 (sym (judged_ok _) ∙ (sym c.is_ok.ensures.value ∙ c.if-is_ok.true))) in
     pass_tidied a.sender a.s a.m.now a.out.now _ _ t p
 
 pub keep-requires : goal.keep-requires
@@ -66,8 +68,8 @@ unfolding fault_for
 returns-then-is_due c =
     let a = c.args in
     let p = c.put_frame-p.ensures in
-    let t = tested_no a.sender a.s a.m.now (sym c.is_due.ensures ∙ c.if-is_due.true) c.message_fault.result _ c.message_fault.ensures
-    (front_there _ a.out.now _ c.put_frame-p.result.to p.left p.behind) (omega arith) in
+    let t = tested_no a.sender a.s a.m.now (sym c.is_due.ensures ∙ c.if-is_due.true) _ _ c.message_fault.ensures
+    (front_there _ a.out.now _ c.put_frame-p.result.to p.left p.behind) (eqb-false _ 0 (sym (judged_ok _) ∙ (sym c.is_ok.ensures.value ∙ c.if-is_ok.false))) in
     let l = frame_shorter a.sender a.s.mode a.m.now (due_laid a.sender a.s a.m.now (sym c.is_due.ensures ∙ c.if-is_due.true)) in
     pass_back a.sender a.s a.m.now a.out.now _ _ _ _ t p.left l c.keep.ensures
 

@@ -1,5 +1,4 @@
 -- Invariant `SoFar`: the tiles so far stand in the output from the place given on, and are not longer than they came.
-use Prim.Native.Nat.{◌-◌, ◌≤◌}
 use mathlib.Core.Path.{◌≡◌}
 use lib.ListN.{length}
 use Rattle.tidy.specs.laws.Put.{SoFar}
@@ -7,8 +6,5 @@ use Rattle.tidy.proofs.frames.put_tiles.Given as goal
 
 abbrev pub invariant-loop-i : goal.invariant-loop-i
 invariant-loop-i l =
-    (l.i ≤ l.n) × (length l.list ≡ length l.initial.list) × (length l.out ≡ length l.initial.out) × SoFar l.sender l.mode l.d l.n l.i l.at l.to l.cut
+    (length l.list ≡ length l.initial.list) × (length l.out ≡ length l.initial.out) × SoFar l.sender l.mode l.d l.n l.i l.at l.to l.cut
     l.from l.initial.out l.out
-
-abbrev pub decreases-loop-i : goal.decreases-loop-i
-decreases-loop-i l = l.n - l.i

@@ -3,6 +3,7 @@ use mathlib.Core.Path.{sym, ap, ◌∙◌}
 use native.Mathlib.Omega.{arith}
 use lib.IntN.{pos}
 use lib.ListN.{replicate}
+use Rattle.wire.specs.declared.Refusal.TheVariants.{Field, Buffer, Room}
 use Rattle.tidy.specs.laws.Pass.{fault_5, fault_2, fault_13, fault_none, call_refused, call_done}
 use Rattle.tidy.proofs.frames.tidy_frame.Goals as goal
 
@@ -10,22 +11,22 @@ pub returns-then-not-is_sender : goal.returns-then-not-is_sender
 returns-then-not-is_sender c =
     let k = c.is_sender in
     let a = c.args in
-    call_refused a.sender a.s a.message.now a.out.now a.list.now 5
-    (fault_5 _ _ _ _ (sym k.ensures ∙ c.if-not-is_sender.true)) (λ e. omega arith)
+    call_refused a.sender a.s a.message.now a.out.now a.list.now Field
+    (fault_5 _ _ _ _ (sym k.ensures ∙ c.if-not-is_sender.true))
 
 pub returns-then-list-ne4096 : goal.returns-then-list-ne4096
 returns-then-list-ne4096 c =
     let k = c.is_sender in
     let a = c.args in
-    call_refused a.sender a.s a.message.now a.out.now a.list.now 2
-    (fault_2 _ _ _ _ (sym k.ensures ∙ c.if-not-is_sender.false) c.if-list-ne4096.true) (λ e. omega arith)
+    call_refused a.sender a.s a.message.now a.out.now a.list.now Buffer
+    (fault_2 _ _ _ _ (sym k.ensures ∙ c.if-not-is_sender.false) c.if-list-ne4096.true)
 
 pub returns-then-out-message : goal.returns-then-out-message
 returns-then-out-message c =
     let k = c.is_sender in
     let a = c.args in
-    call_refused a.sender a.s a.message.now a.out.now a.list.now 13
-    (fault_13 _ _ _ _ (sym k.ensures ∙ c.if-not-is_sender.false) c.if-list-ne4096.false c.if-out-message.true) (λ e. omega arith)
+    call_refused a.sender a.s a.message.now a.out.now a.list.now Room
+    (fault_13 _ _ _ _ (sym k.ensures ∙ c.if-not-is_sender.false) c.if-list-ne4096.false c.if-out-message.true)
 
 pub pass_frame-p-requires : goal.pass_frame-p-requires
 pass_frame-p-requires c =

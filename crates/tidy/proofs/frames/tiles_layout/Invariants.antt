@@ -8,8 +8,5 @@ use Rattle.tidy.proofs.frames.tiles_layout.Given as goal
 
 abbrev pub invariant-loop-i : goal.invariant-loop-i
 invariant-loop-i l =
-    (l.i ≤ l.n) × (l.at ≤ length l.d) ×
+    (l.at ≤ length l.d) ×
     (tiles_fault any_code l.s.width l.s.height l.q l.d l.n 0 ≡ tiles_fault any_code l.s.width l.s.height l.q l.d (l.n - l.i) l.at)
-
-abbrev pub decreases-loop-i : goal.decreases-loop-i
-decreases-loop-i l = l.n - l.i

@@ -6,15 +6,15 @@ use Rattle.wire.specs.Le.{patch}
 use Rattle.tidy.specs.laws.Headers.{header_good, gave_refused, gave_done, goes_held, goes_other, next_is}
 use Rattle.tidy.proofs.headers.give_header.Goals as goal
 
-pub returns-then-f-ne0 : goal.returns-then-f-ne0
-returns-then-f-ne0 c =
+pub returns-in-Err : goal.returns-in-Err
+returns-in-Err c =
     let a = c.args in
-    gave_refused _ _ a.w _ a.store.now a.out.now _ c.header_fault-f.result c.header_fault-f.ensures c.if-f-ne0.true
+    gave_refused _ _ a.w _ a.store.now a.out.now _ c.in-Err.refusal c.in-Err.ensures
 
 pub hold-n-requires : goal.hold-n-requires
 hold-n-requires c =
     let a = c.args in
-    let g = header_good _ a.w _ _ (sym c.if-f-ne0.false ∙ c.header_fault-f.ensures) in
+    let g = header_good _ a.w _ _ c.in_default.ensures in
     (c.kind_of-k.ensures, sym c.is_waiting.ensures ∙ c.if-is_waiting.true, g.0, omega (arith, g.1))
 
 pub shape_of-store-then-is_waiting : goal.shape_of-store-then-is_waiting
@@ -31,14 +31,14 @@ returns-then-is_waiting c =
     let h = goes_held a.w a.store.now a.block.now c.kind_of-k.result c.kind_of-k.ensures (sym c.is_waiting.ensures ∙ c.if-is_waiting.true) in
     let n = next_is a.w a.store.now a.block.now c.kind_of-k.result c.kind_of-k.ensures _ _ c.is_sync.ensures
     c.waiting_by-next.ensures in
-    gave_done _ _ a.w _ a.store.now a.out.now _ _ _ _ _ (sym c.if-f-ne0.false ∙ c.header_fault-f.ensures)
+    gave_done _ _ a.w _ a.store.now a.out.now _ _ _ _ _ c.in_default.ensures
     (c.hold-n.ensures.2 ∙ ap length h.0) n
     (c.hold-n.ensures.0 ∙ h.1) (c.hold-n.ensures.1 ∙ ap (patch a.out.now 0) h.0)
 
 pub put_other-n-requires : goal.put_other-n-requires
 put_other-n-requires c =
     let a = c.args in
-    let g = header_good _ a.w _ _ (sym c.if-f-ne0.false ∙ c.header_fault-f.ensures) in
+    let g = header_good _ a.w _ _ c.in_default.ensures in
     (g.0, g.1)
 
 pub shape_of-out : goal.shape_of-out
@@ -50,6 +50,6 @@ returns c =
     let h = goes_other a.w a.store.now a.block.now c.kind_of-k.result c.kind_of-k.ensures (sym c.is_waiting.ensures ∙ c.if-is_waiting.false) in
     let n = next_is a.w a.store.now a.block.now c.kind_of-k.result c.kind_of-k.ensures _ _ c.is_sync.ensures
     c.waiting_by-next.ensures in
-    gave_done _ _ a.w _ a.store.now a.out.now _ _ _ _ _ (sym c.if-f-ne0.false ∙ c.header_fault-f.ensures)
+    gave_done _ _ a.w _ a.store.now a.out.now _ _ _ _ _ c.in_default.ensures
     (c.put_other-n.ensures.1 ∙ ap length h.0) n
     h.1 (c.put_other-n.ensures.0 ∙ ap (patch a.out.now 0) h.0)

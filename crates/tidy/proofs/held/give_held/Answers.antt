@@ -3,6 +3,7 @@ use mathlib.Core.Path.{ap, ◌∙◌}
 use native.Mathlib.Omega.{arith}
 use Prim.Native.Nat.{◌+◌}
 use lib.ListN.{length}
+use Rattle.wire.specs.declared.Refusal.TheVariants.{Buffer}
 use Rattle.tidy.specs.Held.{held_of, held_fault}
 use Rattle.tidy.specs.laws.Held.{not_38, held_refused, part_all, store_back, given_held}
 use Rattle.tidy.proofs.held.give_held.Goals as goal
@@ -10,8 +11,8 @@ use Rattle.tidy.proofs.held.give_held.Goals as goal
 pub returns-then-held-ne38 : goal.returns-then-held-ne38
 returns-then-held-ne38 c =
     let a = c.args in
-    held_refused (held_fault a.held.now (35 + length a.block.now) (length a.out.now)) _ _ a.held.now a.out.now 2
-    (not_38 a.held.now _ _ c.if-held-ne38.true) (λ e. omega arith)
+    held_refused (held_fault a.held.now (35 + length a.block.now) (length a.out.now)) _ _ a.held.now a.out.now Buffer
+    (not_38 a.held.now _ _ c.if-held-ne38.true)
 
 pub returns : goal.returns
 returns c =

@@ -6,12 +6,12 @@ use Rattle.tidy_code.proofs.longer.clean_tail.Goals as goal
 pub returns-then-left-ge8 : goal.returns-then-left-ge8
 returns-then-left-ge8 c = tail_long c.args.s.now c.args.at c.requires.1 (omega arith)
 
-pub returns-in-Cut : goal.returns-in-Cut
-returns-in-Cut c =
+pub returns-in-None : goal.returns-in-None
+returns-in-None c =
     let n = c.number in
-    tail_cut c.args.s.now c.args.at c.requires.1 n.result n.ensures c.in-Cut.is
+    tail_cut c.args.s.now c.args.at c.requires.1 n.result n.ensures c.in-None.is
 
-pub returns-in-Got : goal.returns-in-Got
-returns-in-Got c =
+pub returns-in-Some : goal.returns-in-Some
+returns-in-Some c =
     let n = c.number in
-    tail_got c.args.s.now c.args.at c.requires.1 n.result _ _ (λ h. omega arith) n.ensures c.in-Got.is
+    tail_got c.args.s.now c.args.at c.requires.1 n.result _ _ (λ h. omega arith) n.ensures c.in-Some.is

@@ -2,7 +2,7 @@
 use native.Mathlib.Omega.{arith}
 use mathlib.Core.Path.{refl}
 use Rattle.code.specs.laws.Place.{fine_one, fine_two}
-use Rattle.tidy_code.specs.laws.Longer.{all_long, placed_no, placed_zeros, placed_one, placed_two, placed_lone}
+use Rattle.tidy_code.specs.laws.Longer.{all_long, placed_zeros, placed_one, placed_two, placed_lone}
 use Rattle.tidy_code.proofs.longer.place.Goals as goal
 
 pub overflow_add-i : goal.overflow_add-i
@@ -39,13 +39,10 @@ returns-then-i-lt4097 c =
     placed_two _ c.store-k.new.list a.i a.e _ _ _ c.in-Two.is (all_long a.list.now a.last c.requires.0) c.store-l-in-Two.new.list
     c.store-l-in-Two.result c.store-k.result c.if-i-lt4097.true c.store-l-in-Two.ensures c.store-k.ensures
 
-pub returns-in-Refused : goal.returns-in-Refused
-returns-in-Refused c = let a = c.args in placed_no _ a.list.now a.i a.e _ c.in-Refused.is
-
 pub returns-in-Zeros : goal.returns-in-Zeros
 returns-in-Zeros c =
     let a = c.args in
-    placed_zeros _ a.list.now a.i a.e _ _ c.past.result a.last c.in-Zeros.is c.past.ensures refl
+    placed_zeros _ a.list.now a.i a.e _ _ c.clipped.result a.last c.in-Zeros.is c.clipped.ensures refl
 
 pub returns-in-One : goal.returns-in-One
 returns-in-One c =

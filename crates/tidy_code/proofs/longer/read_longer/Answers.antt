@@ -14,28 +14,28 @@ fill-requires c =
 
 pub clean_tail-requires : goal.clean_tail-requires
 clean_tail-requires c =
-    let e = filled_whole _ _ _ c.fill.ensures c.in-Whole.at c.in-Whole.last c.in-Whole.is in
-    (c.requires.0, longer_inside c.args.rlgr3 c.args.s.now c.fill.new.list c.in-Whole.last c.in-Whole.at e)
+    let e = filled_whole _ _ _ c.fill.ensures c.in-Ok.at c.in-Ok.last c.in-Ok.is in
+    (c.requires.0, longer_inside c.args.rlgr3 c.args.s.now c.fill.new.list c.in-Ok.last c.in-Ok.at e)
 
-pub returns-then-last-eq1 : goal.returns-then-last-eq1
-returns-then-last-eq1 c =
-    let e = filled_whole _ _ _ c.fill.ensures c.in-Whole.at c.in-Whole.last c.in-Whole.is in
-    longer_is c.args.rlgr3 c.args.s.now c.fill.new.list c.in-Whole.last c.in-Whole.at e (c.fill.auto.list ∙ c.clear.auto.list ∙ c.requires.1)
-    (sym c.clean_tail.ensures ∙ c.if-clean_tail.true) c.if-last-eq1.true
+pub returns-then-not-clean_tail : goal.returns-then-not-clean_tail
+returns-then-not-clean_tail c =
+    let e = filled_whole _ _ _ c.fill.ensures c.in-Ok.at c.in-Ok.last c.in-Ok.is in
+    longer_tail c.args.rlgr3 c.args.s.now c.fill.new.list c.in-Ok.last c.in-Ok.at e _ _ (sym c.clean_tail.ensures ∙ c.if-not-clean_tail.true)
+    c.refuse-then-not-clean_tail.ensures
 
-pub returns-then-clean_tail : goal.returns-then-clean_tail
-returns-then-clean_tail c =
-    let e = filled_whole _ _ _ c.fill.ensures c.in-Whole.at c.in-Whole.last c.in-Whole.is in
-    longer_other c.args.rlgr3 c.args.s.now c.fill.new.list c.in-Whole.last c.in-Whole.at e (c.fill.auto.list ∙ c.clear.auto.list ∙ c.requires.1)
-    (sym c.clean_tail.ensures ∙ c.if-clean_tail.true) _ _ c.if-last-eq1.false c.refuse-then-clean_tail.ensures
+pub returns-then-last-ne1 : goal.returns-then-last-ne1
+returns-then-last-ne1 c =
+    let e = filled_whole _ _ _ c.fill.ensures c.in-Ok.at c.in-Ok.last c.in-Ok.is in
+    longer_other c.args.rlgr3 c.args.s.now c.fill.new.list c.in-Ok.last c.in-Ok.at e (c.fill.auto.list ∙ c.clear.auto.list ∙ c.requires.1)
+    (sym c.clean_tail.ensures ∙ c.if-not-clean_tail.false) _ _ c.if-last-ne1.true c.refuse-then-last-ne1.ensures
 
-pub returns-in-Bad : goal.returns-in-Bad
-returns-in-Bad c =
-    let q = filled_bad _ _ _ c.fill.ensures c.in-Bad.is in
-    longer_refused (bits_of c.args.s.now) _ q.0 _ _ q.1 c.refuse.ensures
+pub returns-in-Err : goal.returns-in-Err
+returns-in-Err c =
+    let q = filled_bad _ _ _ c.fill.ensures _ c.in-Err.is in
+    longer_refused (bits_of c.args.s.now) _ _ _ _ q c.refuse.ensures
 
-pub returns-else-clean_tail : goal.returns-else-clean_tail
-returns-else-clean_tail c =
-    let e = filled_whole _ _ _ c.fill.ensures c.in-Whole.at c.in-Whole.last c.in-Whole.is in
-    longer_tail c.args.rlgr3 c.args.s.now c.fill.new.list c.in-Whole.last c.in-Whole.at e _ _ (sym c.clean_tail.ensures ∙ c.if-clean_tail.false)
-    c.refuse-in-Whole.ensures
+pub returns-else-last-ne1 : goal.returns-else-last-ne1
+returns-else-last-ne1 c =
+    let e = filled_whole _ _ _ c.fill.ensures c.in-Ok.at c.in-Ok.last c.in-Ok.is in
+    longer_is c.args.rlgr3 c.args.s.now c.fill.new.list c.in-Ok.last c.in-Ok.at e (c.fill.auto.list ∙ c.clear.auto.list ∙ c.requires.1)
+    (sym c.clean_tail.ensures ∙ c.if-not-clean_tail.false) c.if-last-ne1.false

@@ -1,14 +1,13 @@
 -- Each turn keeps it, and at the end it is what is promised.
 use Prim.Native.Nat.{◌/◌}
-use mathlib.Core.Path.{refl, ap, ◌∙◌}
+use mathlib.Core.Path.{refl}
 use native.Mathlib.Omega.{arith}
-use lib.ListN.{length}
 use borrow.Author.Tests.{le-leb, lt-leb}
 use Rattle.whole.specs.laws.Row.{passes, fails}
 use Rattle.tile_diff.specs.Tiles.{words_of}
 use Rattle.tile_diff.specs.Counts.{row_counted}
 use Rattle.tile_diff.specs.laws.Words.{few, many}
-use Rattle.tile_diff.specs.laws.Count.{small_product, columns_none, columns_next, columns_done, columns_length}
+use Rattle.tile_diff.specs.laws.Count.{small_product, columns_none, columns_next, columns_done}
 use Rattle.tile_diff.proofs.count.count_row.Goals as goal
 
 pub returns-then-a-w : goal.returns-then-a-w
@@ -35,7 +34,7 @@ overflow_mul-first c =
 pub loop-x-init : goal.loop-x-init
 loop-x-init c =
     let s = c.args in
-    (omega arith, columns_none (words_of s.a.now) (words_of s.b.now) s.width s.y _)
+    columns_none (words_of s.a.now) (words_of s.b.now) s.width s.y _
 
 pub overflow_add-first : goal.overflow_add-first
 overflow_add-first c =
@@ -46,28 +45,13 @@ overflow_add-first c =
 pub count_word-requires : goal.count_word-requires
 count_word-requires c = (omega arith, omega arith)
 
-pub overflow_add-x : goal.overflow_add-x
-overflow_add-x c = omega arith
-
-pub loop-x-smaller : goal.loop-x-smaller
-loop-x-smaller c = omega arith
-
 pub loop-x-preserved : goal.loop-x-preserved
 loop-x-preserved c =
     let s = c.args in
     let tiles-over = c.tiles_over in
     let count_word = c.count_word in
-    let l = c.loop-x in (
-      omega arith,
-      columns_next s.a.now s.b.now _ _ _ _ _ _ _ tiles-over.ensures.0 (omega arith) (omega arith) count_word.ensures
-          l.invariant.1,
-    )
-
-pub shape_of-counts : goal.shape_of-counts
-shape_of-counts c =
     let l = c.loop-x in
-    let s = c.args in
-    ap length l.invariant.1 ∙ columns_length (words_of s.a.now) (words_of s.b.now) _ _ _ _
+    columns_next s.a.now s.b.now _ _ _ _ _ _ _ tiles-over.ensures.0 (omega arith) (omega arith) count_word.ensures l.invariant
 
 pub returns : goal.returns
 unfolding row_counted
@@ -78,4 +62,4 @@ returns c =
     let l = c.loop-x in
     passes _ _ _ _ (le-leb _ _ (many _ s.a.now if1.false))
     (passes _ _ _ _ (le-leb _ _ (many _ s.b.now if2.false))
-    (columns_done (words_of s.a.now) (words_of s.b.now) _ _ _ _ _ (omega arith) l.invariant.1))
+    (columns_done (words_of s.a.now) (words_of s.b.now) _ _ _ _ _ (omega arith) l.invariant))

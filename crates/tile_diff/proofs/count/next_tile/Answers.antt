@@ -27,15 +27,6 @@ returns-then-n-gt0 c =
     let l = c.loop-k in
     next_found _ _ _ _ loop-test.true if1.true count_at.ensures Line-of.ensures ∙ l.invariant
 
-pub overflow_add-k : goal.overflow_add-k
-overflow_add-k c =
-    let tiles-over = c.tiles_over-columns in
-    let tiles-over2 = c.tiles_over in
-    omega (arith, small_product tiles-over.ensures.1 tiles-over2.ensures.1)
-
-pub loop-k-smaller : goal.loop-k-smaller
-loop-k-smaller c = omega arith
-
 pub loop-k-preserved : goal.loop-k-preserved
 loop-k-preserved c =
     let loop-test = c.loop-k-test in

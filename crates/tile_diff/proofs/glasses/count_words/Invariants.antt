@@ -1,11 +1,9 @@
 -- Invariant: the first i places are counted (`places_next`).
-use Prim.Native.Nat.{◌-◌, ◌≤◌}
-use mathlib.Core.Path.{◌≡◌}
+use Rattle.std.specs.Prelude.{◌≡◌, map}
 use Rattle.tile_diff.specs.Pictures.{places_counted}
 use Rattle.tile_diff.proofs.glasses.count_words.Given as goal
 
 abbrev pub invariant-loop-i : goal.invariant-loop-i
-invariant-loop-i l = (l.i ≤ l.n) × (l.counts ≡ places_counted l.a l.b l.width l.i l.initial.counts)
-
-abbrev pub decreases-loop-i : goal.decreases-loop-i
-decreases-loop-i l = l.n - l.i
+invariant-loop-i g l =
+    let n = g.W.GlassWord.number in
+    l.counts ≡ places_counted (map n l.a) (map n l.b) l.width l.i l.initial.counts

@@ -1,5 +1,5 @@
 -- A good size fits 16 bits; then the tile is `next_tile`'s.
-use mathlib.Core.Path.{refl, ap, sym, ◌∙◌}
+use mathlib.Core.Path.{ap, sym, ◌∙◌}
 use native.Mathlib.Omega.{arith}
 use Rattle.whole.specs.laws.Row.{passes, fails}
 use Rattle.tile_diff.specs.Pictures.{found_of, found_from}
@@ -22,4 +22,4 @@ returns-then-is_size c = passes _ _ _ _ (sym c.is_size.ensures ∙ c.if-is_size.
 
 pub returns : goal.returns
 unfolding found_from
-returns c = fails _ _ _ _ (sym c.is_size.ensures ∙ c.if-is_size.false) refl
+returns c = fails _ _ _ _ (sym c.is_size.ensures ∙ c.if-is_size.false) (rw c.number.ensures)

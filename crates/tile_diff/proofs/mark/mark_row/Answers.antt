@@ -1,7 +1,6 @@
 -- Each turn keeps it, and at the end it is what is promised.
-use mathlib.Core.Path.{refl, ap, ◌∙◌}
+use mathlib.Core.Path.{refl}
 use native.Mathlib.Omega.{arith}
-use lib.ListN.{length}
 use borrow.Author.Tests.{le-leb, lt-leb}
 use Rattle.whole.specs.laws.Row.{passes, fails}
 use Rattle.tile_diff.specs.Tiles.{words_of}
@@ -28,35 +27,23 @@ returns-then-out-width c =
 pub loop-x-init : goal.loop-x-init
 loop-x-init c =
     let s = c.args in
-    (omega arith, marked_none (words_of s.row.now) s.width s.height s.y s.counts.now _)
+    marked_none (words_of s.row.now) s.width s.height s.y s.counts.now _
 
 pub shown-requires : goal.shown-requires
 shown-requires c = omega arith
 
-pub bounds-out-i : goal.bounds-out-i
-bounds-out-i c =
+pub bounds-out-x : goal.bounds-out-x
+bounds-out-x c =
     let l = c.loop-x in
     let s = c.args in
-    rw l.invariant.1 (omega (arith, marked_length (words_of s.row.now) s.width s.height s.y s.counts.now l.x s.out.now))
-
-pub overflow_add-x : goal.overflow_add-x
-overflow_add-x c = omega arith
-
-pub loop-x-smaller : goal.loop-x-smaller
-loop-x-smaller c = omega arith
+    rw l.invariant (omega (arith, marked_length (words_of s.row.now) s.width s.height s.y s.counts.now l.x s.out.now))
 
 pub loop-x-preserved : goal.loop-x-preserved
 loop-x-preserved c =
     let s = c.args in
     let shown = c.shown in
     let l = c.loop-x in
-    (omega arith, marked_next s.row.now _ _ _ _ _ _ _ _ (omega arith) shown.ensures l.invariant.1)
-
-pub shape_of-out : goal.shape_of-out
-shape_of-out c =
-    let l = c.loop-x in
-    let s = c.args in
-    ap length l.invariant.1 ∙ marked_length (words_of s.row.now) s.width s.height s.y s.counts.now _ _
+    marked_next s.row.now _ _ _ _ _ _ _ _ (omega arith) shown.ensures l.invariant
 
 pub returns : goal.returns
 unfolding row_marked
@@ -67,4 +54,4 @@ returns c =
     let l = c.loop-x in
     passes _ _ _ _ (le-leb _ _ (many _ s.row.now if1.false))
     (passes _ _ _ _ (le-leb _ _ if2.false)
-    (marked_done (words_of s.row.now) s.width s.height s.y s.counts.now _ _ _ (omega arith) l.invariant.1))
+    (marked_done (words_of s.row.now) s.width s.height s.y s.counts.now _ _ _ (omega arith) l.invariant))

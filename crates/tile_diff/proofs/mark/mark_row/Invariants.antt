@@ -1,12 +1,8 @@
 -- `tile_diff::mark::mark_row` meets its contract. Invariant: the first x words are made.
-use Prim.Native.Nat.{◌-◌, ◌≤◌}
-use mathlib.Core.Path.{◌≡◌}
+use Rattle.std.specs.Prelude.{◌≡◌}
 use Rattle.tile_diff.specs.Tiles.{words_of}
 use Rattle.tile_diff.specs.Mark.{columns_marked}
 use Rattle.tile_diff.proofs.mark.mark_row.Given as goal
 
 abbrev pub invariant-loop-x : goal.invariant-loop-x
-invariant-loop-x l = (l.x ≤ l.width) × (l.out ≡ columns_marked (words_of l.row) l.width l.height l.y l.counts l.x l.initial.out)
-
-abbrev pub decreases-loop-x : goal.decreases-loop-x
-decreases-loop-x l = l.width - l.x
+invariant-loop-x l = l.out ≡ columns_marked (words_of l.row) l.width l.height l.y l.counts l.x l.initial.out

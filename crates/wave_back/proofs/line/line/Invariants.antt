@@ -1,5 +1,4 @@
 -- `line::line` meets its contract. Invariant: the pairs below j are done, and x is the next even place.
-use Prim.Native.Nat.{◌≤◌, ◌-◌}
 use mathlib.Core.Path.{◌≡◌}
 use lib.ListN.{length}
 use Rattle.whole.specs.Tab.{at}
@@ -9,9 +8,5 @@ use Rattle.wave_back.proofs.line.line.Given as goal
 
 abbrev pub invariant-loop-j : goal.invariant-loop-j
 invariant-loop-j l =
-    (l.last ≡ length l.lo - 1) × (l.j ≤ l.last) × (length l.out ≡ length l.initial.out)
-    × (l.x ≡ even_at (at l.lo) (at l.hi) l.j)
+    (l.x ≡ even_at (at l.lo) (at l.hi) l.j)
     × Pairs (even_at (at l.lo) (at l.hi)) (odd_at row_avg (length l.lo) (at l.hi) (even_at (at l.lo) (at l.hi))) l.j l.out
-
-abbrev pub decreases-loop-j : goal.decreases-loop-j
-decreases-loop-j l = l.last - l.j

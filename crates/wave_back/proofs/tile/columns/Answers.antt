@@ -1,5 +1,6 @@
 -- Each turn keeps it, and at the end it is what is promised.
-use mathlib.Core.Path.{refl}
+use Prim.Native.Nat.{◌-◌}
+use mathlib.Core.Path.{◌≡◌, refl}
 use native.Mathlib.Omega.{arith}
 use Rattle.wave_back.specs.laws.Column.{own, columns_are}
 use Rattle.wave_back.specs.laws.Pass.{first_turn, next_turn, last_turn, in_width}
@@ -16,15 +17,6 @@ pub loop-r-init : goal.loop-r-init
 loop-r-init c =
     first_turn c.args.n c.args.w _ _ _ _ (own c.args.n) c.args.dst.now _ c.requires.0 c.requires.3 c.pair.ensures
 
-pub overflow_add-r : goal.overflow_add-r
-overflow_add-r c = omega arith
-
-pub overflow_sub-r : goal.overflow_sub-r
-overflow_sub-r c = omega arith
-
-pub overflow_add-r-in-loop-r : goal.overflow_add-r-in-loop-r
-overflow_add-r-in-loop-r c = omega arith
-
 pub pair-requires-in-loop-r : goal.pair-requires-in-loop-r
 pair-requires-in-loop-r c =
     let p = c.requires in
@@ -32,22 +24,10 @@ pair-requires-in-loop-r c =
     let l = c.loop-r.invariant in
     record { n_bound = (p.1, omega arith, in_width n p.5 p.2, in_width n p.5 l.long, p.4); r_lt_n = (omega arith, refl, omega arith, omega arith) }
 
-pub overflow_add-r-in-loop-r-2 : goal.overflow_add-r-in-loop-r-2
-overflow_add-r-in-loop-r-2 c = omega arith
-
-pub loop-r-smaller : goal.loop-r-smaller
-loop-r-smaller c = omega arith
-
 pub loop-r-preserved : goal.loop-r-preserved
 loop-r-preserved c =
     let l = c.loop-r in
     next_turn c.args.n c.args.w _ _ _ _ (own c.args.n) l.r l.dst _ l.invariant c.pair-in-loop-r.ensures (omega arith)
-
-pub overflow_sub-r-2 : goal.overflow_sub-r-2
-overflow_sub-r-2 c = omega arith
-
-pub overflow_sub-r-3 : goal.overflow_sub-r-3
-overflow_sub-r-3 c = omega arith
 
 pub pair-requires-2 : goal.pair-requires-2
 pair-requires-2 c =
@@ -62,5 +42,6 @@ shape_of-dst c = omega (arith, c.pair-2.ensures.same, c.loop-r.invariant.long)
 pub returns : goal.returns
 returns c =
     let l = c.loop-r in
+    let e : l.r ≡ c.args.n - 1 = omega arith in
     columns_are c.args.n c.args.w c.args.src.now _ (omega arith) c.requires.5
-    (last_turn c.args.n c.args.w _ _ _ _ (own c.args.n) l.r l.dst _ l.invariant c.pair-2.ensures c.requires.0 (omega arith))
+    (last_turn c.args.n c.args.w _ _ _ _ (own c.args.n) (c.args.n - 1) l.dst _ (rw e at l.invariant) c.pair-2.ensures c.requires.0 (omega arith))

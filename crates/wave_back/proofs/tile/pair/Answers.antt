@@ -97,7 +97,7 @@ pub overflow_mul-o-2 : goal.overflow_mul-o-2
 overflow_mul-o-2 c = omega (arith, space (goal.at.overflow_mul-o-2 c).Start)
 
 pub loop-c-init : goal.loop-c-init
-loop-c-init c = (omega arith, two_start _ _ _ _ _ _)
+loop-c-init c = two_start _ _ _ _ _ _
 
 pub overflow_add-l : goal.overflow_add-l
 overflow_add-l c = omega (arith, space (goal.at.overflow_add-l c).Start)
@@ -193,12 +193,6 @@ offset_bounds-dst-o c = omega (arith, space (goal.at.offset_bounds-dst-o c).Star
 pub bounds-dst-o : goal.bounds-dst-o
 bounds-dst-o c = simp length-set (omega (arith, space (goal.at.bounds-dst-o c).Start))
 
-pub overflow_add-c : goal.overflow_add-c
-overflow_add-c c = omega arith
-
-pub loop-c-smaller : goal.loop-c-smaller
-loop-c-smaller c = omega arith
-
 pub loop-c-preserved : goal.loop-c-preserved
 loop-c-preserved c =
     let k = c.loop-c.c in
@@ -209,18 +203,13 @@ loop-c-preserved c =
     back_ok w32 c.even-s.result c.even-s.type_inv
     ∙ s_is (goal.at.loop-c-preserved c).After-even-s in
     let v = back_ok w32 c.even-t.result c.even-t.type_inv ∙ t_is (goal.at.loop-c-preserved c).After-even-t ∙ ap
-    (even_at (low_col w (at src) k) (high_col n w (at src) k)) c.requires.r_lt_n.2 in (
-      omega arith,
-      two_put w _ _ _ _ k _ c.loop-c.dst _ _ (λ d. omega arith)
-          (omega arith)
-          (omega (arith, space (goal.at.loop-c-preserved c).Start)) (omega (arith, space (goal.at.loop-c-preserved c).Start)) u
-          (back_ok w32 c.odd_down-v.result c.odd_down-v.type_inv
-          ∙ odd_step col_avg n (high_col n w (at src) k) _ c.args.r c.odd_down-v.ensures (back w32 (c.requires.n_bound.4.all _) tt) u v)
-          c.loop-c.invariant.1,
-    )
-
-pub shape_of-dst : goal.shape_of-dst
-shape_of-dst c = omega arith
+    (even_at (low_col w (at src) k) (high_col n w (at src) k)) c.requires.r_lt_n.2 in
+    two_put w _ _ _ _ k _ c.loop-c.dst _ _ (λ d. omega arith)
+    (omega arith)
+    (omega (arith, space (goal.at.loop-c-preserved c).Start)) (omega (arith, space (goal.at.loop-c-preserved c).Start)) u
+    (back_ok w32 c.odd_down-v.result c.odd_down-v.type_inv
+    ∙ odd_step col_avg n (high_col n w (at src) k) _ c.args.r c.odd_down-v.ensures (back w32 (c.requires.n_bound.4.all _) tt) u v)
+    c.loop-c.invariant
 
 pub returns : goal.returns
-returns c = two_whole (omega arith) c.loop-c.invariant.1
+returns c = two_whole (omega arith) c.loop-c.invariant

@@ -1,5 +1,5 @@
 -- `halves::row` meets its contract. Invariant: the first j numbers of both halves are done, and g is the H before.
-use Prim.Native.Nat.{◌≤◌, ◌-◌}
+use Prim.Native.Nat.{◌-◌}
 use mathlib.Core.Path.{◌≡◌}
 use Rattle.wave_forth.specs.Halves.{line_high}
 use Rattle.wave_forth.specs.laws.Row.{from, Split}
@@ -7,7 +7,4 @@ use Rattle.wave_forth.proofs.line.row.Given as goal
 
 abbrev pub invariant-loop-j : goal.invariant-loop-j
 invariant-loop-j l =
-    (l.last ≡ l.n - 1) × (l.j ≤ l.last) × (l.g ≡ line_high l.n (from l.src l.s) (l.j - 1)) × Split l.n (from l.src l.s) l.l l.h l.j l.initial.dst l.dst
-
-abbrev pub decreases-loop-j : goal.decreases-loop-j
-decreases-loop-j l = l.last - l.j
+    (l.g ≡ line_high l.n (from l.src l.s) (l.j - 1)) × Split l.n (from l.src l.s) l.l l.h l.j l.initial.dst l.dst

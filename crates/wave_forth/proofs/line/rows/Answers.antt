@@ -15,25 +15,7 @@ room : (c : After-row-arg-1) → Within c.args.n c.args.w c.loop-r.r
 room c = record { rows = row_in _ _ _ c.loop-r-test.true; band = row_in _ _ _ c.loop-r-test.true }
 
 pub loop-r-init : goal.loop-r-init
-loop-r-init c = (omega arith, bands_start _ _ _ _ _ _ _)
-
-pub overflow_mul-r : goal.overflow_mul-r
-overflow_mul-r c = omega (arith, room (goal.at.overflow_mul-r c).After-row-arg-1)
-
-pub overflow_add-s : goal.overflow_add-s
-overflow_add-s c = omega (arith, room (goal.at.overflow_add-s c).After-row-arg-1)
-
-pub overflow_mul-r-in-loop-r : goal.overflow_mul-r-in-loop-r
-overflow_mul-r-in-loop-r c = omega (arith, room (goal.at.overflow_mul-r-in-loop-r c).After-row-arg-1)
-
-pub overflow_add-l : goal.overflow_add-l
-overflow_add-l c = omega (arith, room (goal.at.overflow_add-l c).After-row-arg-1)
-
-pub overflow_mul-r-in-loop-r-2 : goal.overflow_mul-r-in-loop-r-2
-overflow_mul-r-in-loop-r-2 c = omega (arith, room (goal.at.overflow_mul-r-in-loop-r-2 c).After-row-arg-1)
-
-pub overflow_add-h : goal.overflow_add-h
-overflow_add-h c = omega (arith, room (goal.at.overflow_add-h c).After-row-arg-1)
+loop-r-init c = bands_start _ _ _ _ _ _ _
 
 pub row-requires : goal.row-requires
 row-requires c =
@@ -49,22 +31,14 @@ row-requires c =
       apart = (row_apart c.args.n r c.args.l c.args.h c.loop-r-test.true c.requires.apart.0, c.requires.apart.1);
     }
 
-pub overflow_add-r : goal.overflow_add-r
-overflow_add-r c = omega arith
-
-pub loop-r-smaller : goal.loop-r-smaller
-loop-r-smaller c = omega arith
-
 pub loop-r-preserved : goal.loop-r-preserved
 loop-r-preserved c =
-    let l = c.loop-r in (
-      omega arith,
-      bands_turn c.args.n l.r c.args.l c.args.h c.loop-r-test.true c.requires.apart.0 c.args.w c.args.s
-          c.args.src.now _ l.dst _ c.row.ensures l.invariant.1,
-    )
+    let l = c.loop-r in
+    bands_turn c.args.n l.r c.args.l c.args.h c.loop-r-test.true c.requires.apart.0 c.args.w c.args.s
+    c.args.src.now _ l.dst _ c.row.ensures l.invariant
 
 pub shape_of-dst : goal.shape_of-dst
-shape_of-dst c = c.loop-r.invariant.1.same
+shape_of-dst c = c.loop-r.invariant.same
 
 pub returns : goal.returns
-returns c = bands_whole (omega arith) c.loop-r.invariant.1
+returns c = bands_whole (omega arith) c.loop-r.invariant

@@ -1,10 +1,6 @@
 -- `columns` meets its contract. Invariant: the rows of all turns below r are done, the first turn is behind and the last before (`Turned`).
-use Prim.Native.Nat.{◌-◌}
 use Rattle.wave_forth.specs.laws.Column.{Turns}
 use Rattle.wave_forth.proofs.tile.columns.Given as goal
 
 abbrev pub invariant-loop-r : goal.invariant-loop-r
 invariant-loop-r l = Turns l.n l.w l.src l.r l.dst
-
-abbrev pub decreases-loop-r : goal.decreases-loop-r
-decreases-loop-r l = l.n - l.r

@@ -100,7 +100,7 @@ pub overflow_mul-h : goal.overflow_mul-h
 overflow_mul-h c = omega (arith, space (goal.at.overflow_mul-h c).Start)
 
 pub loop-c-init : goal.loop-c-init
-loop-c-init c = (omega arith, two_start _ _ _ _ _ _)
+loop-c-init c = two_start _ _ _ _ _ _
 
 pub overflow_add-k-in-loop-c : goal.overflow_add-k-in-loop-c
 overflow_add-k-in-loop-c c = omega (arith, space (goal.at.overflow_add-k-in-loop-c c).Start)
@@ -196,12 +196,6 @@ offset_bounds-dst-h c = omega (arith, space (goal.at.offset_bounds-dst-h c).Star
 pub bounds-dst-h : goal.bounds-dst-h
 bounds-dst-h c = simp length-set (omega (arith, space (goal.at.bounds-dst-h c).Start))
 
-pub overflow_add-c : goal.overflow_add-c
-overflow_add-c c = omega arith
-
-pub loop-c-smaller : goal.loop-c-smaller
-loop-c-smaller c = omega arith
-
 pub loop-c-preserved : goal.loop-c-preserved
 loop-c-preserved c =
     let k = c.loop-c.c in
@@ -212,17 +206,12 @@ loop-c-preserved c =
     let u =
     back_ok w32 c.high-g.result c.high-g.type_inv
     ∙ g_is (goal.at.loop-c-preserved c).After-high-g ∙ ap (line_high n x) c.requires.r_lt_n.1 in
-    let v = back_ok w32 c.high-t.result c.high-t.type_inv ∙ t_is (goal.at.loop-c-preserved c).After-high-t in (
-      omega arith,
-      two_put w _ _ _ _ k _ c.loop-c.dst _ _ (λ d. omega arith)
-          (omega arith)
-          (omega (arith, space (goal.at.loop-c-preserved c).Start)) (omega (arith, space (goal.at.loop-c-preserved c).Start))
-          (back_ok w32 c.low-v.result c.low-v.type_inv ∙ low_step n x c.args.r c.low-v.ensures (back w32 (c.requires.n_bound.4.all _) tt) u v) v
-          c.loop-c.invariant.1,
-    )
-
-pub shape_of-dst : goal.shape_of-dst
-shape_of-dst c = omega arith
+    let v = back_ok w32 c.high-t.result c.high-t.type_inv ∙ t_is (goal.at.loop-c-preserved c).After-high-t in
+    two_put w _ _ _ _ k _ c.loop-c.dst _ _ (λ d. omega arith)
+    (omega arith)
+    (omega (arith, space (goal.at.loop-c-preserved c).Start)) (omega (arith, space (goal.at.loop-c-preserved c).Start))
+    (back_ok w32 c.low-v.result c.low-v.type_inv ∙ low_step n x c.args.r c.low-v.ensures (back w32 (c.requires.n_bound.4.all _) tt) u v) v
+    c.loop-c.invariant
 
 pub returns : goal.returns
-returns c = two_whole (omega arith) c.loop-c.invariant.1
+returns c = two_whole (omega arith) c.loop-c.invariant

@@ -1,9 +1,0 @@
--- What the loop keeps, and what falls with each turn.
-
-use Rattle.audit.proofs.tiles.tiles.Given as goal
-
-abbrev pub invariant-loop-left : goal.invariant-loop-left
-invariant-loop-left l = Unit {0}
-
-abbrev pub decreases-loop-left : goal.decreases-loop-left
-decreases-loop-left l = l.left

@@ -1,0 +1,9 @@
+-- `u16::pack` meets its contract: the code is the definition, and every step fits 16 bits.
+-- Assumes nothing.
+use Rattle.colour.specs.Colour.{pack565}
+use Rattle.colour.specs.laws.Colour.{pack_16}
+use Rattle.colour.proofs.U16GlassWord.pack.Goals as goal
+
+pub returns : goal.returns
+unfolding pack565
+returns c = pack_16 c.args.p.r c.args.p.g c.args.p.b

@@ -1,0 +1,9 @@
+-- `u32::pack` meets its contract: the code is the definition, and every step fits 32 bits.
+-- Assumes nothing.
+use Rattle.colour.specs.Colour.{pack888}
+use Rattle.colour.specs.laws.Colour.{pack-32}
+use Rattle.colour.proofs.U32GlassWord.pack.Goals as goal
+
+pub returns : goal.returns
+unfolding pack888
+returns c = pack-32 c.args.p.r c.args.p.g c.args.p.b

@@ -1,7 +1,0 @@
--- `edge::frame_call_32` meets its contract: one law over the word size (`frame-call`).
-use Rattle.panel.specs.laws.Edge.{frame-call}
-use Rattle.panel.proofs.edge.frame_call_32.Goals as goal
-
-pub returns : goal.returns
-returns c =
-    frame-call _ _ _ _ _ _ _ _ _ _ _ _ _ _ _ _ c.read_frame_32-f.ensures c.frame_tiles.ensures c.frame_number.ensures
