@@ -62,9 +62,7 @@ pub fn all_are(list: &[i32], v: i32) -> bool
 fn times_prime(x: u64) -> u64
     ensures { result ≡ (x * 1099511628211) % 2 ^ 64 }
 {
-    let low = 435 * (x % 4294967296);
-    let high = 435 * (x / 4294967296);
-    low.wrapping_add(high << 32).wrapping_add(x << 40)
+    x.wrapping_mul(1099511628211)
 }
 
 // The hash with a byte more.

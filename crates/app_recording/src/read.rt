@@ -17,7 +17,7 @@ pub struct Input<'a> {
 impl<'a> Input<'a> {
     // The input before its first byte.
     pub fn new(from: Stdin, lent: &'a mut [u8]) -> Input<'a>
-        ensures { Unit }
+        ensures { (result.at ≡ 0) × (result.have ≡ 0) }
     {
         Input {
             from,

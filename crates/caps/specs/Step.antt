@@ -21,24 +21,26 @@ pub record Here (w : Width) (m m' : List ℕ) (v : ℕ) : Type 0 where
   pub fits : v < most w
   pub left : m' ≡ drop (size w) m
 
--- its bytes are not all there
-pub record Short (w : Width) (m : List ℕ) (n : ℕ) : Type 0 where
+-- its bytes are not all there: nothing is taken off
+pub record Short (w : Width) (m m' : List ℕ) (n : ℕ) : Type 0 where
   pub short : length m < size w
   pub cut : n ≡ 1
+  pub left : m' ≡ m
 
 -- the next field
 abbrev pub Next : Width → List ℕ → List ℕ → Result ℕ Refusal → Type 0
-Next w m m' r = MatchResult r (Here w m m') (λ e. Short w m (refusal_number e))
+Next w m m' r = MatchResult r (Here w m m') (λ e. Short w m m' (refusal_number e))
 
--- a field with another value than the fixed one
-pub record Other (w : Width) (v n : ℕ) (m : List ℕ) (k : ℕ) : Type 0 where
+-- a field with another value than the fixed one: it is taken off
+pub record Other (w : Width) (v n : ℕ) (m m' : List ℕ) (k : ℕ) : Type 0 where
   pub there : size w ≤ length m
   pub not : number_at w m 0 ≢ v
   pub refused : k ≡ n
+  pub left : m' ≡ drop (size w) m
 
 -- a field with a fixed value
 abbrev pub Fixed : {A : Type 0} → Width → ℕ → ℕ → List ℕ → List ℕ → Result A Refusal → Type 0
-Fixed w v n m m' r = MatchResult r (λ _. Here w m m' v) (λ e. Short w m (refusal_number e) ⊎ Other w v n m (refusal_number e))
+Fixed w v n m m' r = MatchResult r (λ _. Here w m m' v) (λ e. Short w m m' (refusal_number e) ⊎ Other w v n m m' (refusal_number e))
 
 -- the end of the message
 unfoldable pub ends : List ℕ → ℕ

@@ -73,7 +73,15 @@ fn weight(seen: u8) -> usize
     requires { seen ≤ 6 }
     ensures { (result ≡ 256 ^ seen) × (result ≤ 281474976710656) }
 {
-    256usize.pow(seen as u32)
+    match seen {
+        0 => 1,
+        1 => 256,
+        2 => 65536,
+        3 => 16777216,
+        4 => 4294967296,
+        5 => 1099511627776,
+        _ => 281474976710656,
+    }
 }
 
 // The first fault of a head that is complete, where so many bytes are gathered.

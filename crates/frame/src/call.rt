@@ -111,6 +111,7 @@ fn clear_all(ys: &mut [i32], cbs: &mut [i32], crs: &mut [i32], tmp: &mut [i32])
 }
 
 // All that is judged before the picture is touched, for a picture of p words of a size.
+#[tactic(auto, using(crate::specs::laws::Frame::number_onward, crate::specs::laws::Frame::list_onward))]
 fn judge_frame(
     word: u8,
     s: Session,

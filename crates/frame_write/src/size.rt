@@ -78,7 +78,11 @@ fn tile_size(
 pub fn number_at(picks: &[u32], i: usize) -> usize
     ensures { result ≡ sent_at picks.now i }
 {
-    picks.get(i).map_or(i, |k| *k as usize)
+    // By place, not by `get`: a 32-bit machine does not tell an `Option` of a reference apart (docs/landings/19-arm.md).
+    if i < picks.len() {
+        return picks[i] as usize;
+    }
+    i
 }
 
 // The n tiles that are sent: the first refusal, or the bytes of all.

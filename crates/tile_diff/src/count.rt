@@ -52,7 +52,11 @@ pub fn count_row(a: &[u8], b: &[u8], width: u16, y: u16, counts: &mut [u32])
 pub fn count_at(counts: &[u32], k: usize) -> u32
     ensures { result ≡ get_or counts.now k 0 }
 {
-    counts.get(k).copied().unwrap_or(0)
+    // By place, not by `get`: a 32-bit machine does not tell an `Option` of a reference apart (docs/landings/19-arm.md).
+    if k < counts.len() {
+        return counts[k];
+    }
+    0
 }
 
 // The line of tile k.

@@ -1,16 +1,19 @@
--- What the test finds of each value is what a good set is (`set_good`, `good_set`).
-use Rattle.std.proofs.Common.{◌≡◌, Bool, true, false, refl, sym, rules, List, ℕ, ◌≤◌, ◌↔◌, length, IsTrue, EachIndex, slice_index, arith}
-use Rattle.bands.specs.Bands.{is_good}
-use Rattle.bands.specs.laws.Band.{good_set, set_good}
+-- Each turn keeps it, and at the end it is what is promised.
+use mathlib.Core.Path.{refl}
+use native.Mathlib.Omega.{arith}
+use Rattle.bands.specs.Bands.{good_to}
+use Rattle.bands.specs.laws.Band.{bad_low, bad_high, good_next}
 use Rattle.bands.proofs.is_good.Goals as goal
 
-by : (b : Bool) (q : List ℕ) → length q ≡ 10 → (IsTrue b ↔ EachIndex q (λ k. (6 ≤ slice_index q k) × (slice_index q k ≤ 15))) → b ≡ is_good q
-by true q l t = sym (set_good q (record { low = λ i h. (t.0 refl i (omega arith)).0; high = λ i h. (t.0 refl i (omega arith)).1 }))
-by false q l t = go (is_good q) refl
-  where
-    go : (g : Bool) → is_good q ≡ g → false ≡ g
-    go true e = let good = good_set q e in t.1 (λ i h. (good.low i (omega arith), good.high i (omega arith)))
-    go false e = refl
+pub loop-i-init : goal.loop-i-init
+unfolding good_to
+loop-i-init c = (omega arith, refl)
 
-pub returns : goal.returns
-returns c = by c.all.result c.args.q.v (omega arith) (search rules)
+pub returns-then-x-lt6 : goal.returns-then-x-lt6
+returns-then-x-lt6 c = bad_low c.args.q.v c.loop-i.i (omega arith) (omega arith)
+
+pub returns-then-x-gt15 : goal.returns-then-x-gt15
+returns-then-x-gt15 c = bad_high c.args.q.v c.loop-i.i (omega arith) (omega arith) (omega arith)
+
+pub loop-i-preserved : goal.loop-i-preserved
+loop-i-preserved c = (omega arith, good_next c.args.q.v c.loop-i.i c.loop-i.invariant.1 (omega arith) (omega arith))

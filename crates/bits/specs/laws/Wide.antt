@@ -209,21 +209,36 @@ ones_number (suc v) =
     ap₂ (λ (x : ℕ) (l : List Bool). odd x ∷ l) q (sym (num_bits_mod v v (2 ^ suc v - 1) (le_refl v)) ∙ ap (λ (x : ℕ). num_bits v x) r ∙ ones_number v)
 
 -- ones in words of 32, in the code's forms
-pub ones_more : (i : ℕ) → replicate (32 * i) true ++ num_bits 32 4294967295 ≡ replicate (32 * (i + 1)) true
-ones_more i =
+pub ones_more_turn : (i : ℕ) → replicate (32 * i) true ++ num_bits 32 4294967295 ≡ replicate (32 * (i + 1)) true
+ones_more_turn i =
     let e : 32 * i + 32 ≡ 32 * (i + 1) = omega arith in
     ap (λ (x : List Bool). replicate (32 * i) true ++ x) (ones_number 32) ∙ replicate-append-replicate (32 * i) 32 true
+    ∙ ap (λ (m : ℕ). replicate m true) e
+
+-- whatever number of ones is left
+pub ones_more : (v left : ℕ) → left ≤ v → 32 < left → replicate (v - left) true ++ num_bits 32 4294967295 ≡ replicate (v - (left - 32)) true
+ones_more v left h l =
+    let e : v - left + 32 ≡ v - (left - 32) = omega arith in
+    ap (λ (x : List Bool). replicate (v - left) true ++ x) (ones_number 32) ∙ replicate-append-replicate (v - left) 32 true
     ∙ ap (λ (m : ℕ). replicate m true) e
 
 pub ones_fit : (left : ℕ) → left ≤ 32 → (1 ≤ 1 * 2 ^ left % 2 ^ 64) × (1 * 2 ^ left % 2 ^ 64 - 1 < 2 ^ left)
 ones_fit left l = let o : 0 < 2 ^ left = pow_pos left in rw (one_up left l) (omega arith, omega arith)
 
-pub ones_end : (v i : ℕ) → i ≡ v / 32 → replicate (32 * i) true ++ num_bits (v % 32) (1 * 2 ^ (v % 32) % 2 ^ 64 - 1) ≡ replicate v true
-ones_end v i h =
+pub ones_end_turn : (v i : ℕ) → i ≡ v / 32 → replicate (32 * i) true ++ num_bits (v % 32) (1 * 2 ^ (v % 32) % 2 ^ 64 - 1) ≡ replicate v true
+ones_end_turn v i h =
     let left = v % 32 in
     let e : 32 * i + left ≡ v = omega arith in
     ap (λ (x : ℕ). replicate (32 * i) true ++ num_bits left (x - 1)) (one_up left (omega arith))
     ∙ ap (λ (x : List Bool). replicate (32 * i) true ++ x) (ones_number left) ∙ replicate-append-replicate (32 * i) left true
+    ∙ ap (λ (m : ℕ). replicate m true) e
+
+-- whatever number of ones is left
+pub ones_end : (v left : ℕ) → left ≤ v → left ≤ 32 → replicate (v - left) true ++ num_bits left (1 * 2 ^ left % 2 ^ 64 - 1) ≡ replicate v true
+ones_end v left h l =
+    let e : v - left + left ≡ v = omega arith in
+    ap (λ (x : ℕ). replicate (v - left) true ++ num_bits left (x - 1)) (one_up left l)
+    ∙ ap (λ (x : List Bool). replicate (v - left) true ++ x) (ones_number left) ∙ replicate-append-replicate (v - left) left true
     ∙ ap (λ (m : ℕ). replicate m true) e
 
 -- in the code's forms: few ones

@@ -16,7 +16,7 @@ use Rattle.caps.specs.Request.{read_number, EntryRefuses, CapsetRefuses, BlockRe
 use Rattle.caps.specs.laws.Walk.{then_back, field_back, row_back}
 use Rattle.caps.specs.laws.Step.{row_stops, stops_then}
 use Rattle.caps.specs.laws.Back.{entry_both}
-use Rattle.caps.specs.laws.Refuse.{read_numbers, walk_says, block_refusing}
+use Rattle.caps.specs.laws.Refuse.{read_few, read_numbers, walk_says, block_refusing}
 use Rattle.caps.specs.declared.Entry.{Entry}
 use Rattle.caps.specs.declared.walk.Width.TheVariants.{One, Two, Four}
 
@@ -139,7 +139,7 @@ block_number :
     (flags capsLength k : ℕ) (more : List ℕ) → flags < 4294967296 → 12 + capsLength < 4294967296 → walk (block capsLength) more ≡ Stopped k →
     number_of (read_caps (bytes32 (12 + capsLength) ++ (bytes32 flags ++ (bytes32 capsLength ++ more)))) ≡ k
 block_number flags capsLength k more f c e =
-    let few = read_numbers.few k (walk_says read_number read_numbers (block capsLength) (block_refusing capsLength) more k e) in
+    let few = read_few k (walk_says read_number read_numbers (block capsLength) (block_refusing capsLength) more k e) in
     ap number_of (block_inside flags capsLength k more f c e) ∙ number_back k few.0 few.1
 
 pub container_refuses : ContainerRefuses

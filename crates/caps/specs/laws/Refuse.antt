@@ -79,7 +79,6 @@ pub record Says (says : ℕ → Bool) : Type 0 where
   pub missing : says 1 ≡ true
   pub length : says 4 ≡ true
   pub fixed : says 5 ≡ true
-  pub few : (n : ℕ) → says n ≡ true → (0 < n) × (n ≤ 13)
 
 pub data Refusing (says : ℕ → Bool) {A : Type 0} : Layout A → Type 0 where
   none_said : (a : A) → Refusing says (gives a)
@@ -99,7 +98,7 @@ unfolding ack_says read_number
 ack_among n e = wider (eqb n 1) (eqb n 4) (eqb n 5) (eqb n 6) e
 
 -- and the container says none that is no refusal's
-read_few : (n : ℕ) → read_number n ≡ true → (0 < n) × (n ≤ 13)
+pub read_few : (n : ℕ) → read_number n ≡ true → (0 < n) × (n ≤ 13)
 unfolding read_number ◌⇒◌∣◌
 read_few n e = go (eqb n 1) (eqb n 4) (eqb n 5) (eqb n 6) refl refl refl refl e
   where
@@ -112,11 +111,11 @@ read_few n e = go (eqb n 1) (eqb n 4) (eqb n 5) (eqb n 6) refl refl refl refl e
 
 pub read_numbers : Says read_number
 unfolding read_number ◌⇒◌∣◌
-read_numbers = record { missing = refl; length = refl; fixed = refl; few = read_few }
+read_numbers = record { missing = refl; length = refl; fixed = refl }
 
 pub ack_numbers : Says ack_says
 unfolding ack_says ◌⇒◌∣◌
-ack_numbers = record { missing = refl; length = refl; fixed = refl; few = λ n e. read_few n (ack_among n e) }
+ack_numbers = record { missing = refl; length = refl; fixed = refl }
 
 says_6 : read_number 6 ≡ true
 unfolding read_number ◌⇒◌∣◌
@@ -241,15 +240,15 @@ module _ {A : Type 0} (l : Layout A) {Good : A → Type 0} {bytes : A → List �
       let w : walk l (m ++ b ∷ more) ≡ Came a (b ∷ more) = ap (λ (x : List ℕ). walk l (x ++ b ∷ more)) (sym s.1) ∙ both.back a (b ∷ more) s.0 in
       ap answered w ∙ sym (fails _ _ _ _ (ne_eqb (length (b ∷ more)) 0 (λ z. omega arith)) refl)
 
-pub read_says : {A : Type 0} (l : Layout A) (says : ℕ → Bool) → Says says → Refusing says l → (m : List ℕ) (refusal : Refusal) →
-    answered (walk l m) ≡ Err refusal → says (refusal_number refusal) ≡ true
+pub read_says : {A : Type 0} (l : Layout A) (says : ℕ → Bool) → Says says → ((n : ℕ) → says n ≡ true → (0 < n) × (n ≤ 13)) → Refusing says l →
+    (m : List ℕ) (refusal : Refusal) → answered (walk l m) ≡ Err refusal → says (refusal_number refusal) ≡ true
 unfolding ended
-read_says {A = A} l says y r m refusal e = go (walk l m) refl e
+read_says {A = A} l says y few r m refusal e = go (walk l m) refl e
   where
     the : (n : ℕ) → says n ≡ true → refusal_of n ≡ refusal → says (refusal_number refusal) ≡ true
     the n h o =
-        let few = y.few n h in
-        subst (λ (x : ℕ). says x ≡ true) (sym (number_back n few.0 few.1) ∙ ap refusal_number o) h
+        let p = few n h in
+        subst (λ (x : ℕ). says x ≡ true) (sym (number_back n p.0 p.1) ∙ ap refusal_number o) h
 
     go : (x : Walked A) → walk l m ≡ x → answered x ≡ Err refusal → says (refusal_number refusal) ≡ true
     go (Came a rest) f o = more (eqb (length rest) 0) refl
@@ -258,3 +257,46 @@ read_says {A = A} l says y r m refusal e = go (walk l m) refl e
         more true t = let q : Ok a ≡ Err refusal = passes _ _ _ _ t refl ∙ o in cc
         more false t = let q : refused_by 4 ≡ Err refusal = fails _ _ _ _ t refl ∙ o in the 4 y.length cc
     go (Stopped j) f o = the j (walk_says says y l r m j f) cc
+
+-- the same of any answer, of which it is known which it is
+
+pub record Apart {A R : Type 0} (taken : A → R) (refused : ℕ → R) : Type 0 where
+  pub same_fields : (x a : A) → taken x ≡ taken a → x ≡ a
+  pub same_number : (n k : ℕ) → refused n ≡ refused k → n ≡ k
+  pub apart : (n : ℕ) (a : A) → refused n ≡ taken a → ⊥
+
+module _
+    {A R : Type 0} (taken : A → R) (refused : ℕ → R) (l : Layout A) {Good : A → Type 0} {bytes : A → List ℕ} (both : Both l Good bytes)
+    (k : Apart taken refused)
+  where
+    came_by : (m : List ℕ) (a : A) → ended taken refused (walk l m) ≡ taken a → walk l m ≡ Came a []
+    came_by m a e = ends taken refused l both a (λ x. k.same_fields x a) (λ n. k.apart n a) m e
+
+    pub read_cut_by :
+        (m : List ℕ) (a : A) (n : ℕ)
+        → ended taken refused (walk l m) ≡ taken a
+        → n < length m
+        → ended taken refused (walk l (take n m)) ≡ refused 1
+    unfolding ended
+    read_cut_by m a n e h = ap (ended taken refused) (walk_cut l m a n (came_by m a e) h)
+
+    pub read-longer_by :
+        (m : List ℕ) (a : A) (b : ℕ) (more : List ℕ) → Bytes m → ended taken refused (walk l m) ≡ taken a →
+        ended taken refused (walk l (m ++ b ∷ more)) ≡ refused 4
+    unfolding ended
+    read-longer_by m a b more h e =
+        let s = read_same taken refused l both a (λ x. k.same_fields x a) (λ n. k.apart n a) m h e in
+        let w : walk l (m ++ b ∷ more) ≡ Came a (b ∷ more) = ap (λ (x : List ℕ). walk l (x ++ b ∷ more)) (sym s.1) ∙ both.back a (b ∷ more) s.0 in
+        ap (ended taken refused) w ∙ sym (fails _ _ _ _ (ne_eqb (length (b ∷ more)) 0 (λ z. omega arith)) refl)
+
+    pub read_says_by : (says : ℕ → Bool) → Says says → Refusing says l → (m : List ℕ) (n : ℕ) → ended taken refused (walk l m) ≡ refused n → says n ≡ true
+    unfolding ended
+    read_says_by says y r m n e = go (walk l m) refl e
+      where
+        go : (x : Walked A) → walk l m ≡ x → ended taken refused x ≡ refused n → says n ≡ true
+        go (Came a rest) f o = more (eqb (length rest) 0) refl
+          where
+            more : (t : Bool) → eqb (length rest) 0 ≡ t → says n ≡ true
+            more true t = absurd (k.apart n a (sym o ∙ sym (passes _ _ _ _ t refl)))
+            more false t = subst (λ (x : ℕ). says x ≡ true) (k.same_number 4 n (fails _ _ _ _ t refl ∙ o)) y.length
+        go (Stopped j) f o = subst (λ (x : ℕ). says x ≡ true) (k.same_number j n o) (walk_says says y l r m j f)

@@ -19,7 +19,7 @@ use Rattle.caps.specs.Request.{read_number, ack_says, RequestTwelve}
 use Rattle.caps.specs.laws.Walk.{onward, walk_then, field_back, row_back}
 use Rattle.caps.specs.laws.Back.{entry_both, capset_both, block_both, container_both, ack_cap_both, ack_both}
 use Rattle.caps.specs.laws.Refuse.{read_numbers, ack_numbers, container_refusing, ack_cap_refusing, ack_refusing, read_cut, read-longer}
-use Rattle.caps.specs.laws.Refuse.{read_says}
+use Rattle.caps.specs.laws.Refuse.{ack_among, read_few, read_says}
 use Rattle.caps.specs.laws.Step.{row_stops}
 use Rattle.caps.specs.laws.Fields.{entry_refuses, capset_refuses, block_refuses, container_refuses, ack_cap_refuses, ack_refuses}
 use Rattle.caps.specs.laws.ReadBack.{caps_some, caps_written, caps_again, caps_once, ack_cap_written, ack_cap_again, ack_cap_once, ack_written}
@@ -90,7 +90,7 @@ module _ (r s : ReadCaps) (a : Caps) (e : r.answer ≡ Ok a) where
 caps_numbers : (r : ReadCaps) (e : Refusal) → r.answer ≡ Err e → read_number (refusal_number e) ≡ true
 unfolding read_caps
 caps_numbers r e h =
-    read_says container read_number read_numbers container_refusing r.message e (sym r.promise ∙ h)
+    read_says container read_number read_numbers read_few container_refusing r.message e (sym r.promise ∙ h)
 
 module _ (r s : ReadAckCap) (a : ℕ) (e : r.answer ≡ Ok a) where
   took_cap : read_ack_cap r.message ≡ Ok a
@@ -108,7 +108,7 @@ module _ (r s : ReadAckCap) (a : ℕ) (e : r.answer ≡ Ok a) where
 ack_cap_numbers : (r : ReadAckCap) (e : Refusal) → r.answer ≡ Err e → ack_says (refusal_number e) ≡ true
 unfolding read_ack_cap
 ack_cap_numbers r e h =
-    read_says ack_cap ack_says ack_numbers ack_cap_refusing r.message e (sym r.promise ∙ h)
+    read_says ack_cap ack_says ack_numbers (λ n k. read_few n (ack_among n k)) ack_cap_refusing r.message e (sym r.promise ∙ h)
 
 module _ (r s : ReadAck) (a : Ack) (e : r.answer ≡ Ok a) where
   took_ack : read_ack r.message ≡ Ok a
@@ -124,7 +124,7 @@ module _ (r s : ReadAck) (a : Ack) (e : r.answer ≡ Ok a) where
 
 message-numbers : (r : ReadAck) (e : Refusal) → r.answer ≡ Err e → ack_says (refusal_number e) ≡ true
 unfolding read_ack
-message-numbers r e h = read_says ack ack_says ack_numbers ack_refusing r.message e (sym r.promise ∙ h)
+message-numbers r e h = read_says ack ack_says ack_numbers (λ n k. read_few n (ack_among n k)) ack_refusing r.message e (sym r.promise ∙ h)
 
 -- ---- all of it
 

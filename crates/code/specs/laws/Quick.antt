@@ -309,3 +309,9 @@ module _ (rlgr3 : Bool) (B : List Bool) (n i : ℕ) (out new : List ℤ) (p : �
 
   pub rush_full : n ≤ p.0 → Fills (read_list rlgr3 n B) new (Ok p.1.at)
   rush_full h = filling_end rlgr3 n B new p.1 p.0 h rush_on.0
+
+  -- stuck at a place that is left
+  pub rush_stuck : (j : ℕ) (t : State) → p ≡ (j, t) → j < n → Filling rlgr3 n B new t j × (i ≤ j) × (j < n)
+  rush_stuck j t g h =
+      let k : Filling rlgr3 n B new t j × (i ≤ j) = subst (λ (x : ℕ × State). Filling rlgr3 n B new x.1 x.0 × (i ≤ x.0)) g rush_on in
+      (k.0, k.1, h)

@@ -11,7 +11,7 @@ use Rattle.code.specs.Code.{kr_next, kr_after, kp_one, kp_two, raised, size, siz
 use Rattle.code.specs.ReadList.{state_at, one_elem, two_elem, judge_two, run_elem, run_first, judge_run, elem_of}
 use Rattle.code.specs.laws.There.{lone_not}
 use Rattle.wire.specs.declared.Refusal.TheVariants.{Cut, Range, Overrun}
-use Rattle.code.specs.declared.element.Element.TheVariants.{One, Two}
+use Rattle.code.specs.declared.element.Element.TheVariants.{Zeros, One, Two}
 
 pub kr_none : (krp v : ℕ) → v ≡ 0 → kr_next krp v ≡ krp - 2
 unfolding kr_next
@@ -79,6 +79,9 @@ kp_11 kp (suc a) (suc b) e f = refl
 
 -- ---- an element by what its parts read, in plain variables: one lemma for each return of the code
 
+pub one_cut : (kp krp : ℕ) (n : Option (ℕ × ℕ)) → n ≡ None → one_elem kp krp n ≡ Err Cut
+one_cut kp krp n e = rw e
+
 pub one_wide : (kp krp : ℕ) (n : Option (ℕ × ℕ)) (g next : ℕ) → n ≡ got g next → 65534 < g → one_elem kp krp n ≡ Err Range
 unfolding ◌⇒◌∣◌
 one_wide kp krp n g next e h = rw (e, lt-ltb 65534 g h)
@@ -88,6 +91,19 @@ pub one_ok :
     one_elem kp krp n ≡ Ok (One 0 g (state_at next q r))
 unfolding ◌⇒◌∣◌
 one_ok kp krp n g next q r e h p s = rw (e, le-ltb 65534 g h, p, s)
+
+pub two_cut : (kp krp left : ℕ) (B : List Bool) (n : Option (ℕ × ℕ)) → n ≡ None → two_elem kp krp left B n ≡ Err Cut
+two_cut kp krp left B n e = rw e
+
+pub two_cut_low :
+    (kp krp left : ℕ) (B : List Bool) (n : Option (ℕ × ℕ)) (g mid k : ℕ) → n ≡ got g mid → k ≡ size g → num_of k 0 mid (drop mid B) ≡ None →
+    two_elem kp krp left B n ≡ Err Cut
+two_cut_low kp krp left B n g mid k e ek f = rw (e, ← ek, f)
+
+pub two_got :
+    (kp krp left : ℕ) (B : List Bool) (n : Option (ℕ × ℕ)) (g mid k a next : ℕ) → n ≡ got g mid → k ≡ size g →
+    num_of k 0 mid (drop mid B) ≡ got a next → two_elem kp krp left B n ≡ judge_two kp krp left g a next
+two_got kp krp left B n g mid k a next e ek f = rw (e, ← ek, f)
 
 pub judge_above : (kp krp left g a next : ℕ) → g < a → judge_two kp krp left g a next ≡ Err Range
 unfolding ◌⇒◌∣◌
@@ -140,6 +156,14 @@ size_end (suc f) = refl
 -- ---- a run, part by part
 
 module _ (kp krp left : ℕ) (B : List Bool) where
+  pub run_cut : (n : Option (ℕ × ℕ)) → n ≡ None → run_elem kp krp left B n ≡ Err Cut
+  run_cut n e = rw e
+
+  pub run_full :
+      (n : Option (ℕ × ℕ)) (b next w q : ℕ) → n ≡ got b next → b ≡ 0 → w ≡ 2 ^ (kp / 8) → q ≡ raised 4 kp →
+      run_elem kp krp left B n ≡ Ok (Zeros w (state_at next q krp))
+  run_full n b next w q e z f g = rw (e, z, f, g)
+
   pub run_some : (n : Option (ℕ × ℕ)) (b next : ℕ) → n ≡ got b next → (b ≡ 0 → ⊥) → run_elem kp krp left B n ≡ run_first kp krp left B
       (num_of (kp / 8) 0 next (drop next B))
   run_some n zero next e z = absurd (z refl)

@@ -2,11 +2,11 @@
 -- Assumes nothing.
 use Prim.Native.Nat.{ℕ, zero, suc, ◌+◌, ◌-◌, ◌≤◌, ◌<◌, ◌^◌}
 use Rattle.std.specs.Prelude.{◌≡◌, refl, Bool, true, false, ◌&&◌, List, [], ◌∷◌, leb, ℤ, pos, negsuc, nat_abs, length, take}
-use Rattle.std.proofs.Common.{sym, ap, ap₂, subst, ◌∙◌, add-one, le-leb, leb-true, leb-false, length-take, length-drop, drop-cons, drop_of_length-le}
-use Rattle.std.proofs.Common.{get_or-take, get_or-drop, SFits, of_z, to_z, to_z-of_z}
+use Rattle.std.proofs.Common.{sym, ap, ap₂, subst, ◌∙◌, add-one, le-leb, leb-true, leb-false, ltb-true, ltb-false, length-take, length-drop, drop-cons}
+use Rattle.std.proofs.Common.{drop_of_length-le, get_or-take, get_or-drop, SFits, of_z, to_z, to_z-of_z}
 use native.Mathlib.Omega.{arith}
 use Rattle.std.proofs.lemmas.Bool.{lt-leb}
-use Rattle.std.specs.Int.Signed.{le_z, mag}
+use Rattle.std.specs.Int.Signed.{lt_z, le_z, mag}
 use Rattle.std.proofs.Math.ListN.{drop, get_or}
 use Rattle.std.specs.Int.{w32}
 use Rattle.whole.specs.Row.{◌!◌⨾◌}
@@ -20,9 +20,33 @@ unfoldable pub all_from : ℤ → ℤ → List ℤ → Bool
 all_from least most [] = true
 all_from least most (z ∷ zs) = is_from least most z && all_from least most zs
 
+-- ---- one number's test by two
+
+below : (x a : ℤ) → lt_z x a ≡ true → false ≡ le_z a x
+below (pos n) (pos m) e = sym (lt-leb m n (ltb-true n m e))
+below (pos n) (negsuc m) e = absurd (let y : ◌≡◌ {A = ℕ} 0 1 = cc in omega arith)
+below (negsuc n) (pos m) e = refl
+below (negsuc n) (negsuc m) e = sym (lt-leb n m (ltb-true m n e))
+
+not_below : (x a : ℤ) → lt_z x a ≡ false → true ≡ le_z a x
+not_below (pos n) (pos m) e = sym (le-leb m n (ltb-false n m e))
+not_below (pos n) (negsuc m) e = refl
+not_below (negsuc n) (pos m) e = absurd (let y : ◌≡◌ {A = ℕ} 0 1 = cc in omega arith)
+not_below (negsuc n) (negsuc m) e = sym (le-leb n m (ltb-false m n e))
+
 -- by the machine's numbers
 again : {z : ℤ} → SFits w32 z → to_z w32 (of_z w32 z) ≡ z
 again f = to_z-of_z f
+
+module _ (x least most : ℤ) (fx : SFits w32 x) (fl : SFits w32 least) (fm : SFits w32 most) where
+  pub from_low : lt_z (to_z w32 (of_z w32 x)) (to_z w32 (of_z w32 least)) ≡ true → false ≡ is_from least most x
+  from_low h = let e = rw (again fx, again fl) at h in ap (λ (b : Bool). b && le_z x most) (below x least e)
+
+  pub from_high : lt_z (to_z w32 (of_z w32 x)) (to_z w32 (of_z w32 least)) ≡ false → le_z (to_z w32 (of_z w32 x)) (to_z w32 (of_z w32 most)) ≡ is_from least
+      most x
+  from_high h =
+      let e = rw (again fx, again fl) at h in
+      rw (again fx, again fm) (ap (λ (b : Bool). b && le_z x most) (not_below x least e))
 
 -- of a number that was read from a list
 pub from_read : (x least most : ℤ) (r : Bool) → mag x < 2 ^ 31 → r ≡ is_from least most (to_z w32 (of_z w32 x)) → is_from least most x ≡ r
@@ -60,6 +84,21 @@ module _ (least most : ℤ) (zs : List ℤ) where
   pub span_past : (i : ℕ) (good : Bool) → length zs ≤ i → good ≡ (good && all_from least most (drop i zs))
   unfolding all_from
   span_past i good h = rw (drop_of_length-le zs h) (and_true good)
+
+  -- up to any place
+  pub span_next_to : (i to : ℕ) (good n : Bool) → i < to → to ≤ length zs → is_from least most (get_or zs i (pos 0)) ≡ n →
+      (good && all_from least most (take (to - i) (drop i zs))) ≡ ((good && n) && all_from least most (take (to - (i + 1)) (drop (i + 1) zs)))
+  unfolding all_from
+  span_next_to i to good n h l e =
+      let k : to - i ≡ suc (to - (i + 1)) = omega arith in
+      let d : drop i zs ≡ get_or zs i (pos 0) ∷ drop (i + 1) zs = rw (add-one i) (drop-cons zs i (pos 0) (omega arith)) in
+      rw (k, d) (ap (λ (b : Bool). good && (b && all_from least most (take (to - (i + 1)) (drop (i + 1) zs)))) e ∙ and_three good n _)
+
+  pub span_past_to : (i to : ℕ) (good : Bool) → to ≤ i → good ≡ (good && all_from least most (take (to - i) (drop i zs)))
+  unfolding all_from
+  span_past_to i to good h =
+      let k : to - i ≡ 0 = omega arith in
+      rw k (and_true good)
 
 all_at : (least most : ℤ) (zs : List ℤ) → all_from least most zs ≡ true → (i : ℕ) → i < length zs → is_from least most (get_or zs i (pos 0)) ≡ true
 unfolding all_from

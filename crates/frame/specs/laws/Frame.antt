@@ -1,5 +1,5 @@
 -- Laws of the frame call: what a passed check gives, how the message's first fault is put together, and the three ways out.
-use Rattle.std.specs.Prelude.{ℕ, zero, suc, ◌+◌, ◌*◌, ◌≤◌, ◌≡◌, refl, true, false, List, ℤ, length, eqb, leb, Ok, Err}
+use Rattle.std.specs.Prelude.{ℕ, zero, suc, ◌+◌, ◌*◌, ◌≤◌, ◌≡◌, refl, true, false, List, ℤ, pos, length, replicate, eqb, leb, Ok, Err}
 use Rattle.std.proofs.Math.Path.{sym, ap}
 use Rattle.std.proofs.Common.{subst, ◌∙◌, true≢false, arith}
 use borrow.Author.Tests.{eqb-true, leb-true, eq-eqb, ne_eqb}
@@ -123,6 +123,15 @@ answer_done : (n k : ℕ) (m : List ℕ) → n ≡ 0 → k ≡ tile_count m (set
 unfolding frame_reading
 answer_done n k m e h = case_yes _ _ _ _ (eq-eqb n 0 e) (ap Ok h)
 
+-- a record and lists without a fault: the number is the message's, and each list is cleared
+pub number_onward : (f : ℕ) (s : Session) (m : List ℕ) → f ≡ 0 → frame_number f s m ≡ frame_fault judged s.width s.height s.mode m
+unfolding frame_number
+number_onward f s m k = sym (goes_on _ _ _ k refl)
+
+pub list_onward : (f : ℕ) (xs : List ℤ) → f ≡ 0 → frame_list f xs ≡ replicate 4096 (pos 0)
+unfolding frame_list
+list_onward f xs k = sym (passes _ _ _ _ (eq-eqb f 0 k) refl)
+
 -- what is judged before the picture is touched
 module _ (word : ℕ) (s : Session) (p : ℕ) (m : List ℕ) (y cb cr tmp : List ℤ) (f : ℕ)
     (e : f ≡ call_fault word s p (length y) (length cb) (length cr) (length tmp)) where
@@ -142,23 +151,21 @@ module _ (word : ℕ) (s : Session) (p : ℕ) (m : List ℕ) (y cb cr tmp : List
   module _ (k : f ≡ 0) (y' cb' cr' tmp' : List ℤ) (g : ℕ) (q : g ≡ frame_fault judged s.width s.height s.mode m) where
     -- a fault of the message: the lists are cleared
     pub judged_refused : Cleared y' cb' cr' tmp' → FrameJudged word s p m y cb cr tmp y' cb' cr' tmp' g
-    unfolding frame_number frame_list
     judged_refused c =
-        let z = eq-eqb _ 0 (sym e ∙ k) in
+        let z = sym e ∙ k in
         record {
-          number = goes_on _ _ _ (sym e ∙ k) q;
-          y_left = λ n. passes _ _ _ _ z c.y_is;
-          cb_left = λ n. passes _ _ _ _ z c.cb_is;
-          cr_left = λ n. passes _ _ _ _ z c.cr_is;
-          tmp_left = λ n. passes _ _ _ _ z c.tmp_is;
+          number = q ∙ sym (number_onward _ s m z);
+          y_left = λ n. c.y_is ∙ sym (list_onward _ y z);
+          cb_left = λ n. c.cb_is ∙ sym (list_onward _ cb z);
+          cr_left = λ n. c.cr_is ∙ sym (list_onward _ cr z);
+          tmp_left = λ n. c.tmp_is ∙ sym (list_onward _ tmp z);
         }
 
     -- none
     pub judged_fine : g ≡ 0 → FrameJudged word s p m y cb cr tmp y' cb' cr' tmp' 0
-    unfolding frame_number
     judged_fine z =
         record {
-          number = goes_on _ _ _ (sym e ∙ k) (sym z ∙ q);
+          number = sym z ∙ (q ∙ sym (number_onward _ s m (sym e ∙ k)));
           y_left = λ n. absurd (n refl);
           cb_left = λ n. absurd (n refl);
           cr_left = λ n. absurd (n refl);

@@ -1,7 +1,7 @@
 -- For the auditor: document 02, request Eight. "The frame is checked, then decoded again to draw, and the second decode still carries a way out with
 -- a refusal. Our auditor asks what the glass shows if it is taken. Show that after a passed check it can't be taken, and remove it."
 -- Said of the frame call's promise alone (no code in it): where the call answers 0, no component of a listed tile is refused. The drawing pass is
--- entered only then (`frame_draw::paint::show` and `paint_32::show` ask for a frame without a fault); each component that it decodes is one of these
+-- entered only then (`frame_draw::paint::show` asks for a frame without a fault); each component that it decodes is one of these
 -- (`tile_back::samples` asks that its number is 0), and decoding for drawing has no answer to give.
 -- (01 is this project's scope document, 02 its change requests, 001 is MS-RDPRFX: README, "What 01 is".)
 use Rattle.std.specs.Prelude.{ℕ, zero, suc, ◌+◌, ◌≤◌, ◌<◌, ◌≡◌, ℤ, length, Result}

@@ -10,7 +10,7 @@ use Rattle.wire.specs.Refusal.{number_of, count_of}
 use Rattle.wire.specs.declared.Refusal.{Refusal}
 use Rattle.wire.specs.laws.Wrote.{answer_of, answer_wrote}
 use Rattle.quants.specs.declared.Quants.{Quants}
-use Rattle.settings.specs.Settings.{settings, read_settings}
+use Rattle.settings.specs.Settings.{settings, store_number, given, read_settings}
 use Rattle.settings.specs.laws.Read.{told, reading_told}
 use Rattle.frame_write.specs.Sets.{frame_over, arg_fault_over, send_fault_over, FrameWrittenOver}
 use Rattle.frame_write.specs.laws.Numbers.{send_numbers, arg_among, send_among}
@@ -21,8 +21,10 @@ use Rattle.panel.specs.Cabinet.{ReadSettingsCall, WriteOverCall}
 
 pub settings_told :
     (newest : ℕ) (m luma chroma : List ℕ) (mode number : ℕ) → ReadSettingsCall newest m luma chroma mode number →
-    told number (settings luma chroma mode) ≡ read_settings newest m
-settings_told newest m luma chroma mode number p = rw (p.said, p.luma_is, p.chroma_is, p.mode_is) (reading_told (read_settings newest m))
+    (number ≡ store_number (read_settings newest m)) × (settings luma chroma mode ≡ given (read_settings newest m)) ×
+    (told number (settings luma chroma mode) ≡ read_settings newest m)
+settings_told newest m luma chroma mode number p =
+    (p.said, rw (p.luma_is, p.chroma_is, p.mode_is) refl, rw (p.said, p.luma_is, p.chroma_is, p.mode_is) (reading_told (read_settings newest m)))
 
 pub record SameSettings (luma luma' chroma chroma' : List ℕ) (mode mode' number number' : ℕ) : Type 0 where
   pub luma_same : luma ≡ luma'

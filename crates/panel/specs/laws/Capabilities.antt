@@ -3,7 +3,7 @@
 -- (01 is this project's scope document, 02 its change requests, 001 is MS-RDPRFX: README, "What 01 is".)
 use Rattle.std.specs.Prelude.{ℕ, zero, suc, ◌≤◌, ◌≡◌, refl, List, [], ◌∷◌, length, Result, Ok, Err}
 use Rattle.std.proofs.Common.{ap, ap₂, ◌∙◌, sym}
-use Rattle.wire.specs.Refusal.{number_of, refusal_of}
+use Rattle.wire.specs.Refusal.{number_of, count_of, refusal_of}
 use Rattle.wire.specs.declared.Refusal.{Refusal}
 use Rattle.wire.specs.laws.Refusal.{number_pos, refusal_back}
 use Rattle.wire.specs.Wrote.{Wrote}
@@ -41,14 +41,14 @@ caps_is (Err refusal) = refused_back refusal _
 
 pub caps_told :
     (m : List ℕ) (flags n : ℕ) (entries : List ℕ) (number : ℕ) → Bytes m → ReadCapsCall m flags n entries number →
-    reading_of number (caps_from flags n entries) ≡ read_caps m
+    (number ≡ number_of (read_caps m)) × (reading_of number (caps_from flags n entries) ≡ read_caps m)
 caps_told m flags n entries number b p =
     let a = read_caps m in
     let c = caps_fields a in
     let f : caps_from flags n entries ≡ c =
     ap (λ (x : ℕ). caps_from x n entries) p.flags_are ∙ (ap (λ (x : ℕ). caps_from c.flags x entries) p.n_is ∙
     ap (caps_from c.flags c.n) p.entries_are) in
-    ap₂ reading_of p.said f ∙ caps_is a
+    (p.said, ap₂ reading_of p.said f ∙ caps_is a)
 
 pub record SameCaps (flags flags' n n' : ℕ) (entries entries' : List ℕ) (number number' : ℕ) : Type 0 where
   pub flags_same : flags ≡ flags'
@@ -72,9 +72,11 @@ ack_cap_is : (a : Result ℕ Refusal) → reading_of (number_of a) (ack_cap_coun
 ack_cap_is (Ok c) = refl
 ack_cap_is (Err refusal) = refused_back refusal _
 
-pub ack_cap_told : (m : List ℕ) (count number : ℕ) → Bytes m → ReadAckCapCall m count number → reading_of number count ≡ read_ack_cap m
+pub ack_cap_told :
+    (m : List ℕ) (count number : ℕ) → Bytes m → ReadAckCapCall m count number →
+    (number ≡ number_of (read_ack_cap m)) × (reading_of number count ≡ read_ack_cap m)
 ack_cap_told m count number b p =
-    ap₂ reading_of p.said p.count_is ∙ ack_cap_is (read_ack_cap m)
+    (p.said, ap₂ reading_of p.said p.count_is ∙ ack_cap_is (read_ack_cap m))
 
 pub ack_cap_once :
     (m : List ℕ) (count count' number number' : ℕ) → ReadAckCapCall m count number → ReadAckCapCall m count' number' → (count ≡ count') × (number ≡ number')
@@ -89,9 +91,9 @@ ack_is (Err refusal) = refused_back refusal _
 -- the nine numbers are those of the fields of that answer
 pub ack_told :
     (m fields : List ℕ) (number : ℕ) → Bytes m → ReadAckCall m fields number →
-    (fields ≡ numbers_of (ack_fields (read_ack m))) × (reading_of number (ack_fields (read_ack m)) ≡ read_ack m)
+    (fields ≡ numbers_of (ack_fields (read_ack m))) × (number ≡ number_of (read_ack m)) × (reading_of number (ack_fields (read_ack m)) ≡ read_ack m)
 ack_told m fields number b p =
-    (p.fields_are, ap (λ (n : ℕ). reading_of n (ack_fields (read_ack m))) p.said ∙ ack_is (read_ack m))
+    (p.fields_are, p.said, ap (λ (n : ℕ). reading_of n (ack_fields (read_ack m))) p.said ∙ ack_is (read_ack m))
 
 pub ack_once :
     (m fields fields' : List ℕ) (number number' : ℕ) → ReadAckCall m fields number → ReadAckCall m fields' number' → (fields ≡ fields') × (number ≡ number')
@@ -100,10 +102,16 @@ ack_once m fields fields' number number' p q = (p.fields_are ∙ sym q.fields_ar
 -- ---- the writers
 
 module _ (fault : ℕ) (bytes out : List ℕ) where
-  -- the answer of a writer that leaves this output
+  -- the answer of a writer that leaves this output, and says this size and this number
   pub writer_told :
+      (out' : List ℕ) (size n : ℕ) (r : Result ℕ Refusal) → WriterCall fault bytes out out' size n → count_of r ≡ size → number_of r ≡ n →
+      Wrote fault bytes out out' r
+  writer_told out' size n r p e g = record { number = g ∙ p.number; said = e ∙ p.long; left = p.left }
+
+  -- there is one
+  pub writer_answer :
       (out' : List ℕ) (size n : ℕ) → fault ≤ 13 → WriterCall fault bytes out out' size n → Wrote fault bytes out out' (answer_of fault bytes)
-  writer_told out' size n u p = answer_wrote fault bytes out out' u p.left
+  writer_answer out' size n u p = answer_wrote fault bytes out out' u p.left
 
   pub record SameWriting (a b : List ℕ) (size size' n n' : ℕ) : Type 0 where
     pub out_same : a ≡ b
@@ -126,7 +134,7 @@ caps_few c room = among_most 13 {ks = 0 ∷ 5 ∷ 6 ∷ 13 ∷ []} (search numbe
 pub caps_wrote :
     (c : Caps) (out out' : List ℕ) (size n : ℕ) → WriterCall (caps_fault c (length out)) (caps_of c) out out' size n →
     Wrote (caps_fault c (length out)) (caps_of c) out out' (answer_of (caps_fault c (length out)) (caps_of c))
-caps_wrote c out out' size n p = writer_told _ _ out out' size n (caps_few c (length out)) p
+caps_wrote c out out' size n p = writer_answer _ _ out out' size n (caps_few c (length out)) p
 
 ack_cap_few : (room : ℕ) → ack_cap_fault room ≤ 13
 unfolding ack_cap_fault among each
@@ -135,7 +143,7 @@ ack_cap_few room = among_most 13 {ks = 0 ∷ 13 ∷ []} (search numbers) refl
 pub ack_cap_wrote :
     (count : ℕ) (out out' : List ℕ) (size n : ℕ) → WriterCall (ack_cap_fault (length out)) (ack_cap_of count) out out' size n →
     Wrote (ack_cap_fault (length out)) (ack_cap_of count) out out' (answer_of (ack_cap_fault (length out)) (ack_cap_of count))
-ack_cap_wrote count out out' size n p = writer_told _ _ out out' size n (ack_cap_few (length out)) p
+ack_cap_wrote count out out' size n p = writer_answer _ _ out out' size n (ack_cap_few (length out)) p
 
 ack_few : (version room : ℕ) → ack_fault version room ≤ 13
 unfolding ack_fault among each
@@ -144,4 +152,4 @@ ack_few version room = among_most 13 {ks = 0 ∷ 5 ∷ 13 ∷ []} (search number
 pub ack_wrote :
     (a : Ack) (out out' : List ℕ) (size n : ℕ) → WriterCall (ack_fault a.version (length out)) (ack_of a) out out' size n →
     Wrote (ack_fault a.version (length out)) (ack_of a) out out' (answer_of (ack_fault a.version (length out)) (ack_of a))
-ack_wrote a out out' size n p = writer_told _ _ out out' size n (ack_few a.version (length out)) p
+ack_wrote a out out' size n p = writer_answer _ _ out out' size n (ack_few a.version (length out)) p

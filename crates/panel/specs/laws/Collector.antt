@@ -42,23 +42,28 @@ told_by (Refused refusal) fault e = refused_at _ 0 0 (number_pos refusal) ∙ ap
 
 pub told :
     (c c' : Collector) (bytes store store' : List ℕ) (call size taken n : ℕ) → Bytes bytes → CollectCall c c' bytes store store' call size taken n →
-    answer_of n call size ≡ (hand_over c bytes store).step.answer
+    (n ≡ collected_number (hand_over c bytes store).step.answer) × (answer_of n call size ≡ (hand_over c bytes store).step.answer)
 told c c' bytes store store' call size taken n h p =
-    let a = (hand_over c bytes store).step.answer in
-    ap (λ (k : ℕ). answer_of k call size) p.number ∙
-    (ap (λ (k : ℕ). answer_of (collected_number a) k size) p.goes ∙
-    (ap (answer_of (collected_number a) (collected_call a)) p.long ∙ told_by a _ (call_front (state c store) bytes h).says))
+    let a = (hand_over c bytes store).step.answer in (
+      p.number,
+      ap (λ (k : ℕ). answer_of k call size) p.number ∙
+          (ap (λ (k : ℕ). answer_of (collected_number a) k size) p.goes ∙
+          (ap (answer_of (collected_number a) (collected_call a)) p.long ∙ told_by a _ (call_front (state c store) bytes h).says)),
+    )
 
 -- the collector's own answer, of bytes: by what C is told and what is left in memory
 pub as_collect :
     (c c' : Collector) (bytes store store' : List ℕ) (call size taken n : ℕ) → Bytes bytes → CollectCall c c' bytes store store' call size taken n →
-    said (record { collector = c'; taken = taken; answer = answer_of n call size }) store' ≡ hand_over c bytes store
+    (n ≡ collected_number (hand_over c bytes store).step.answer) ×
+    (said (record { collector = c'; taken = taken; answer = answer_of n call size }) store' ≡ hand_over c bytes store)
 as_collect c c' bytes store store' call size taken n h p =
-    let x = hand_over c bytes store in
-    ap (λ (a : Collected). took taken (step c' store' a)) (told c c' bytes store store' call size taken n h p) ∙
-    (ap (λ (d : Collector). took taken (step d store' x.step.answer)) p.collector ∙
-    (ap (λ (l : List ℕ). took taken (step x.step.state.collector l x.step.answer)) p.left ∙
-    ap (λ (k : ℕ). took k x.step) p.took))
+    let x = hand_over c bytes store in (
+      p.number,
+      ap (λ (a : Collected). took taken (step c' store' a)) (told c c' bytes store store' call size taken n h p).1 ∙
+          (ap (λ (d : Collector). took taken (step d store' x.step.answer)) p.collector ∙
+          (ap (λ (l : List ℕ). took taken (step x.step.state.collector l x.step.answer)) p.left ∙
+          ap (λ (k : ℕ). took k x.step) p.took)),
+    )
 
 -- one answer
 pub record Same (c₁ c₂ : Collector) (store₁ store₂ : List ℕ) (call₁ call₂ size₁ size₂ taken₁ taken₂ n₁ n₂ : ℕ) : Type 0 where

@@ -1,15 +1,17 @@
 -- Laws of the short frame's writer: what good arguments and a good list give, and one law for each way out. Its promise leaves one answer and one content of
 -- lent memory.
 -- Assumes nothing.
-use Rattle.std.specs.Prelude.{ℕ, ◌≤◌, ◌≡◌, List, ℤ, pos, length, replicate, Result, Err}
+use Rattle.std.specs.Prelude.{ℕ, ◌≤◌, ◌<◌, ◌≡◌, List, ℤ, pos, length, replicate, Result, Err}
 use Rattle.std.proofs.Common.{sym, ◌∙◌, arith, eqb-true}
 use Rattle.whole.specs.Row.{◌⨟◌}
 use Rattle.whole.specs.laws.Row.{held, both, stops}
+use Rattle.wire.specs.Le.{bytes16}
 use Rattle.wire.specs.Refusal.{refusal_number}
 use Rattle.wire.specs.laws.Refusal.{number_pos}
 use Rattle.wire.specs.declared.Refusal.{Refusal}
 use Rattle.session.specs.Header.{size_good}
 use Rattle.quants.specs.declared.Quants.{Quants}
+use Rattle.frame_layout.specs.Bytes.{begin_of, front_of, frame_of}
 use Rattle.frame_pieces.specs.Parts.{pixels_good}
 use Rattle.frame_write.specs.Sets.{arg_fault_over}
 use Rattle.frame_write.specs.Picked.{frame_picked, send_fault_picked}
@@ -97,6 +99,11 @@ module _ (w h mode : ℕ) (q : Quants) (index : ℕ) (old new ks : List ℕ) (li
   }
 
 -- ---- the promise leaves one answer, one output and one content of each work list
+
+-- a done answer says a length that no refusal says
+some_frame : (index w h mode : ℕ) (q : Quants) (p ks : List ℕ) → 0 < length (frame_picked index w h mode q p ks)
+unfolding frame_picked frame_of front_of begin_of bytes16
+some_frame index w h mode q p ks = omega arith
 
 pub short_once :
     (w h mode : ℕ) (q : Quants) (index : ℕ) (old new ks : List ℕ) (list a a' scratch b b' : List ℤ) (out c c' : List ℕ) (r r' : Result ℕ PlanRefusal)

@@ -1,10 +1,10 @@
--- Each turn puts 32 ones (`ones_more`), and behind the last the rest is put (`ones_end`).
+-- Each turn puts 32 ones (`ones_more_turn`), and behind the last the rest is put (`ones_end_turn`).
 use Prim.Native.Nat.{◌*◌, ◌%◌}
 use mathlib.Core.Bool.{true}
 use native.Mathlib.Omega.{arith}
 use lib.ListN.{replicate, length-replicate}
 use Rattle.bits.specs.laws.Pen.{put_none, put_more, ready_after}
-use Rattle.bits.specs.laws.Wide.{ones_more, ones_fit, ones_end}
+use Rattle.bits.specs.laws.Wide.{ones_more_turn, ones_fit, ones_end_turn}
 use Rattle.bits.proofs.wide.put_ones.Goals as goal
 
 pub loop-i-init : goal.loop-i-init
@@ -24,7 +24,7 @@ pub loop-i-preserved : goal.loop-i-preserved
 loop-i-preserved c =
     let l = c.loop-i in
     let p = c.put-q in
-    rw (← ones_more l.i) (put_more c.args.out.now l.out p.new.out c.args.p l.q p.result _ _ l.invariant p.ensures)
+    rw (← ones_more_turn l.i) (put_more c.args.out.now l.out p.new.out c.args.p l.q p.result _ _ l.invariant p.ensures)
 
 pub put-requires : goal.put-requires
 put-requires c =
@@ -41,4 +41,4 @@ returns c =
     let l = c.loop-i in
     let a = c.args in
     let p = c.put in
-    rw (← ones_end a.v l.i (omega arith)) (put_more a.out.now l.out p.new.out a.p l.q p.result _ _ l.invariant p.ensures)
+    rw (← ones_end_turn a.v l.i (omega arith)) (put_more a.out.now l.out p.new.out a.p l.q p.result _ _ l.invariant p.ensures)

@@ -1,4 +1,4 @@
--- Invariant: as many ones are put as turns are made, 32 a turn (`ones_more`). Assumes nothing.
+-- Invariant: as many ones are put as turns are made, 32 a turn (`ones_more_turn`). Assumes nothing.
 use Prim.Native.Nat.{◌*◌}
 use mathlib.Core.Bool.{true}
 use lib.ListN.{replicate}

